@@ -1,0 +1,4 @@
+pub mod CutLemmas
+pub mod PageLemmas
+pub mod GrowthLemmas
+pub mod RefusalLemmas

@@ -1,0 +1,11 @@
+-- How a book lies in memory.
+use Rattle.std.specs.Prelude.{List, map}
+use Rattle.book_base.specs.declared.book.Rows.{Rows}
+use Rattle.book_base.specs.Book.{Page}
+
+-- the page that a caller's rows hold
+abbrev pub page : Rows → Page
+page r = record { operations = r.operations.items; records = r.records.items }
+
+abbrev pub pages : List Rows → List Page
+pages rows = map page rows

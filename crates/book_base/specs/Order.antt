@@ -1,0 +1,41 @@
+-- Legal orders of a book.
+use Rattle.std.specs.Prelude.{◌≡◌, ℕ, ◌<◌, List, map, Some, unwrap_or, slice_get}
+use Rattle.book_base.specs.declared.call.Call.{Call}
+use Rattle.book_base.specs.declared.call.Record.{Record}
+use Rattle.book_base.specs.declared.call.Place.{Place}
+use Rattle.book_base.specs.Book.{Page, IsCall, operation_of, record_of, Precedes}
+use Rattle.book_base.specs.Sequential.{IsLegalRun}
+
+-- the call that stands at a place
+abbrev pub call_at : Place → Call
+call_at place = record { caller = place.caller; number = place.number }
+
+-- the call stands in the order, at this index
+abbrev pub StandsAt : List Place → ℕ → Call → Type 0
+StandsAt order k call = (place : Place) × (slice_get order k ≡ Some place) × (call_at place ≡ call)
+
+-- the operation word and the reply of a place
+abbrev pub step_at : List Page → Place → ℕ × ℕ
+step_at book place = (unwrap_or (operation_of book (call_at place)) 0, place.reply)
+
+-- A legal order of a book, for the sequential object that begins with init and goes on by next (Herlihy and Wing 1990, on views).
+-- An unanswered call may stand in it with the reply that the object gives, or be left out.
+pub record IsLegalOrder (init : List ℕ) (next : List ℕ → ℕ → List ℕ × ℕ) (book : List Page) (order : List Place) : Type 0 where
+  -- each call in it is a call of the book
+  pub calls : (k : ℕ) (call : Call) → StandsAt order k call → IsCall book call
+  -- no call stands twice
+  pub once : (j k : ℕ) (call : Call) → StandsAt order j call → StandsAt order k call → j ≡ k
+  -- where a call stands, all earlier calls of its caller stand before it
+  pub earlier : (k : ℕ) (call : Call) → StandsAt order k call → (number : ℕ) → number < call.number
+      → (j : ℕ) × (j < k) × StandsAt order j (record { caller = call.caller; number = number })
+  -- each answered call stands in it with its recorded reply
+  pub answered : (call : Call) (r : Record) → record_of book call ≡ Some r
+      → (k : ℕ) × (slice_get order k ≡ Some (record { caller = call.caller; number = call.number; reply = r.reply }))
+  -- the replies are those that the object gives when the operations are applied in this order
+  pub run : IsLegalRun init next (map (step_at book) order)
+  -- where a call precedes another and both stand in it, it stands before the other
+  pub precedence : (j k : ℕ) (a b : Call) → StandsAt order j a → StandsAt order k b → Precedes book a b → j < k
+
+-- the book has a legal order
+abbrev pub HasLegalOrder : List ℕ → (List ℕ → ℕ → List ℕ × ℕ) → List Page → Type 0
+HasLegalOrder init next book = (order : List Place) × IsLegalOrder init next book order
