@@ -3,12 +3,12 @@ use Rattle.std.proofs.Common.{◌≡◌, ◌≢◌, ℕ, ◌+◌, ◌<◌, ◌�
 use Rattle.std.proofs.lemmas.Bool.{cases_lt, cases_eq}
 use Rattle.std.proofs.lemmas.List.{get_or_past, get_or-map, length-map, length-set, length-append, get_or-set_same, get_or-set_other}
 use Rattle.std.proofs.Math.Seq.{map-set_same}
-use Rattle.list_laws.proofs.Places.{slice_get-push_old, slice_get-push_cases}
+use Rattle.list_laws.proofs.Places.{slice_get-push_old, slice_get-push_last, slice_get-push_cases}
 use Rattle.book_base.specs.declared.call.Call.{Call}
 use Rattle.book_base.specs.declared.call.Record.{Record}
 use Rattle.book_base.specs.declared.TheConstants.{MAX_CALLS}
 use Rattle.book_base.specs.Cut.{IsWithin, AreComparable}
-use Rattle.book_base.specs.Book.{Page, page_of, calls_of, answers_of, announced, record_of, IsValid, IsSmall, with_call, with_answer}
+use Rattle.book_base.specs.Book.{first_unanswered, Page, page_of, calls_of, answers_of, announced, record_of, IsValid, IsSmall, with_call, with_answer}
 use Rattle.book_base.specs.Refusal.{MayAnswer}
 use Rattle.book_base.proofs.PageLemmas.{empty, page_past}
 
@@ -171,4 +171,22 @@ IsSmall-with_answer book i r h small =
       some = omega (arith, length-set book i p, small.some);
       callers = omega (arith, length-set book i p, small.callers);
       calls = λ j. omega (arith, calls_of-with_answer book i r j h, small.calls j);
+    }
+
+-- the new answer is recorded
+pub record_of-with_answer_new : (book : List Page) (i : ℕ) (r : Record) → i < length book → record_of (with_answer book i r) (first_unanswered book i) ≡ Some r
+record_of-with_answer_new book i r h =
+    let p : Page = record (page_of book i) { records = (page_of book i).records ++ r ∷ [] } in
+    ap (λ (q : Page). slice_get q.records (answers_of book i)) (page_of-set_same book i p h) ∙ slice_get-push_last (page_of book i).records r
+
+-- an answer that leaves a valid book is one that may be given
+pub MayAnswer-from_valid : (book : List Page) (i : ℕ) (r : Record) → i < length book → IsValid (with_answer book i r) → MayAnswer book i r.view
+MayAnswer-from_valid book i r h valid =
+    let p : Page = record (page_of book i) { records = (page_of book i).records ++ r ∷ [] } in
+    let new = record_of-with_answer_new book i r h in
+    record {
+      unanswered = omega (arith, valid.answers i, calls_of-with_answer book i r i h, ap (λ (q : Page). length q.records) (page_of-set_same book i p h), length-append (page_of book i).records (r ∷ []));
+      within = subst (IsWithin r.view) (announced-with_answer book i r) (valid.within (first_unanswered book i) r new);
+      own = valid.own (first_unanswered book i) r new;
+      comparable = λ call s e. valid.comparable (first_unanswered book i) call r s new (record_of-with_answer_old book i r call s h e);
     }

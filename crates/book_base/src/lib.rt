@@ -5,6 +5,7 @@ mod book;
 mod call;
 mod cut;
 mod fault;
+pub mod laws;
 mod seq_object;
 mod state;
 
@@ -29,3 +30,6 @@ pub const BAD: u64 = 17179869184;
 
 /// An operation word: what a call asks of the object.
 pub type OpWord = u64;
+
+#[cfg(test)]
+mod tests;
