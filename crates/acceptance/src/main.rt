@@ -1,0 +1,96 @@
+//! Runs the top call on a table of cases, over sources and sinks in memory.
+//!
+//! The table is read from standard input. A case begins with a line `case NAME`, and its lines say, in any order:
+//!
+//! | Line | Meaning |
+//! |---|---|
+//! | `words WORD ..` | the command words; without it there are none |
+//! | `in LINE` | a line of the input, with its line feed; `in` alone is an empty line |
+//! | `in-cut TEXT` | a piece of the input without a line feed |
+//! | `in-byte N` | one byte of the input, as a number |
+//! | `in-fill COUNT` | so many bytes `x` of the input |
+//! | `source-fails K ..` | the reads that fail, counted from 1 |
+//! | `source-most N` | the most bytes that a read gives |
+//! | `source-steady` | the input comes from the source that never fails |
+//! | `sink-fails K ..` | the writes that fail, counted from 1 |
+//! | `sink-most N` | the most bytes that a write takes |
+//! | `sink-room N` | the room of the sink |
+//! | `out LINE` | a line of the wanted output, with its line feed |
+//! | `out-cut TEXT` | a piece of the wanted output without a line feed |
+//! | `status N` | the wanted status |
+//!
+//! Empty lines and lines that begin with `#` are passed over. A line is printed for each case that fails, with what
+//! was answered in place of what was wanted, and `N passed, M failed` last.
+#![tactic(auto)]
+
+mod case;
+mod table;
+
+use anyhow::Result;
+use case::Case;
+use std::io::{BufRead, BufReader};
+use std::process::ExitCode;
+use std::thread::Threads;
+
+#[derive(Drop)]
+struct Tally {
+    passed: u64,
+    failed: u64,
+}
+
+impl Tally {
+    fn count(&mut self, passed: bool) {
+        if passed {
+            self.passed = self.passed.saturating_add(1);
+        } else {
+            self.failed = self.failed.saturating_add(1);
+        }
+    }
+}
+
+fn try_case<R: Print + AllocGlobal + Threads + Sync>(
+    rt: &R,
+    case: Case,
+    tally: &mut Tally,
+) -> Result<()> {
+    let outcome = case.run(rt)?;
+    if !outcome.passed {
+        println!(rt; "{}", outcome.report)?;
+    }
+    tally.count(outcome.passed);
+    Ok(())
+}
+
+fn run<R: Print + Input + AllocGlobal + Threads + Sync>(rt: &R) -> Result<Tally> {
+    let mut tally = Tally {
+        passed: 0,
+        failed: 0,
+    };
+    let mut current: Option<Case> = None;
+    let table = BufReader::new(rt.alloc(), rt.reader())?;
+    for line in table.lines(rt.alloc()) {
+        let line = line?;
+        if let Some(name) = line.strip_prefix("case ") {
+            let next = Case::new(rt.alloc(), name)?;
+            if let Some(case) = current.replace(next) {
+                try_case(rt, case, &mut tally)?;
+            }
+        } else if let Some(case) = &mut current {
+            table::take_line(rt.alloc(), case, line.as_str())?;
+        }
+    }
+    if let Some(case) = current {
+        try_case(rt, case, &mut tally)?;
+    }
+    Ok(tally)
+}
+
+fn main(rt: HostRuntime) -> Result<ExitCode> {
+    let tally = run(&rt)?;
+    println!(rt; "{} passed, {} failed", tally.passed, tally.failed)?;
+    if tally.failed == 0 {
+        Ok(ExitCode::SUCCESS)
+    } else {
+        Ok(ExitCode::FAILURE)
+    }
+}

@@ -1,0 +1,69 @@
+use crate::case::Case;
+use anyhow::{Context, Result, anyhow};
+use std::alloc::Global;
+
+/// Takes a line of the table that says something of a case.
+pub fn take_line(alloc: Global, case: &mut Case, line: &str) -> Result<()> {
+    if line.is_empty() || line.starts_with('#') {
+        return Ok(());
+    }
+    let (key, value) = line.split_once(' ').unwrap_or((line, ""));
+    match key {
+        "words" => take_words(alloc, &mut case.words, value),
+        "in" => take_bytes(&mut case.input, value, "\n"),
+        "in-cut" => take_bytes(&mut case.input, value, ""),
+        "in-byte" => {
+            case.input.push(value.parse::<u8>().context("a byte")?)?;
+            Ok(())
+        }
+        "in-fill" => take_fill(&mut case.input, value),
+        "source-fails" => take_numbers(&mut case.source_fails, value),
+        "source-most" => set_size(&mut case.source_most, value),
+        "source-steady" => {
+            case.is_steady = true;
+            Ok(())
+        }
+        "sink-fails" => take_numbers(&mut case.sink_fails, value),
+        "sink-most" => set_size(&mut case.sink_most, value),
+        "sink-room" => set_size(&mut case.sink_room, value),
+        "out" => take_bytes(&mut case.wanted, value, "\n"),
+        "out-cut" => take_bytes(&mut case.wanted, value, ""),
+        "status" => {
+            case.status = value.parse::<u8>().context("a status")?;
+            Ok(())
+        }
+        _ => Err(anyhow!("no line of a case: {line}")),
+    }
+}
+
+fn take_words(alloc: Global, words: &mut Vec<String>, value: &str) -> Result<()> {
+    for word in value.split(' ') {
+        words.push(String::from_str(alloc, word)?)?;
+    }
+    Ok(())
+}
+
+fn take_bytes(bytes: &mut Vec<u8>, value: &str, end: &str) -> Result<()> {
+    bytes.extend_from_slice(value.as_bytes())?;
+    bytes.extend_from_slice(end.as_bytes())?;
+    Ok(())
+}
+
+fn take_fill(bytes: &mut Vec<u8>, value: &str) -> Result<()> {
+    for _ in 0..value.parse::<u64>().context("a count")? {
+        bytes.push(b'x')?;
+    }
+    Ok(())
+}
+
+fn take_numbers(numbers: &mut Vec<u64>, value: &str) -> Result<()> {
+    for number in value.split(' ') {
+        numbers.push(number.parse::<u64>().context("a number")?)?;
+    }
+    Ok(())
+}
+
+fn set_size(size: &mut usize, value: &str) -> Result<()> {
+    *size = value.parse::<usize>().context("a number")?;
+    Ok(())
+}

@@ -1,0 +1,14 @@
+pub mod Cuts
+pub mod NumberTexts
+pub mod CountsLoop
+pub mod PagesLoop
+pub mod BookParts
+pub mod MadeUpTo
+pub mod Wide
+pub mod Whole
+pub mod QueueWords
+pub mod Binding
+pub mod WordTexts
+pub mod LineTexts
+pub mod BookReads
+pub mod BookAgain

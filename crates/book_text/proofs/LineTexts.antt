@@ -1,0 +1,94 @@
+-- The text of a line is read as its words.
+use Rattle.std.proofs.Common.{◌≡◌, ℕ, zero, suc, ◌+◌, ◌^◌, ◌<◌, ◌≤◌, Bool, true, false, cond, eqb, ltb, List, [], ◌∷◌, ◌++◌, length, take, drop, map, Option, Some, None, Result, Ok, Err, refl, sym, ap, subst, ◌∙◌, append_assoc, arith, inl, inr}
+use Rattle.std.specs.Prelude.{not, ◌&&◌, option_map}
+use Rattle.std.specs.List.{AllByRecursion, All, list_all, prefix_len, slice_split, join_with_byte, flat_map}
+use Rattle.std.proofs.lemmas.Bool.{ltb-true, lt-ltb, ne_eqb, eq-eqb, and_parts, and_from, cond-true, cond-false, not-true}
+use Rattle.std.proofs.lemmas.List.{take_at, drop_at, length-append}
+use Rattle.std.proofs.lemmas.List.Elements.{All-from_recursion}
+use Rattle.std.proofs.lemmas.List.Splits.{slice_split_none, slice_split_at, join_with_byte-slice_split}
+use Rattle.std.proofs.lemmas.List.Concat.{flat_map-cons}
+use Rattle.book_base.specs.declared.fault.TextFault.{TextFault}
+use Rattle.book_text.specs.Lines.{Unread, cut_at, line_from, line_at, words_of}
+use Rattle.book_text.specs.Grammar.{line_text, text_of}
+use Rattle.book_text.proofs.Binding.{pair_is}
+use Rattle.book_text.proofs.Cuts.{cut_joins}
+
+-- no byte of the list is this one
+abbrev pub lacks : ℕ → List ℕ → Bool
+lacks byte bytes = list_all (λ b. not (eqb b byte)) bytes
+
+-- a word without a space and without a line feed: each byte is above the space
+abbrev pub is_solid : List ℕ → Bool
+is_solid word = list_all (λ b. ltb 32 b) word
+
+-- words that can stand in a line
+abbrev pub AreSolid : List (List ℕ) → Type 0
+AreSolid words = AllByRecursion (λ (word : List ℕ). is_solid word ≡ true) words
+
+lacks-solid : (byte : ℕ) (word : List ℕ) → byte ≤ 32 → is_solid word ≡ true → lacks byte word ≡ true
+lacks-solid byte [] le e = refl
+lacks-solid byte (b ∷ word) le e =
+    let parts = and_parts (ltb 32 b) (is_solid word) e in
+    let above : 32 < b = ltb-true 32 b parts.0 in
+    let other : eqb b byte ≡ false = ne_eqb b byte (λ same. omega arith) in
+    and_from (not (eqb b byte)) (lacks byte word) (ap not other) (lacks-solid byte word le parts.1)
+
+lacks-append : (byte : ℕ) (xs ys : List ℕ) → lacks byte xs ≡ true → lacks byte ys ≡ true → lacks byte (xs ++ ys) ≡ true
+lacks-append byte [] ys a b = b
+lacks-append byte (x ∷ xs) ys a b =
+    let parts = and_parts (not (eqb x byte)) (lacks byte xs) a in
+    and_from (not (eqb x byte)) (lacks byte (xs ++ ys)) parts.0 (lacks-append byte xs ys parts.1 b)
+
+prefix_len-front : (q : ℕ → Bool) (xs : List ℕ) (y : ℕ) (ys : List ℕ) → list_all q xs ≡ true → q y ≡ false → prefix_len q (xs ++ y ∷ ys) ≡ length xs
+prefix_len-front q [] y ys a stops = cond-false (q y) (1 + prefix_len q ys) 0 stops
+prefix_len-front q (x ∷ xs) y ys a stops =
+    let parts = and_parts (q x) (list_all q xs) a in
+    cond-true (q x) (1 + prefix_len q (xs ++ y ∷ ys)) 0 parts.0 ∙ ap (λ (n : ℕ). 1 + n) (prefix_len-front q xs y ys parts.1 stops) ∙ omega arith
+
+cut_front : (byte : ℕ) (front rest : List ℕ) → lacks byte front ≡ true → cut_at byte (front ++ byte ∷ rest) ≡ Some (front, rest)
+cut_front byte front rest h =
+    let whole = front ++ byte ∷ rest in
+    let at : prefix_len (λ b. not (eqb b byte)) whole ≡ length front = prefix_len-front (λ b. not (eqb b byte)) front byte rest h (ap not (eq-eqb byte byte refl)) in
+    let inside : ltb (length front) (length whole) ≡ true = lt-ltb _ _ (omega (arith, length-append front (byte ∷ rest))) in
+    let before : take (length front) whole ≡ front = take_at front (byte ∷ rest) (length front) refl in
+    let behind : drop (length front + 1) whole ≡ rest = ap (drop (length front + 1)) (sym (append_assoc front (byte ∷ []) rest)) ∙ drop_at (front ++ byte ∷ []) rest (length front + 1) (length-append front (byte ∷ [])) in
+    rw (at, inside) (ap Some (pair_is before behind))
+
+-- ---- lines
+
+ok_parts : (a b : List ℕ) (s t : Unread) → ◌≡◌ {A = Result (List ℕ × Unread) TextFault} (Ok (a, s)) (Ok (b, t)) → (a ≡ b) × (s.bytes ≡ t.bytes)
+ok_parts a b s t e = let same : ◌≡◌ {A = List ℕ × Unread} (a, s) (b, t) = cc in (ap (λ (x : List ℕ × Unread). x.0) same, ap (λ (x : List ℕ × Unread). x.1.bytes) same)
+
+clean_join : (words : List (List ℕ)) → AreSolid words → lacks 10 (join_with_byte 32 words) ≡ true
+clean_join [] h = refl
+clean_join (w ∷ []) h = lacks-solid 10 w (omega arith) h.0
+clean_join (w ∷ v ∷ words) h = lacks-append 10 w (32 ∷ join_with_byte 32 (v ∷ words)) (lacks-solid 10 w (omega arith) h.0) (clean_join (v ∷ words) h.1)
+
+all_other : (byte : ℕ) (xs : List ℕ) → lacks byte xs ≡ true → AllByRecursion (λ b. eqb b byte ≡ false) xs
+all_other byte [] h = tt
+all_other byte (x ∷ xs) h = let parts = and_parts (not (eqb x byte)) (lacks byte xs) h in (not-true (eqb x byte) parts.0, all_other byte xs parts.1)
+
+-- the words of a line are those that it was made of
+pub words_of-join : (w : List ℕ) (words : List (List ℕ)) → AreSolid (w ∷ words) → words_of (join_with_byte 32 (w ∷ words)) ≡ w ∷ words
+words_of-join w [] h = slice_split_none (λ b. eqb b 32) w (All-from_recursion (λ b. eqb b 32 ≡ false) w (all_other 32 w (lacks-solid 32 w (omega arith) h.0)))
+words_of-join w (v ∷ words) h =
+    slice_split_at (λ b. eqb b 32) w 32 (join_with_byte 32 (v ∷ words)) (All-from_recursion (λ b. eqb b 32 ≡ false) w (all_other 32 w (lacks-solid 32 w (omega arith) h.0))) refl
+    ∙ ap (λ (ws : List (List ℕ)). w ∷ ws) (words_of-join v words h.1)
+
+line_from_takes : (bytes : List ℕ) (number : ℕ) (cut : Option (List ℕ × List ℕ)) → cut_at 10 bytes ≡ cut → (line : List ℕ) (left : Unread) → line_from number cut ≡ Ok (line, left) → bytes ≡ line_text (words_of line) ++ left.bytes
+line_from_takes bytes number None is line left e = absurd cc
+line_from_takes bytes number (Some parts) is line left e =
+    let same : (parts.0 ≡ line) × (parts.1 ≡ left.bytes) = ok_parts parts.0 line (record { bytes = parts.1; number = number + 1 }) left e in
+    let joined : join_with_byte 32 (words_of line) ≡ line = join_with_byte-slice_split 32 line in
+    let whole : bytes ≡ line ++ 10 ∷ left.bytes = cut_joins 10 bytes parts.0 parts.1 is ∙ ap (λ (x : List ℕ). x ++ 10 ∷ parts.1) same.0 ∙ ap (λ (x : List ℕ). line ++ 10 ∷ x) same.1 in
+    whole ∙ sym (append_assoc line (10 ∷ []) left.bytes) ∙ ap (λ (x : List ℕ). (x ++ 10 ∷ []) ++ left.bytes) (sym joined)
+
+-- what is read as a line stands in front, with its line feed
+pub line_takes : (text : Unread) (line : List ℕ) (left : Unread) → line_at text ≡ Ok (line, left) → text.bytes ≡ line_text (words_of line) ++ left.bytes
+line_takes text line left e = line_from_takes text.bytes text.number (cut_at 10 text.bytes) refl line left e
+
+-- the text of a line is read as that line
+pub line_again : (words : List (List ℕ)) (rest : List ℕ) (number : ℕ) → AreSolid words → line_at (record { bytes = line_text words ++ rest; number = number }) ≡ Ok (join_with_byte 32 words, record { bytes = rest; number = number + 1 })
+line_again words rest number h =
+    let parts : line_text words ++ rest ≡ join_with_byte 32 words ++ 10 ∷ rest = append_assoc (join_with_byte 32 words) (10 ∷ []) rest in
+    ap (line_from number) (ap (cut_at 10) parts ∙ cut_front 10 (join_with_byte 32 words) rest (clean_join words h))

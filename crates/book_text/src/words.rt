@@ -1,0 +1,67 @@
+ghost use Rattle.std.specs.Prelude.{◌≡◌, [], ◌∷◌, MatchOption, option_copied, slice_get};
+ghost use Rattle.book_text.specs.Lines.{words_of};
+
+use crate::cut_at::cut_at;
+use std::marker::Model;
+
+/// The words of a line, one after the other: the parts into which each of its spaces cuts it.
+///
+/// Clauses see it as the list of the words that are left.
+#[derive(Drop)]
+pub struct Words<'a> {
+    rest: &'a [u8],
+    ended: bool,
+}
+
+impl<'a> Model for Words<'a> {
+    ghost use Rattle.std.specs.Prelude.{List, ℕ, [], if◌then◌else◌};
+    ghost use Rattle.book_text.specs.Lines.{words_of};
+
+    ghost Value = { List (List ℕ) };
+
+    ghost view = { λ words. if words.ended then [] else words_of words.rest.now };
+}
+
+impl<'a> Words<'a> {
+    /// The words of this line.
+    pub fn new(line: &'a [u8]) -> Words<'a>
+        ensures { result ≡ words_of line.now }
+    {
+        Words {
+            rest: line,
+            ended: false,
+        }
+    }
+
+    /// The next word, or `None` exactly at the end of the line.
+    pub fn next(&mut self) -> Option<&'a [u8]>
+        ensures { MatchOption result ((self.old ≡ []) × (self.new ≡ [])) (λ word. self.old ≡ word.now ∷ self.new) }
+    {
+        if self.ended {
+            return None;
+        }
+        match cut_at(b' ', self.rest) {
+            None => {
+                self.ended = true;
+                Some(self.rest)
+            }
+            Some((word, rest)) => {
+                self.rest = rest;
+                Some(word)
+            }
+        }
+    }
+
+    /// The word that [`Words::next`] would give.
+    pub(crate) fn peek(&self) -> Option<&'a [u8]>
+        ensures { option_copied result ≡ slice_get self.now 0 }
+    {
+        if self.ended {
+            return None;
+        }
+        match cut_at(b' ', self.rest) {
+            None => Some(self.rest),
+            Some((word, _)) => Some(word),
+        }
+    }
+}

@@ -1,0 +1,4 @@
+pub mod LegalOrder
+pub mod Precedence
+pub mod Orders
+pub mod Layers

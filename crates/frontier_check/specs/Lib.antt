@@ -1,0 +1,4 @@
+pub mod Next
+pub mod TrailLayout
+pub mod Layer
+pub mod Verdict

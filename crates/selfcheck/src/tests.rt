@@ -1,0 +1,127 @@
+ghost use Rattle.std.specs.Prelude.{◌≢◌};
+
+use super::*;
+use std::alloc::Global;
+use std::test::Fail;
+use std::thread::Threads;
+
+const WORDS: [&str; 2] = ["verify", "all"];
+
+// No read of a steady source fails: its count stands at 0.
+fn over_steady_source<R: Threads + Sync>(
+    rt: &R,
+    alloc: Global,
+    words: &[String],
+    source: &mut SteadySource,
+    sink: &mut MemorySink,
+) -> Status
+    ensures { result ≢ Status.ReadFault }
+{
+    selfcheck(rt, alloc, words, source, sink)
+}
+
+fn words(alloc: Global, texts: &[&str]) -> Result<Vec<String>, std::alloc::AllocError> {
+    let mut words = Vec::new(alloc);
+    for text in texts {
+        words.push(String::from_str(alloc, text)?)?;
+    }
+    Ok(words)
+}
+
+#[test]
+fn a_source_is_read_byte_by_byte(rt: HostRuntime) -> Result<(), Fail> {
+    let alloc = rt.alloc();
+    let mut source = MemorySource::new(b"abc".to_vec(alloc)?, Vec::new(alloc), 1);
+    let bytes = read_all(alloc, &mut source)?;
+    assert_eq!(rt; bytes.as_slice(), b"abc".as_slice());
+    Ok(())
+}
+
+#[test]
+fn the_second_read_fails(rt: HostRuntime) -> Result<(), Fail> {
+    let alloc = rt.alloc();
+    let mut source = MemorySource::new(b"abcd".to_vec(alloc)?, [2].to_vec(alloc)?, 2);
+    assert_eq!(rt;
+        read_all(alloc, &mut source).err(),
+        Some(ReadAllError::Fault)
+    );
+    let rest = read_all(alloc, &mut source)?;
+    assert_eq!(rt; rest.as_slice(), b"cd".as_slice());
+    Ok(())
+}
+
+#[test]
+fn reading_stops_one_byte_past_the_limit(rt: HostRuntime) -> Result<(), Fail> {
+    let alloc = rt.alloc();
+    let mut source = SteadySource::new(vec![in alloc; b'a'; INPUT_LIMIT + 3]?);
+    assert_eq!(rt; read_all(alloc, &mut source)?.len(), INPUT_LIMIT + 1);
+    assert_eq!(rt; read_all(alloc, &mut source)?.len(), 2);
+    Ok(())
+}
+
+#[test]
+fn the_second_write_fails(rt: HostRuntime) -> Result<(), Fail> {
+    let alloc = rt.alloc();
+    let words = words(alloc, &WORDS)?;
+    let mut source = SteadySource::new(b"text".to_vec(alloc)?);
+    let mut sink = MemorySink::new(alloc, 100, [2].to_vec(alloc)?, 8)?;
+    let status = over_steady_source(&rt, alloc, &words, &mut source, &mut sink);
+    assert_eq!(rt; status.code(), 5);
+    assert_eq!(rt; sink.bytes(), b"usage: s".as_slice());
+    Ok(())
+}
+
+#[test]
+fn the_room_is_used_up(rt: HostRuntime) -> Result<(), Fail> {
+    let alloc = rt.alloc();
+    let mut sink = MemorySink::new(alloc, 4, Vec::new(alloc), 3)?;
+    assert_eq!(rt; write_all(&mut sink, b"abcde"), Err(Failed));
+    assert_eq!(rt; sink.bytes(), b"abcd".as_slice());
+    assert_eq!(rt; write_all(&mut sink, b""), Ok(()));
+    Ok(())
+}
+
+#[test]
+fn wrong_words_read_nothing(rt: HostRuntime) -> Result<(), Fail> {
+    let alloc = rt.alloc();
+    let words = words(alloc, &WORDS)?;
+    let mut source = MemorySource::new(b"text".to_vec(alloc)?, [1].to_vec(alloc)?, 9);
+    let mut sink = MemorySink::new(alloc, 100, Vec::new(alloc), 100)?;
+    let status = selfcheck(&rt, alloc, &words, &mut source, &mut sink);
+    assert_eq!(rt; status, Status::Usage);
+    assert_eq!(rt; sink.bytes(), b"usage: selfcheck COMMAND\n".as_slice());
+    Ok(())
+}
+
+#[test]
+fn a_failed_read_writes_nothing(rt: HostRuntime) -> Result<(), Fail> {
+    let alloc = rt.alloc();
+    let words = words(alloc, &WORDS[..1])?;
+    let mut source = MemorySource::new(b"text".to_vec(alloc)?, [1].to_vec(alloc)?, 9);
+    let mut sink = MemorySink::new(alloc, 100, Vec::new(alloc), 100)?;
+    let status = selfcheck(&rt, alloc, &words, &mut source, &mut sink);
+    assert_eq!(rt; status, Status::ReadFault);
+    assert_eq!(rt; sink.bytes(), b"".as_slice());
+    Ok(())
+}
+
+#[test]
+fn a_long_input_is_refused(rt: HostRuntime) -> Result<(), Fail> {
+    let alloc = rt.alloc();
+    let words = words(alloc, &WORDS[..1])?;
+    let mut source = SteadySource::new(vec![in alloc; b'a'; INPUT_LIMIT + 1]?);
+    let mut sink = MemorySink::new(alloc, 100, Vec::new(alloc), 100)?;
+    let status = over_steady_source(&rt, alloc, &words, &mut source, &mut sink);
+    assert_eq!(rt; status, Status::Refused);
+    assert_eq!(rt; sink.bytes(), b"refused\n".as_slice());
+    Ok(())
+}
+
+#[test]
+fn standard_input_and_output_take_pieces(rt: HostRuntime) -> Result<(), Fail> {
+    let mut source = StdSource::new(&rt);
+    let mut sink = StdSink::new(&rt);
+    assert_eq!(rt; source.read(&mut []), Ok(0));
+    assert_eq!(rt; sink.write(b""), Ok(0));
+    Ok(())
+}

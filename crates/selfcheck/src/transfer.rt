@@ -1,0 +1,73 @@
+ghost use Rattle.std.specs.Prelude.{◌≡◌, ℕ, ◌+◌, ◌<◌, ◌≤◌, ◌++◌, List, length, IfOk, OnOk, OnErr, IsErrOf, vec_len};
+ghost use Rattle.std.specs.Io.KnownBytes.{Consumes, Appends, IsAtEnd};
+ghost use Rattle.selfcheck.specs.Fault.{Rose};
+ghost use Rattle.selfcheck.specs.Told.{HasRead, AppendsPart};
+
+use crate::INPUT_LIMIT;
+use crate::failed::{Failed, ReadAllError};
+use crate::sink::Sink;
+use crate::source::Source;
+use std::alloc::Global;
+
+/// The greatest number of bytes that one read asks for.
+const PIECE: usize = 4096;
+
+/// Reads once, at most `room` bytes, and appends what came: how much, or 0 at the end of input.
+fn read_more<S: Source>(
+    source: &mut S,
+    bytes: &mut Vec<u8>,
+    room: usize,
+) -> Result<usize, ReadAllError>
+    requires { 0 < room }
+    ensures bound { IfOk result (λ count. count ≤ room) }
+    ensures bytes { IfOk result (λ count. (given : List ℕ) × (length given ≡ count) × (bytes.new.items ≡ bytes.old.items ++ given)
+        × Consumes (S.left source.old) (S.left source.new) given) }
+    ensures end { IfOk result (λ count. count ≡ 0 → IsAtEnd (S.left source.new)) }
+    ensures err { OnErr result ((given : List ℕ) × Consumes (S.left source.old) (S.left source.new) given) }
+    ensures later { S.faults source.old ≤ S.faults source.new }
+    ensures cause { IsErrOf result ReadAllError.Fault → Rose (S.faults source.old) (S.faults source.new) }
+{
+    let mut buffer = [0; PIECE];
+    let piece = &mut buffer[..room.min(PIECE)];
+    let count = source.read(piece)?;
+    bytes.extend_from_slice(&piece[..count])?;
+    Ok(count)
+}
+
+/// Reads a source to its end, or until one byte more than [`INPUT_LIMIT`] was read.
+pub fn read_all<S: Source>(alloc: Global, source: &mut S) -> Result<Vec<u8>, ReadAllError>
+    ensures read { IfOk result (λ bytes. HasRead (S.left source.old) (S.left source.new) bytes.items) }
+    ensures bound { IfOk result (λ bytes. length bytes.items ≤ INPUT_LIMIT + 1) }
+
+    // After an error, the bytes that are left are an end of those that were left.
+    ensures err { OnErr result ((given : List ℕ) × Consumes (S.left source.old) (S.left source.new) given) }
+    ensures later { S.faults source.old ≤ S.faults source.new }
+    ensures cause { IsErrOf result ReadAllError.Fault → Rose (S.faults source.old) (S.faults source.new) }
+{
+    let mut bytes = Vec::new(alloc);
+    while bytes.len() <= INPUT_LIMIT {
+        let room = INPUT_LIMIT + 1 - bytes.len();
+        if read_more(source, &mut bytes, room)? == 0 {
+            break;
+        }
+    }
+    Ok(bytes)
+}
+
+/// Writes a whole text, and offers all that is left of it at each write.
+pub fn write_all<K: Sink>(sink: &mut K, text: &[u8]) -> Result<(), Failed>
+    ensures whole { OnOk result (Appends (K.taken sink.old) (K.taken sink.new) text.now) }
+    ensures part { OnErr result (AppendsPart (K.taken sink.old) (K.taken sink.new) text.now) }
+    ensures later { K.faults sink.old ≤ K.faults sink.new }
+    ensures cause { OnErr result (Rose (K.faults sink.old) (K.faults sink.new)) }
+{
+    let mut at = 0;
+    while at < text.len() {
+        let count = sink.write(&text[at..])?;
+        if count == 0 {
+            return Err(Failed);
+        }
+        at += count;
+    }
+    Ok(())
+}

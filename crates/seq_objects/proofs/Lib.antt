@@ -1,0 +1,7 @@
+pub mod Decimals
+pub mod ListLaws
+pub mod Spelling
+pub mod Tables
+pub mod Fronts
+pub mod ReplyTexts
+pub mod Texts

@@ -1,0 +1,163 @@
+-- The texts of operations and replies are words, and no two operations or replies share one.
+use Rattle.std.proofs.Common.{◌≡◌, ℕ, zero, suc, ◌%◌, ◌^◌, ◌<◌, Bool, true, false, eqb, List, [], ◌∷◌, get_or, All, decimal, nat_lt, Option, Some, None, inl, inr, sym, ap, subst, refl, ◌∙◌, ne_eqb, arith, find, bytes_eq}
+use Rattle.std.proofs.lemmas.Option.{same_Some}
+use Rattle.std.specs.List.{join_with_byte, slice_split, list_all}
+use Rattle.std.proofs.lemmas.List.{get_or_default}
+use Rattle.std.proofs.lemmas.List.Splits.{slice_split_at, slice_split_none}
+use Rattle.std.proofs.lemmas.Bool.{and_parts, ltb-true}
+use Rattle.std.proofs.lemmas.Fmt.{decimal_nonempty}
+use Rattle.seq_objects.specs.declared.kind.Kind.{Kind}
+use Rattle.seq_objects.specs.declared.kind.Kind.TheVariants.{Queue, Stack, Register, Counter, IntSet, Pqueue}
+use Rattle.seq_objects.specs.Words.{kind_name, Entry, entry_of, argument_of, argument_words, operation_words, operation_text, Spells, IsPrinted, IsWord}
+use Rattle.seq_objects.specs.Replies.{reply_word}
+use Rattle.seq_objects.proofs.ReplyTexts.{reply_word-cases, named-plain}
+use Rattle.seq_objects.proofs.ListLaws.{cases_Option}
+use Rattle.seq_objects.proofs.Decimals.{decimal_byte}
+use Rattle.seq_objects.proofs.Tables.{is_printed, is_plain_name, is_plain_name-entry, entry_of-inside}
+use Rattle.seq_objects.proofs.Spelling.{operation_words-known, operation_words-unknown, Spells-once}
+
+All-none : {X : Type 0} (P : X → Type 0) → All P []
+All-none P k d inside = absurd (omega arith)
+
+All-cons : {X : Type 0} (P : X → Type 0) (x : X) (xs : List X) → P x → All P xs → All P (x ∷ xs)
+All-cons P x xs holds rest zero d inside = holds
+All-cons P x xs holds rest (suc k) d inside = rest k d (omega arith)
+
+All-head : {X : Type 0} (P : X → Type 0) (x : X) (xs : List X) → All P (x ∷ xs) → P x
+All-head P x xs all = all 0 x (omega arith)
+
+All-tail : {X : Type 0} (P : X → Type 0) (x : X) (xs : List X) → All P (x ∷ xs) → All P xs
+All-tail P x xs all k d inside = all (suc k) d (omega arith)
+
+-- The digits of a number are printed.
+decimal-printed : (n : ℕ) → n < 2 ^ 64 → All IsPrinted (decimal n)
+decimal-printed n small k d inside =
+    let digit = decimal_byte n k small inside in
+    rw (get_or_default (decimal n) k d 0 inside) (omega arith, omega arith)
+
+pub IsWord-decimal : (n : ℕ) → n < 2 ^ 64 → IsWord (decimal n)
+IsWord-decimal n small = record { some = decimal_nonempty n small; printed = decimal-printed n small }
+
+pub IsWord-marked : (mark n : ℕ) → IsPrinted mark → n < 2 ^ 64 → IsWord (mark ∷ decimal n)
+IsWord-marked mark n printed small = record { some = omega arith; printed = All-cons IsPrinted mark (decimal n) printed (decimal-printed n small) }
+
+name-printed : (name : List ℕ) → list_all is_printed name ≡ true → All IsPrinted name
+name-printed [] all = All-none IsPrinted
+name-printed (x ∷ xs) all =
+    let parts = and_parts (is_printed x) (list_all is_printed xs) all in
+    let ends = and_parts (nat_lt 32 x) (nat_lt x 127) parts.0 in
+    All-cons IsPrinted x xs (ltb-true 32 x ends.0, ltb-true x 127 ends.1) (name-printed xs parts.1)
+
+pub IsWord-name : (name : List ℕ) → is_plain_name name ≡ true → IsWord name
+IsWord-name [] plain = cc
+IsWord-name (x ∷ xs) plain = record { some = omega arith; printed = name-printed (x ∷ xs) (and_parts _ (list_all is_printed (x ∷ xs)) plain).1 }
+
+argument_words-IsWord : (has : Bool) (word : ℕ) → All IsWord (argument_words has word)
+argument_words-IsWord true word =
+    All-cons IsWord (decimal (argument_of word)) [] (IsWord-decimal (argument_of word) (omega arith)) (All-none IsWord)
+argument_words-IsWord false word = All-none IsWord
+
+-- An operation is written in words.
+pub operation_words-IsWord : (kind : Kind) (word : ℕ) → word < 2 ^ 64
+    → All IsWord (operation_words kind word)
+operation_words-IsWord kind word small = elim (cases_Option (entry_of kind word)) [
+  | inl none ↦ subst (λ ws. All IsWord ws) (sym (operation_words-unknown kind word none)) (All-cons IsWord (35 ∷ decimal word) [] (IsWord-marked 35 word (omega arith, omega arith) small) (All-none IsWord))
+  | inr known ↦
+      let e : Entry = known.0 in
+      let name = IsWord-name e.name (is_plain_name-entry kind e (entry_of-inside kind word e known.1).0) in
+      subst (λ ws. All IsWord ws) (sym (operation_words-known kind word e known.1)) (All-cons IsWord e.name (argument_words e.has_argument word) name (argument_words-IsWord e.has_argument word))
+]
+
+-- No byte of a word is a space.
+pub IsWord-space : (word : List ℕ) → IsWord word → All (λ b. eqb b 32 ≡ false) word
+IsWord-space word is k d inside =
+    let printed = is.printed k d inside in
+    ne_eqb (get_or word k d) 32 (λ same. omega arith)
+
+-- Words with one space between two are cut into these words at the spaces.
+pub slice_split-join : (word : List ℕ) (words : List (List ℕ)) → All IsWord (word ∷ words)
+    → slice_split (λ b. eqb b 32) (join_with_byte 32 (word ∷ words)) ≡ word ∷ words
+slice_split-join word [] all =
+    slice_split_none (λ b. eqb b 32) word (IsWord-space word (All-head IsWord word [] all))
+slice_split-join word (next ∷ words) all =
+    slice_split_at (λ b. eqb b 32) word 32 (join_with_byte 32 (next ∷ words)) (IsWord-space word (All-head IsWord word (next ∷ words) all)) refl
+    ∙ ap (λ ws. word ∷ ws) (slice_split-join next words (All-tail IsWord word (next ∷ words) all))
+
+some_words : (kind : Kind) (word : ℕ)
+    → (first : List ℕ) × (rest : List (List ℕ)) × (operation_words kind word ≡ first ∷ rest)
+some_words kind word = elim (cases_Option (entry_of kind word)) [
+  | inl none ↦ (35 ∷ decimal word, [], operation_words-unknown kind word none)
+  | inr known ↦ (known.0.name, argument_words known.0.has_argument word, operation_words-known kind word known.0 known.1)
+]
+
+-- The text of an operation is cut into its words at the spaces.
+pub slice_split-operation : (kind : Kind) (word : ℕ) → word < 2 ^ 64
+    → slice_split (λ b. eqb b 32) (operation_text kind word) ≡ operation_words kind word
+unfolding operation_text
+slice_split-operation kind word small =
+    let some = some_words kind word in
+    subst (λ ws. slice_split (λ b. eqb b 32) (join_with_byte 32 ws) ≡ ws) (sym some.2) (slice_split-join some.0 some.1 (subst (λ ws. All IsWord ws) some.2 (operation_words-IsWord kind word small)))
+
+own-entry : (kind : Kind) (word : ℕ) (e : Entry) (has : Bool)
+    → operation_words kind word ≡ e.name ∷ argument_words has word
+    → (first : List ℕ) × (second : Option (List ℕ)) × (used : Bool) × ((other : ℕ) → operation_words kind other ≡ operation_words kind word → Spells kind first second other used)
+own-entry kind word e true words =
+    (e.name, Some (decimal (argument_of word)), true, λ other same. same ∙ words)
+own-entry kind word e false words = (e.name, None, false, λ other same. same ∙ words)
+
+-- How an operation is spelled by the words of its own text.
+Spells-own : (kind : Kind) (word : ℕ)
+    → (first : List ℕ) × (second : Option (List ℕ)) × (used : Bool) × ((other : ℕ) → operation_words kind other ≡ operation_words kind word → Spells kind first second other used)
+Spells-own kind word = elim (cases_Option (entry_of kind word)) [
+  | inl none ↦ (35 ∷ decimal word, None, false, λ other same. same ∙ operation_words-unknown kind word none)
+  | inr known ↦ own-entry kind word known.0 known.0.has_argument (operation_words-known kind word known.0 known.1)
+]
+
+-- Operations with one text are one.
+pub operation_text-once : (kind : Kind) (a b : ℕ) → a < 2 ^ 64 → b < 2 ^ 64
+    → operation_text kind a ≡ operation_text kind b → a ≡ b
+operation_text-once kind a b a_small b_small same =
+    let words : operation_words kind a ≡ operation_words kind b = sym (slice_split-operation kind a a_small) ∙ ap (slice_split (λ c. eqb c 32)) same ∙ slice_split-operation kind b b_small in
+    let own = Spells-own kind b in
+    (Spells-once kind own.0 own.1 a b own.2 own.2 a_small b_small (own.3 a words) (own.3 b refl)).0
+
+-- A reply is written as a word.
+pub reply_word-IsWord : (reply : ℕ) → reply < 2 ^ 64 → IsWord (reply_word reply)
+reply_word-IsWord reply small = elim (reply_word-cases reply) [
+  | inl named ↦ subst IsWord (sym named.3) (IsWord-name named.0.name (named-plain named.0 named.1).0)
+  | inr (inl value) ↦ subst IsWord (sym value.1) (IsWord-marked 61 (reply % 2 ^ 32) (omega arith, omega arith) (omega arith))
+  | inr (inr other) ↦ subst IsWord (sym other.1) (IsWord-marked 35 reply (omega arith, omega arith) small)
+]
+
+-- All kinds.
+abbrev kinds : List Kind
+kinds = Queue ∷ Stack ∷ Register ∷ Counter ∷ IntSet ∷ Pqueue ∷ []
+
+kind_with_name : (kind : Kind)
+    → find (λ k. bytes_eq (kind_name k) (kind_name kind)) kinds ≡ Some kind
+unfolding kind_name
+kind_with_name Queue = refl
+kind_with_name Stack = refl
+kind_with_name Register = refl
+kind_with_name Counter = refl
+kind_with_name IntSet = refl
+kind_with_name Pqueue = refl
+
+-- Kinds with one name are one.
+pub kind_name-once : (a b : Kind) → kind_name a ≡ kind_name b → a ≡ b
+kind_name-once a b same =
+    let found : Some b ≡ Some a = sym (kind_with_name b) ∙ ap (λ n. find (λ k. bytes_eq (kind_name k) n) kinds) (sym same) ∙ kind_with_name a in
+    sym (same_Some b a found)
+
+kind_name-plain : (kind : Kind) → is_plain_name (kind_name kind) ≡ true
+unfolding kind_name
+kind_name-plain Queue = refl
+kind_name-plain Stack = refl
+kind_name-plain Register = refl
+kind_name-plain Counter = refl
+kind_name-plain IntSet = refl
+kind_name-plain Pqueue = refl
+
+-- The name of a kind is a word.
+pub kind_name-IsWord : (kind : Kind) → IsWord (kind_name kind)
+kind_name-IsWord kind = IsWord-name (kind_name kind) (kind_name-plain kind)

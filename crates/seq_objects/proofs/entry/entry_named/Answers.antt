@@ -1,0 +1,15 @@
+use Rattle.std.proofs.Common.{rules, tests, ◌≡◌, find, option_map, option_copied, bytes_eq, sym, ap, ◌∙◌}
+use Rattle.std.proofs.lemmas.Iterator.{YieldsList-from_slice}
+use Rattle.std.proofs.lemmas.Iterator.Search.{find_from_yields_List}
+use Rattle.seq_objects.specs.EntryView.{shown, entry_named}
+use Rattle.seq_objects.proofs.ListLaws.{find-map}
+use Rattle.seq_objects.proofs.entry.entry_named.Goals as goal
+
+pub returns : goal.returns
+unfolding entry_named
+returns c =
+    let found : option_copied c.find.result ≡ find (λ e. bytes_eq e.name.now c.args.name.now) c.entries.result.now =
+    find_from_yields_List (λ e. bytes_eq e.name.now c.args.name.now) _ _ c.find.result c.find.ensures.ran (YieldsList-from_slice c.entries.result.now cc) (λ x b q k. search (rules, tests)) in
+    ap (option_map shown) (c.copied.ensures ∙ found)
+    ∙ sym (find-map shown (λ e. bytes_eq e.name c.args.name.now) c.entries.result.now)
+    ∙ ap (find (λ e. bytes_eq e.name c.args.name.now)) c.entries.ensures

@@ -1,0 +1,68 @@
+-- The words of replies, which are the same for all kinds, and the one text of each.
+use Rattle.std.specs.Prelude.{ℕ, ◌+◌, ◌*◌, ◌/◌, ◌%◌, ◌^◌, ◌==◌, ◌||◌, Bool, List, [], ◌∷◌, ◌++◌, find, codes, decimal, Option, Some, None, is_some, if◌then◌else◌}
+
+-- A reply word: a tag, and a value below 2 ^ 32.
+abbrev pub tagged : ℕ → ℕ → ℕ
+tagged tag value = tag * 2 ^ 32 + value
+
+-- The operation was made, and tells nothing.
+abbrev pub reply_done : ℕ
+reply_done = tagged 0 0
+
+-- There is no item.
+abbrev pub reply_none : ℕ
+reply_none = tagged 1 0
+
+-- This item, modulo 2 ^ 32.
+abbrev pub reply_value : ℕ → ℕ
+reply_value item = tagged 2 (item % 2 ^ 32)
+
+-- No.
+abbrev pub reply_no : ℕ
+reply_no = tagged 3 0
+
+-- Yes.
+abbrev pub reply_yes : ℕ
+reply_yes = tagged 3 1
+
+-- The object doesn't know the operation.
+abbrev pub reply_bad : ℕ
+reply_bad = tagged 4 0
+
+-- A reply word with a name, and the name.
+pub record NamedReply : Type 0 where
+  pub name : List ℕ
+  pub word : ℕ
+
+-- The table of replies that are a name.
+unfoldable pub named_replies : List NamedReply
+named_replies =
+    record { name = codes "done"; word = reply_done }
+    ∷ record { name = codes "none"; word = reply_none }
+    ∷ record { name = codes "no"; word = reply_no }
+    ∷ record { name = codes "yes"; word = reply_yes }
+    ∷ record { name = codes "bad"; word = reply_bad }
+    ∷ []
+
+-- The entry of a reply word, where it is a name.
+unfoldable pub named_reply : ℕ → Option NamedReply
+named_reply word = find (λ reply. word == reply.word) named_replies
+
+-- Whether a reply word gives a value: its tag is that of a value.
+abbrev pub is_value : ℕ → Bool
+is_value word = word / 2 ^ 32 == 2
+
+-- Whether a reply word has a text of the table: a name, or '=' and a value.
+unfoldable pub is_known_reply : ℕ → Bool
+is_known_reply word = is_some (named_reply word) || is_value word
+
+-- The word of a text by the entry of the reply word: the name, '=' and the value, or '#' and the
+-- whole number where neither is due.
+abbrev pub reply_word_by_entry : Option NamedReply → ℕ → List ℕ
+reply_word_by_entry (Some reply) word = reply.name
+reply_word_by_entry None word =
+    if is_value word then codes "=" ++ decimal (word % 2 ^ 32) else codes "#" ++ decimal word
+
+-- The word of a text that stands for a reply word.
+unfoldable pub reply_word : ℕ → List ℕ
+reply_word word = reply_word_by_entry (named_reply word) word

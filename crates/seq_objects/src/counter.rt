@@ -1,0 +1,71 @@
+ghost use Rattle.std.specs.Prelude.{[], ◌∷◌, ◌≡◌};
+ghost use Rattle.seq_objects.specs.declared.kind.Kind.TheVariants as kinds;
+ghost use Rattle.seq_objects.specs.Words.{is_known_word};
+ghost use Rattle.seq_objects.specs.Objects.{counter_operation, counter_after};
+ghost use Rattle.seq_objects.specs.ObjectLaws.{length-one, length-counter_after, counter_after-unknown};
+
+use crate::entry::INC;
+use crate::items::{first_or_zero, set_only};
+use crate::kind::Kind;
+use crate::reply::value_reply;
+use book_base::{BAD, OpWord, SeqObject, State};
+
+/// How many counts there are.
+const COUNTS: u64 = 1 << 32;
+
+/// A counter modulo 2^32, which is 0 at first.
+#[derive(Clone, Copy, Debug)]
+pub struct Counter;
+
+/// What an operation asks of a counter.
+#[derive(Clone, Copy)]
+enum CounterOperation {
+    Increment,
+}
+
+impl CounterOperation {
+    /// What an operation word asks of a counter, where it knows the word.
+    fn from_word(word: OpWord) -> Option<CounterOperation>
+        ensures { result ≡ counter_operation word }
+    {
+        if INC.has(word) {
+            Some(CounterOperation::Increment)
+        } else {
+            None
+        }
+    }
+}
+
+impl SeqObject for Counter {
+    ghost is_known = { λ _. is_known_word kinds.Counter };
+
+    ghost init = { λ _. 0 ∷ [] };
+
+    ghost next = { λ _ list op. counter_after list (counter_operation op) };
+
+    ghost begins_small = { λ _. length-one };
+
+    ghost grows_by_one = { λ _ list op. length-counter_after list (counter_operation op) };
+
+    ghost unknown_is_bad = { λ _ list op. counter_after-unknown list op };
+
+    fn known(&self, op: OpWord) -> bool {
+        Kind::Counter.known(op)
+    }
+
+    fn reset(&self, state: &mut State) {
+        state.clear();
+        state.push(0);
+    }
+
+    fn step(&self, state: &mut State, op: OpWord) -> u64 {
+        match CounterOperation::from_word(op) {
+            Some(CounterOperation::Increment) => {
+                let count = first_or_zero(state) % COUNTS;
+                set_only(state, (count + 1) % COUNTS);
+                value_reply(count)
+            }
+            None => BAD,
+        }
+    }
+}

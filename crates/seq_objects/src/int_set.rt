@@ -1,0 +1,102 @@
+ghost use Rattle.std.specs.Prelude.{◌≡◌, ◌<◌, [], length};
+ghost use Rattle.seq_objects.specs.declared.kind.Kind.TheVariants as kinds;
+ghost use Rattle.seq_objects.specs.Words.{is_known_word};
+ghost use Rattle.seq_objects.specs.Objects.{set_operation, set_after, added, removed};
+ghost use Rattle.seq_objects.specs.ObjectLaws.{length-none, length-set_after, set_after-unknown};
+
+use crate::entry::{ADD, HAS, REMOVE, argument_of};
+use crate::items::{insert_in_order, place_of};
+use crate::kind::Kind;
+use crate::reply::{NO, YES};
+use book_base::{BAD, OpWord, SeqObject, State};
+
+/// A set of numbers below 2^32.
+#[derive(Clone, Copy, Debug)]
+pub struct IntSet;
+
+/// What an operation asks of a set.
+#[derive(Clone, Copy)]
+enum IntSetOperation {
+    Add(u32),
+    Remove(u32),
+    Has(u32),
+}
+
+impl IntSetOperation {
+    /// What an operation word asks of a set, where it knows the word.
+    fn from_word(word: OpWord) -> Option<IntSetOperation>
+        ensures { result ≡ set_operation word }
+    {
+        if ADD.has(word) {
+            Some(IntSetOperation::Add(argument_of(word)))
+        } else if REMOVE.has(word) {
+            Some(IntSetOperation::Remove(argument_of(word)))
+        } else if HAS.has(word) {
+            Some(IntSetOperation::Has(argument_of(word)))
+        } else {
+            None
+        }
+    }
+}
+
+/// Adds a value, where it isn't in the set.
+fn add(state: &mut State, value: u64) -> u64
+    requires { length state.old.words < state.old.room }
+    ensures list { state.new ≡ record state.old { words = (added state.old.words value).0 } }
+    ensures reply { result ≡ (added state.old.words value).1 }
+{
+    if place_of(state.words(), value).is_some() {
+        return NO;
+    }
+    insert_in_order(state, value);
+    YES
+}
+
+/// Takes a value out, where it is in the set.
+fn remove(state: &mut State, value: u64) -> u64
+    ensures list { state.new ≡ record state.old { words = (removed state.old.words value).0 } }
+    ensures reply { result ≡ (removed state.old.words value).1 }
+{
+    let Some(place) = place_of(state.words(), value) else {
+        return NO;
+    };
+    state.remove(place as u64);
+    YES
+}
+
+impl SeqObject for IntSet {
+    ghost is_known = { λ _. is_known_word kinds.IntSet };
+
+    ghost init = { λ _. [] };
+
+    ghost next = { λ _ list op. set_after list (set_operation op) };
+
+    ghost begins_small = { λ _. length-none };
+
+    ghost grows_by_one = { λ _ list op. length-set_after list (set_operation op) };
+
+    ghost unknown_is_bad = { λ _ list op. set_after-unknown list op };
+
+    fn known(&self, op: OpWord) -> bool {
+        Kind::IntSet.known(op)
+    }
+
+    fn reset(&self, state: &mut State) {
+        state.clear();
+    }
+
+    fn step(&self, state: &mut State, op: OpWord) -> u64 {
+        match IntSetOperation::from_word(op) {
+            Some(IntSetOperation::Add(value)) => add(state, u64::from(value)),
+            Some(IntSetOperation::Remove(value)) => remove(state, u64::from(value)),
+            Some(IntSetOperation::Has(value)) => {
+                if place_of(state.words(), u64::from(value)).is_some() {
+                    YES
+                } else {
+                    NO
+                }
+            }
+            None => BAD,
+        }
+    }
+}

@@ -1,0 +1,29 @@
+//! The six sequential objects, and the words of operations and replies with their texts.
+#![tactic(auto)]
+
+mod counter;
+mod digits;
+mod entry;
+mod int_set;
+mod items;
+mod kind;
+mod laws;
+mod pqueue;
+mod queue;
+mod register;
+mod reply;
+mod stack;
+
+pub use counter::Counter;
+pub use digits::{number, put_number};
+pub use int_set::IntSet;
+pub use kind::Kind;
+pub use laws::{one_name_per_kind, one_text_per_operation, one_text_per_reply};
+pub use pqueue::Pqueue;
+pub use queue::Queue;
+pub use register::Register;
+pub use reply::{DONE, NO, NONE, YES, put_reply, reply_from_word, value_reply};
+pub use stack::Stack;
+
+#[cfg(test)]
+mod tests;

@@ -1,0 +1,70 @@
+ghost use Rattle.std.specs.Prelude.{[], ◌≡◌};
+ghost use Rattle.seq_objects.specs.declared.kind.Kind.TheVariants as kinds;
+ghost use Rattle.seq_objects.specs.Words.{is_known_word};
+ghost use Rattle.seq_objects.specs.Objects.{pqueue_operation, pqueue_after};
+ghost use Rattle.seq_objects.specs.ObjectLaws.{length-none, length-pqueue_after, pqueue_after-unknown};
+
+use crate::entry::{INSERT, MIN, argument_of};
+use crate::items::{insert_in_order, take_first};
+use crate::kind::Kind;
+use crate::reply::DONE;
+use book_base::{BAD, OpWord, SeqObject, State};
+
+/// A priority queue, which gives the least item first.
+#[derive(Clone, Copy, Debug)]
+pub struct Pqueue;
+
+/// What an operation asks of a priority queue.
+#[derive(Clone, Copy)]
+enum PqueueOperation {
+    Insert(u32),
+    Min,
+}
+
+impl PqueueOperation {
+    /// What an operation word asks of a priority queue, where it knows the word.
+    fn from_word(word: OpWord) -> Option<PqueueOperation>
+        ensures { result ≡ pqueue_operation word }
+    {
+        if INSERT.has(word) {
+            Some(PqueueOperation::Insert(argument_of(word)))
+        } else if MIN.has(word) {
+            Some(PqueueOperation::Min)
+        } else {
+            None
+        }
+    }
+}
+
+impl SeqObject for Pqueue {
+    ghost is_known = { λ _. is_known_word kinds.Pqueue };
+
+    ghost init = { λ _. [] };
+
+    ghost next = { λ _ list op. pqueue_after list (pqueue_operation op) };
+
+    ghost begins_small = { λ _. length-none };
+
+    ghost grows_by_one = { λ _ list op. length-pqueue_after list (pqueue_operation op) };
+
+    ghost unknown_is_bad = { λ _ list op. pqueue_after-unknown list op };
+
+    fn known(&self, op: OpWord) -> bool {
+        Kind::Pqueue.known(op)
+    }
+
+    fn reset(&self, state: &mut State) {
+        state.clear();
+    }
+
+    fn step(&self, state: &mut State, op: OpWord) -> u64 {
+        match PqueueOperation::from_word(op) {
+            Some(PqueueOperation::Insert(value)) => {
+                insert_in_order(state, u64::from(value));
+                DONE
+            }
+            Some(PqueueOperation::Min) => take_first(state),
+            None => BAD,
+        }
+    }
+}

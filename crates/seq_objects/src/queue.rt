@@ -1,0 +1,70 @@
+ghost use Rattle.std.specs.Prelude.{[], ◌≡◌};
+ghost use Rattle.seq_objects.specs.declared.kind.Kind.TheVariants as kinds;
+ghost use Rattle.seq_objects.specs.Words.{is_known_word};
+ghost use Rattle.seq_objects.specs.Objects.{queue_operation, queue_after};
+ghost use Rattle.seq_objects.specs.ObjectLaws.{length-none, length-queue_after, queue_after-unknown};
+
+use crate::entry::{DEQ, ENQ, argument_of};
+use crate::items::take_first;
+use crate::kind::Kind;
+use crate::reply::DONE;
+use book_base::{BAD, OpWord, SeqObject, State};
+
+/// A first-in first-out queue.
+#[derive(Clone, Copy, Debug)]
+pub struct Queue;
+
+/// What an operation asks of a queue.
+#[derive(Clone, Copy)]
+enum QueueOperation {
+    Enqueue(u32),
+    Dequeue,
+}
+
+impl QueueOperation {
+    /// What an operation word asks of a queue, where it knows the word.
+    fn from_word(word: OpWord) -> Option<QueueOperation>
+        ensures { result ≡ queue_operation word }
+    {
+        if ENQ.has(word) {
+            Some(QueueOperation::Enqueue(argument_of(word)))
+        } else if DEQ.has(word) {
+            Some(QueueOperation::Dequeue)
+        } else {
+            None
+        }
+    }
+}
+
+impl SeqObject for Queue {
+    ghost is_known = { λ _. is_known_word kinds.Queue };
+
+    ghost init = { λ _. [] };
+
+    ghost next = { λ _ list op. queue_after list (queue_operation op) };
+
+    ghost begins_small = { λ _. length-none };
+
+    ghost grows_by_one = { λ _ list op. length-queue_after list (queue_operation op) };
+
+    ghost unknown_is_bad = { λ _ list op. queue_after-unknown list op };
+
+    fn known(&self, op: OpWord) -> bool {
+        Kind::Queue.known(op)
+    }
+
+    fn reset(&self, state: &mut State) {
+        state.clear();
+    }
+
+    fn step(&self, state: &mut State, op: OpWord) -> u64 {
+        match QueueOperation::from_word(op) {
+            Some(QueueOperation::Enqueue(value)) => {
+                state.push(u64::from(value));
+                DONE
+            }
+            Some(QueueOperation::Dequeue) => take_first(state),
+            None => BAD,
+        }
+    }
+}

@@ -1,0 +1,71 @@
+ghost use Rattle.std.specs.Prelude.{[], ◌∷◌, ◌≡◌};
+ghost use Rattle.seq_objects.specs.declared.kind.Kind.TheVariants as kinds;
+ghost use Rattle.seq_objects.specs.Words.{is_known_word};
+ghost use Rattle.seq_objects.specs.Objects.{register_operation, register_after};
+ghost use Rattle.seq_objects.specs.ObjectLaws.{length-one, length-register_after, register_after-unknown};
+
+use crate::entry::{READ, WRITE, argument_of};
+use crate::items::{first_or_zero, set_only};
+use crate::kind::Kind;
+use crate::reply::{DONE, value_reply};
+use book_base::{BAD, OpWord, SeqObject, State};
+
+/// A register, which is 0 at first.
+#[derive(Clone, Copy, Debug)]
+pub struct Register;
+
+/// What an operation asks of a register.
+#[derive(Clone, Copy)]
+enum RegisterOperation {
+    Write(u32),
+    Read,
+}
+
+impl RegisterOperation {
+    /// What an operation word asks of a register, where it knows the word.
+    fn from_word(word: OpWord) -> Option<RegisterOperation>
+        ensures { result ≡ register_operation word }
+    {
+        if WRITE.has(word) {
+            Some(RegisterOperation::Write(argument_of(word)))
+        } else if READ.has(word) {
+            Some(RegisterOperation::Read)
+        } else {
+            None
+        }
+    }
+}
+
+impl SeqObject for Register {
+    ghost is_known = { λ _. is_known_word kinds.Register };
+
+    ghost init = { λ _. 0 ∷ [] };
+
+    ghost next = { λ _ list op. register_after list (register_operation op) };
+
+    ghost begins_small = { λ _. length-one };
+
+    ghost grows_by_one = { λ _ list op. length-register_after list (register_operation op) };
+
+    ghost unknown_is_bad = { λ _ list op. register_after-unknown list op };
+
+    fn known(&self, op: OpWord) -> bool {
+        Kind::Register.known(op)
+    }
+
+    fn reset(&self, state: &mut State) {
+        state.clear();
+        state.push(0);
+    }
+
+    fn step(&self, state: &mut State, op: OpWord) -> u64 {
+        match RegisterOperation::from_word(op) {
+            Some(RegisterOperation::Write(value)) => {
+                set_only(state, u64::from(value));
+                DONE
+            }
+            Some(RegisterOperation::Read) => value_reply(first_or_zero(state)),
+            None => BAD,
+        }
+    }
+}

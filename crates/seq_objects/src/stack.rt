@@ -1,0 +1,70 @@
+ghost use Rattle.std.specs.Prelude.{[], ◌≡◌};
+ghost use Rattle.seq_objects.specs.declared.kind.Kind.TheVariants as kinds;
+ghost use Rattle.seq_objects.specs.Words.{is_known_word};
+ghost use Rattle.seq_objects.specs.Objects.{stack_operation, stack_after};
+ghost use Rattle.seq_objects.specs.ObjectLaws.{length-none, length-stack_after, stack_after-unknown};
+
+use crate::entry::{POP, PUSH, argument_of};
+use crate::items::take_last;
+use crate::kind::Kind;
+use crate::reply::DONE;
+use book_base::{BAD, OpWord, SeqObject, State};
+
+/// A last-in first-out stack.
+#[derive(Clone, Copy, Debug)]
+pub struct Stack;
+
+/// What an operation asks of a stack.
+#[derive(Clone, Copy)]
+enum StackOperation {
+    Push(u32),
+    Pop,
+}
+
+impl StackOperation {
+    /// What an operation word asks of a stack, where it knows the word.
+    fn from_word(word: OpWord) -> Option<StackOperation>
+        ensures { result ≡ stack_operation word }
+    {
+        if PUSH.has(word) {
+            Some(StackOperation::Push(argument_of(word)))
+        } else if POP.has(word) {
+            Some(StackOperation::Pop)
+        } else {
+            None
+        }
+    }
+}
+
+impl SeqObject for Stack {
+    ghost is_known = { λ _. is_known_word kinds.Stack };
+
+    ghost init = { λ _. [] };
+
+    ghost next = { λ _ list op. stack_after list (stack_operation op) };
+
+    ghost begins_small = { λ _. length-none };
+
+    ghost grows_by_one = { λ _ list op. length-stack_after list (stack_operation op) };
+
+    ghost unknown_is_bad = { λ _ list op. stack_after-unknown list op };
+
+    fn known(&self, op: OpWord) -> bool {
+        Kind::Stack.known(op)
+    }
+
+    fn reset(&self, state: &mut State) {
+        state.clear();
+    }
+
+    fn step(&self, state: &mut State, op: OpWord) -> u64 {
+        match StackOperation::from_word(op) {
+            Some(StackOperation::Push(value)) => {
+                state.push(u64::from(value));
+                DONE
+            }
+            Some(StackOperation::Pop) => take_last(state),
+            None => BAD,
+        }
+    }
+}

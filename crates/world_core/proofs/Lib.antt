@@ -1,0 +1,9 @@
+pub mod Scans
+pub mod Indices
+pub mod Agreeing
+pub mod Running
+pub mod Instants
+pub mod Spans
+pub mod Moments
+pub mod Holding
+pub mod Looking

@@ -1,0 +1,77 @@
+-- How a local and the words of the table agree, in every reachable world.
+use Rattle.std.specs.Prelude.{◌≡◌, ℕ, ◌+◌, ◌<◌, ◌≤◌, true, false, IsTrue, List, [], length, Option, Some, None, slice_index}
+use Rattle.world_core.specs.declared.region.Region.{Region}
+use Rattle.world_core.specs.declared.region.Region.TheVariants.{N}
+use Rattle.world_core.specs.Layout.{Shape, places, content, count_index, place_index}
+use Rattle.world_core.specs.Local.{Phase, Announcing, Asking, Viewing, Publishing, Judging, Staged, Scan, Local, own_count, word_of}
+use Rattle.world_core.specs.Event.{is_staging, is_staged, staged_at, is_due}
+
+-- In each phase: how many announced calls, how many replies and how many views are of no published record yet, and how many
+-- published records have no seen cut yet.
+abbrev pub unpublished_calls : Phase → ℕ
+unpublished_calls Announcing = 0
+unpublished_calls Asking = 1
+unpublished_calls Viewing = 1
+unpublished_calls Publishing = 1
+unpublished_calls Judging = 0
+
+abbrev pub unpublished_replies : Phase → ℕ
+unpublished_replies Announcing = 0
+unpublished_replies Asking = 0
+unpublished_replies Viewing = 1
+unpublished_replies Publishing = 1
+unpublished_replies Judging = 0
+
+abbrev pub unpublished_views : Phase → ℕ
+unpublished_views Announcing = 0
+unpublished_views Asking = 0
+unpublished_views Viewing = 0
+unpublished_views Publishing = 1
+unpublished_views Judging = 0
+
+abbrev pub unseen_records : Phase → ℕ
+unseen_records Announcing = 0
+unseen_records Asking = 0
+unseen_records Viewing = 0
+unseen_records Publishing = 0
+unseen_records Judging = 1
+
+-- The counts of a local and the lengths of its lists are those of its phase.
+pub record HasPhase (l : Local) : Type 0 where
+  pub announced : l.announced ≡ l.published + unpublished_calls l.phase
+  pub operations : length l.operations ≡ l.announced
+  pub replies : length l.replies ≡ l.published + unpublished_replies l.phase
+  pub views : length l.views ≡ l.published + unpublished_views l.phase
+  pub seen : length l.seen + unseen_records l.phase ≡ l.published
+
+-- The view's scan, which is of N, is under way in the phase view and in no other.
+abbrev pub FitsPhase : Phase → Option Scan → Type 0
+FitsPhase Viewing None = ⊥
+FitsPhase Viewing (Some scan) = (scan.is_view ≡ true) × (scan.region ≡ N)
+FitsPhase _ None = Unit {0}
+FitsPhase _ (Some scan) = scan.is_view ≡ false
+
+-- A word is staged in the phases announce and publish alone.
+abbrev pub IsStagedIn : Phase → List Staged → Type 0
+IsStagedIn Announcing staged = Unit {0}
+IsStagedIn Publishing staged = Unit {0}
+IsStagedIn _ staged = staged ≡ []
+
+-- A staged word stands at its place of the row under way, which exists, and is what belongs there.
+pub record IsInRow (s : Shape) (words : List ℕ) (i : ℕ) (l : Local) (region : Region) (place : ℕ) : Type 0 where
+  pub row : own_count l region < s.cap
+  pub place_fits : place < places s.callers region
+  pub stands : slice_index words (place_index s region i (own_count l region) place) ≡ staged_at l.staged place
+  pub due : IsTrue (is_due l (content s.callers region place) (staged_at l.staged place))
+
+-- The local of caller i agrees with the words: its own counts are its count words; each row below them has the words of its
+-- call; and what it staged stands in the row under way.
+pub record Agrees (s : Shape) (words : List ℕ) (i : ℕ) (l : Local) : Type 0 where
+  pub counts : (region : Region) → slice_index words (count_index s region i) ≡ own_count l region
+  pub few : l.announced ≤ s.cap
+  pub rows : (region : Region) (k place : ℕ) → k < own_count l region → place < places s.callers region
+      → slice_index words (place_index s region i k place) ≡ word_of l k (content s.callers region place)
+  pub staged : (region : Region) (place : ℕ) → IsTrue (is_staging l.phase region) → IsTrue (is_staged l.staged place) → IsInRow s words i l region place
+  pub staged_in : IsStagedIn l.phase l.staged
+  pub phase : HasPhase l
+  pub scan : FitsPhase l.phase l.scan

@@ -1,0 +1,13 @@
+pub mod Layout
+pub mod Scan
+pub mod Local
+pub mod Event
+pub mod World
+pub mod Snapshot
+pub mod History
+pub mod Schedules
+pub mod Standing
+pub mod ScanLayout
+pub mod Agreement
+pub mod Laws
+pub mod Refusals

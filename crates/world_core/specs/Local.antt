@@ -1,0 +1,95 @@
+-- What one caller has done and found so far, as plain data.
+use Rattle.std.specs.Prelude.{◌≡◌, ℕ, Bool, List, [], Option, None, slice_index, slice_index_or}
+use Rattle.world_core.specs.Layout.{Content, Operation, Reply, View_entry}
+use Rattle.world_core.specs.declared.region.Region.{Region}
+use Rattle.world_core.specs.declared.region.Region.TheVariants.{N, M}
+
+-- The five phases of a call: announce the operation, ask the object, take the view, publish the record, and judge.
+pub data Phase : Type 0 where
+  Announcing : Phase
+  Asking : Phase
+  Viewing : Phase
+  Publishing : Phase
+  Judging : Phase
+
+-- A word staged at a place of the row under way.
+pub record Staged : Type 0 where
+  pub place : ℕ
+  pub word : ℕ
+
+-- A scan under way: its region, whether it is the view's, and the words that it has taken, in order.
+pub record Scan : Type 0 where
+  pub region : Region
+  pub is_view : Bool
+  pub taken : List ℕ
+
+-- A cut that a scan of a region gave.
+pub record Given : Type 0 where
+  pub region : Region
+  pub cut : List ℕ
+
+-- A count that was looked at.
+pub record Looked : Type 0 where
+  pub region : Region
+  pub caller : ℕ
+  pub count : ℕ
+
+-- A row word that was peeked.
+pub record Peeked : Type 0 where
+  pub region : Region
+  pub caller : ℕ
+  pub row : ℕ
+  pub place : ℕ
+  pub word : ℕ
+
+-- The local of a caller: the operations that it announced, and its counts in N and M; its replies, its views and its seen
+-- cuts; its phase, the words staged in the row under way, and the scan under way; the cuts that its scans gave; the counts
+-- that it has looked at, and the row words that it has peeked. What was staged, looked at and peeked stands newest first,
+-- all else oldest first.
+pub record Local : Type 0 where
+  pub operations : List ℕ
+  pub announced : ℕ
+  pub published : ℕ
+  pub replies : List ℕ
+  pub views : List (List ℕ)
+  pub seen : List (List ℕ)
+  pub phase : Phase
+  pub staged : List Staged
+  pub scan : Option Scan
+  pub cuts : List Given
+  pub looked : List Looked
+  pub peeked : List Peeked
+
+-- The local at the start: empty and idle.
+abbrev pub fresh : Local
+fresh =
+    record {
+      operations = [];
+      announced = 0;
+      published = 0;
+      replies = [];
+      views = [];
+      seen = [];
+      phase = Announcing;
+      staged = [];
+      scan = None;
+      cuts = [];
+      looked = [];
+      peeked = [];
+    }
+
+-- The caller's own count in a region, which is also the number of the row that it stages there next.
+abbrev pub own_count : Local → Region → ℕ
+own_count l N = l.announced
+own_count l M = l.published
+
+-- A caller is idle where it announces next and has staged no word of its row.
+pub record IsIdle (l : Local) : Type 0 where
+  pub announcing : l.phase ≡ Announcing
+  pub unstaged : l.staged ≡ []
+
+-- The word of call k that belongs at a place of its row: its operation, its reply, or an entry of its view.
+abbrev pub word_of : Local → ℕ → Content → ℕ
+word_of l k Operation = slice_index l.operations k
+word_of l k Reply = slice_index l.replies k
+word_of l k (View_entry j) = slice_index (slice_index_or l.views k []) j
