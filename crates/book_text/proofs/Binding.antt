@@ -1,7 +1,6 @@
 -- What followed from what, where something was read.
 use Rattle.std.proofs.Common.{◌≡◌, ℕ, Bool, true, false, cond, List, [], ◌∷◌, Option, Some, None, Result, Ok, Err, refl}
 use Rattle.std.specs.Prelude.{option_map, option_and_then, ok_or}
-use Rattle.book_base.specs.declared.fault.TextFault.{TextFault}
 use Rattle.book_base.specs.declared.fault.What.{What}
 use Rattle.book_text.specs.Reading.{◌>>=◌, at_line, last_at}
 
@@ -36,6 +35,3 @@ if_some false o y e = absurd cc
 pub if_ok : {A E : Type 0} (b : Bool) (x y : A) (d : E) → cond b (Ok x) (Err d) ≡ Ok y → (b ≡ true) × (x ≡ y)
 if_ok true x y d e = (refl, cc)
 if_ok false x y d e = absurd cc
-
-pub pair_is : {A B : Type 0} {a c : A} {b d : B} → a ≡ c → b ≡ d → ◌≡◌ {A = A × B} (a, b) (c, d)
-pair_is e f = cc

@@ -1,20 +1,23 @@
 -- The text of a book is read as that book.
-use Rattle.std.proofs.Common.{◌≡◌, ℕ, zero, suc, ◌+◌, ◌-◌, ◌^◌, ◌<◌, ◌≤◌, Bool, true, false, cond, ltb, List, [], ◌∷◌, ◌++◌, length, get_or, map, Option, Some, None, Result, Ok, Err, refl, sym, ap, subst, ◌∙◌, append_assoc, arith, inl, inr, add-one}
-use Rattle.std.specs.Prelude.{is_some, not, option_to_list, ok_or, IfErr, MatchResult, codes, bytes_eq, decimal, slice_get}
-use Rattle.std.specs.List.{AllByRecursion, All, join_with_byte, list_all}
+use Rattle.std.proofs.Common.{◌≡◌, ℕ, zero, suc, ◌+◌, ◌-◌, ◌^◌, ◌<◌, ◌≤◌, Bool, true, false, ltb, List, [], ◌∷◌, ◌++◌, length, get_or, map, Option, Some, None, Result, Ok, Err, refl, sym, ap, subst, ◌∙◌, arith}
+use Rattle.std.specs.Prelude.{is_some, not, option_to_list, codes, decimal}
+use Rattle.std.specs.List.{AllByRecursion, join_with_byte}
 use Rattle.std.proofs.lemmas.Bool.{lt-ltb}
 use Rattle.std.proofs.lemmas.Slice.Eq.{bytes_eq-Decides}
-use Rattle.std.proofs.lemmas.List.{length-map, append-nil}
+use Rattle.std.proofs.lemmas.List.{length-map}
 use Rattle.std.proofs.lemmas.List.Sums.{list_all-from_AllPass}
 use Rattle.std.proofs.lemmas.List.Elements.{recursion_from_All, All-from_recursion}
 use Rattle.std.proofs.lemmas.Option.{slice_get-get_or}
 use Rattle.book_base.specs.declared.call.Call.{Call}
 use Rattle.book_base.specs.declared.call.Record.{Record}
+use Rattle.std.specs.Prelude.{◌⊎◌, MatchResult, IfErr}
+use Rattle.std.proofs.Common.{inl, inr}
+use Rattle.book_base.specs.declared.fault.ReadFault.{ReadFault}
+use Rattle.book_base.specs.declared.fault.ReadFault.TheVariants as faults
 use Rattle.book_base.specs.declared.fault.TextFault.{TextFault}
 use Rattle.book_base.specs.declared.fault.What.{What}
 use Rattle.book_base.specs.declared.fault.What.TheVariants as what
 use Rattle.book_base.specs.declared.TheConstants.{MAX_CALLS}
-use Rattle.book_base.specs.Cut.{IsWithin}
 use Rattle.book_base.specs.Book.{Page, page_of, calls_of, record_of, announced, IsValid}
 use Rattle.book_base.proofs.GrowthLemmas.{announced_at}
 use Rattle.seq_objects.specs.declared.kind.Kind.TheVariants.{Queue}
@@ -22,12 +25,13 @@ use Rattle.seq_objects.specs.Words.{operation_words, IsWord}
 use Rattle.seq_objects.specs.Replies.{reply_word}
 use Rattle.seq_objects.proofs.Texts.{IsWord-decimal, operation_words-IsWord, reply_word-IsWord}
 use Rattle.book_text.specs.declared.TheConstants.{TEXT_CALLERS, TEXT_CALLS}
-use Rattle.book_text.specs.Lines.{Unread, line_at, words_of}
-use Rattle.book_text.specs.Grammar.{line_text, text_of, answer_words, call_words, page_lines, call_lines, book_lines, IsTextOperation, IsTextAnswer, IsTextPage, IsBookText}
-use Rattle.book_text.specs.Reading.{◌>>=◌, at_line, call_at, exact_at, callers_in, callers_at, named_counts_at, calls_at, head_at, call_line_at, page_at, pages_at, nothing_at, end_at, calls_and_end_at, book_at}
+use Rattle.book_text.specs.Lines.{Unread}
+use Rattle.book_text.specs.Grammar.{line_text, text_of, answer_words, call_words, page_lines, call_lines, book_lines, IsTextOperation, IsTextAnswer, IsTextPage, IsBookText, IsNoBookText}
+use Rattle.book_text.specs.Reading.{call_at, exact_at, callers_at, calls_at, head_at, call_line_at, page_at, pages_at, end_at, calls_and_end_at, book_at}
+use Rattle.book_text.proofs.ListLaws.{get_or-default}
 use Rattle.book_text.proofs.WordTexts.{AreCounts, callers_again, named_counts_again, answered_again, unanswered_again}
 use Rattle.book_text.proofs.LineTexts.{is_solid, AreSolid, line_again, words_of-join}
-use Rattle.book_text.proofs.BookReads.{head_of, text_of-cons, text_of-append, one_line, book_text}
+use Rattle.book_text.proofs.BookReads.{head_of, text_of-cons, text_of-append, book_text}
 
 -- ---- words without spaces
 
@@ -196,11 +200,6 @@ book_again book some few fit written =
 
 -- ---- a valid book can be written
 
-get_or-default : {A : Type 0} (xs : List A) (i : ℕ) (d e : A) → i < length xs → get_or xs i d ≡ get_or xs i e
-get_or-default [] i d e lt = absurd (omega arith)
-get_or-default (x ∷ xs) zero d e lt = refl
-get_or-default (x ∷ xs) (suc i) d e lt = get_or-default xs i d e (omega arith)
-
 pub few_calls : (book : List Page) → AllByRecursion IsTextPage book → (j : ℕ) → calls_of book j ≤ TEXT_CALLS
 few_calls [] h j = omega arith
 few_calls (page ∷ book) h zero = h.0.calls
@@ -238,3 +237,21 @@ text_again bytes book h = ap (λ (x : List ℕ). book_at (record { bytes = x; nu
 
 pub few_enough : (book : List Page) → AllByRecursion IsTextPage book → (i : ℕ) → calls_of book i ≤ MAX_CALLS
 few_enough book h i = omega (arith, few_calls book h i)
+
+abbrev read : List Page → Result (List Page) TextFault
+read book = Ok book
+
+same_book : (a b : List Page) → read a ≡ read b → a ≡ b
+same_book a b e = cc
+
+-- a text is that of one book
+pub one_book : (bytes : List ℕ) (a b : List Page) → IsBookText bytes a → IsBookText bytes b → a ≡ b
+one_book bytes a b h k = same_book a b (sym (text_again bytes a h) ∙ text_again bytes b k)
+
+-- what refuses no book's text, but for memory, refuses a text only where it is no book's
+pub refused_text : (result : Result (List Page) ReadFault) (bytes : List ℕ)
+    → ((book : List Page) → IsBookText bytes book → MatchResult result (λ b. b ≡ book) (λ e. e ≡ faults.NoMemory))
+    → IfErr result (λ e. (e ≡ faults.NoMemory) ⊎ IsNoBookText bytes)
+refused_text (Ok book) bytes only = tt
+refused_text (Err faults.NoMemory) bytes only = inl refl
+refused_text (Err (faults.Text fault)) bytes only = inr (λ book h. let e = only book h in absurd cc)

@@ -1,7 +1,7 @@
 -- What is read as a book is the text of that book.
-use Rattle.std.proofs.Common.{◌≡◌, ℕ, zero, suc, ◌+◌, ◌^◌, ◌<◌, ◌≤◌, Bool, true, false, cond, List, [], ◌∷◌, ◌++◌, length, map, Option, Some, None, Result, Ok, Err, refl, sym, ap, subst, ◌∙◌, append_assoc, arith}
+use Rattle.std.proofs.Common.{◌≡◌, ℕ, zero, suc, ◌+◌, ◌≤◌, Bool, true, false, cond, List, [], ◌∷◌, ◌++◌, length, map, Option, Some, None, Result, Ok, Err, refl, sym, ap, subst, ◌∙◌, append_assoc, arith}
 use Rattle.std.specs.Prelude.{is_some, not, option_to_list, ok_or, IfSome, IfOk, codes, bytes_eq, decimal}
-use Rattle.std.specs.List.{AllByRecursion, join_with_byte, flat_map}
+use Rattle.std.specs.List.{AllByRecursion, join_with_byte}
 use Rattle.std.proofs.lemmas.Slice.Eq.{bytes_eq-Decides}
 use Rattle.std.proofs.lemmas.List.{append-nil, length-map}
 use Rattle.std.proofs.lemmas.List.Concat.{flat_map-cons, flat_map-append}
@@ -17,7 +17,7 @@ use Rattle.book_text.specs.declared.TheConstants.{TEXT_CALLERS, TEXT_CALLS}
 use Rattle.book_text.specs.Lines.{Unread, line_at, words_of}
 use Rattle.book_text.specs.Grammar.{line_text, text_of, call_words, page_lines, call_lines, head_lines, book_lines, IsTextOperation, IsTextAnswer, IsTextPage, IsBookText}
 use Rattle.book_text.specs.Reading.{◌>>=◌, at_line, call_at, exact_at, callers_in, callers_at, named_counts_at, calls_at, head_at, call_line_at, page_at, pages_at, nothing_at, end_at, calls_and_end_at, book_at}
-use Rattle.book_text.proofs.Binding.{bind_ok, ok_or_ok, at_line_ok, if_ok, pair_is}
+use Rattle.book_text.proofs.Binding.{bind_ok, ok_or_ok, at_line_ok, if_ok}
 use Rattle.book_text.proofs.WordTexts.{AreCounts, callers_take, named_counts_take, call_takes}
 use Rattle.book_text.proofs.LineTexts.{line_takes}
 

@@ -1,3 +1,4 @@
+pub mod ListLaws
 pub mod Cuts
 pub mod NumberTexts
 pub mod CountsLoop

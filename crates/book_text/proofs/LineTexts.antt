@@ -1,16 +1,15 @@
 -- The text of a line is read as its words.
-use Rattle.std.proofs.Common.{◌≡◌, ℕ, zero, suc, ◌+◌, ◌^◌, ◌<◌, ◌≤◌, Bool, true, false, cond, eqb, ltb, List, [], ◌∷◌, ◌++◌, length, take, drop, map, Option, Some, None, Result, Ok, Err, refl, sym, ap, subst, ◌∙◌, append_assoc, arith, inl, inr}
-use Rattle.std.specs.Prelude.{not, ◌&&◌, option_map}
-use Rattle.std.specs.List.{AllByRecursion, All, list_all, prefix_len, slice_split, join_with_byte, flat_map}
-use Rattle.std.proofs.lemmas.Bool.{ltb-true, lt-ltb, ne_eqb, eq-eqb, and_parts, and_from, cond-true, cond-false, not-true}
+use Rattle.std.proofs.Common.{◌≡◌, ℕ, ◌+◌, ◌<◌, ◌≤◌, Bool, true, false, eqb, ltb, List, [], ◌∷◌, ◌++◌, length, take, drop, Option, Some, None, Result, Ok, refl, sym, ap, ◌∙◌, append_assoc, arith}
+use Rattle.std.specs.Prelude.{not}
+use Rattle.std.specs.List.{AllByRecursion, list_all, prefix_len, join_with_byte}
+use Rattle.std.proofs.lemmas.Bool.{ltb-true, lt-ltb, ne_eqb, eq-eqb, and_parts, and_from, not-true}
 use Rattle.std.proofs.lemmas.List.{take_at, drop_at, length-append}
 use Rattle.std.proofs.lemmas.List.Elements.{All-from_recursion}
 use Rattle.std.proofs.lemmas.List.Splits.{slice_split_none, slice_split_at, join_with_byte-slice_split}
-use Rattle.std.proofs.lemmas.List.Concat.{flat_map-cons}
 use Rattle.book_base.specs.declared.fault.TextFault.{TextFault}
 use Rattle.book_text.specs.Lines.{Unread, cut_at, line_from, line_at, words_of}
-use Rattle.book_text.specs.Grammar.{line_text, text_of}
-use Rattle.book_text.proofs.Binding.{pair_is}
+use Rattle.book_text.specs.Grammar.{line_text}
+use Rattle.book_text.proofs.ListLaws.{pair_is, prefix_len-front}
 use Rattle.book_text.proofs.Cuts.{cut_joins}
 
 -- no byte of the list is this one
@@ -38,12 +37,6 @@ lacks-append byte [] ys a b = b
 lacks-append byte (x ∷ xs) ys a b =
     let parts = and_parts (not (eqb x byte)) (lacks byte xs) a in
     and_from (not (eqb x byte)) (lacks byte (xs ++ ys)) parts.0 (lacks-append byte xs ys parts.1 b)
-
-prefix_len-front : (q : ℕ → Bool) (xs : List ℕ) (y : ℕ) (ys : List ℕ) → list_all q xs ≡ true → q y ≡ false → prefix_len q (xs ++ y ∷ ys) ≡ length xs
-prefix_len-front q [] y ys a stops = cond-false (q y) (1 + prefix_len q ys) 0 stops
-prefix_len-front q (x ∷ xs) y ys a stops =
-    let parts = and_parts (q x) (list_all q xs) a in
-    cond-true (q x) (1 + prefix_len q (xs ++ y ∷ ys)) 0 parts.0 ∙ ap (λ (n : ℕ). 1 + n) (prefix_len-front q xs y ys parts.1 stops) ∙ omega arith
 
 cut_front : (byte : ℕ) (front rest : List ℕ) → lacks byte front ≡ true → cut_at byte (front ++ byte ∷ rest) ≡ Some (front, rest)
 cut_front byte front rest h =

@@ -1,12 +1,12 @@
 -- The words of a queue's operations and replies are read as what they stand for.
-use Rattle.std.proofs.Common.{◌≡◌, ℕ, ◌+◌, ◌*◌, ◌/◌, ◌%◌, ◌^◌, ◌<◌, ◌≤◌, Bool, true, false, cond, eqb, ltb, List, [], ◌∷◌, ◌++◌, length, Option, Some, None, refl, sym, ap, subst, ◌∙◌, arith, inl, inr}
-use Rattle.std.specs.Prelude.{◌⊎◌, ◌≢◌, ◌&&◌, ◌||◌, is_some, option_map, option_and_then, codes, bytes_eq, decimal, IsTrue}
+use Rattle.std.proofs.Common.{◌≡◌, ℕ, ◌+◌, ◌*◌, ◌/◌, ◌%◌, ◌^◌, ◌<◌, Bool, true, false, cond, eqb, ltb, List, [], ◌∷◌, Option, Some, None, refl, sym, ap, subst, ◌∙◌, arith, inl, inr}
+use Rattle.std.specs.Prelude.{◌⊎◌, ◌||◌, is_some, option_map, option_and_then, codes, bytes_eq, decimal}
 use Rattle.std.proofs.lemmas.Bool.{ltb-true, lt-ltb, eqb-true, eq-eqb, and_parts, and_from, or_cases, cases_Bool}
 use Rattle.std.proofs.lemmas.Option.{cond_some, some_pair_parts, same_Some}
 use Rattle.std.proofs.lemmas.Slice.Eq.{bytes_eq-Decides}
 use Rattle.seq_objects.specs.declared.kind.Kind.TheVariants.{Queue}
 use Rattle.seq_objects.specs.Words.{Entry, enq, deq, entries, is_operation_of, entry_of, is_known_word, operation_words, Spells}
-use Rattle.seq_objects.specs.Replies.{reply_word, reply_done, reply_none, is_value, named_reply, named_replies}
+use Rattle.seq_objects.specs.Replies.{reply_word, is_value, named_reply, named_replies}
 use Rattle.seq_objects.proofs.ListLaws.{IsIn}
 use Rattle.seq_objects.proofs.Spelling.{operation_words-known, Spells-entry, Spells-once}
 use Rattle.seq_objects.proofs.Tables.{entry_of-operation, entry_of-inside}
@@ -14,15 +14,13 @@ use Rattle.seq_objects.proofs.ReplyTexts.{reply_word-value, reply_word-once}
 use Rattle.book_text.specs.Grammar.{IsTextOperation, IsKnownOperation, IsKnownReply, is_queue_reply}
 use Rattle.book_text.specs.Numbers.{number_of}
 use Rattle.book_text.specs.Reading.{argument_of, operation_of, value_of, reply_of}
+use Rattle.book_text.proofs.ListLaws.{pair_is}
 use Rattle.book_text.proofs.NumberTexts.{number_of-decimal, number_of-Some}
 
 -- what a word is read as, and is the text of
 pub record IsOperation (first : List ℕ) (second : Option (List ℕ)) (op : ℕ) (used : Bool) : Type 0 where
   pub spells : Spells Queue first second op used
   pub fits : IsTextOperation op
-
-pair_is : {A B : Type 0} {a c : A} {b d : B} → a ≡ c → b ≡ d → ◌≡◌ {A = A × B} (a, b) (c, d)
-pair_is e f = cc
 
 pair_words : {a b c d : List ℕ} → a ≡ c → b ≡ d → a ∷ b ∷ [] ≡ c ∷ d ∷ []
 pair_words e f = cc

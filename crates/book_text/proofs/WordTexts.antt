@@ -1,6 +1,6 @@
 -- What is read of words is what they are the text of, and what they are the text of is read.
-use Rattle.std.proofs.Common.{◌≡◌, ℕ, zero, suc, ◌+◌, ◌*◌, ◌-◌, ◌%◌, ◌^◌, ◌<◌, ◌≤◌, Bool, true, false, cond, eqb, leb, List, [], ◌∷◌, ◌++◌, length, map, drop, Option, Some, None, Result, Ok, Err, refl, sym, ap, subst, ◌∙◌, arith, inl, inr}
-use Rattle.std.specs.Prelude.{◌⊎◌, IfSome, MatchOption, option_map, option_and_then, ok_or, slice_get, codes, bytes_eq, decimal}
+use Rattle.std.proofs.Common.{◌≡◌, ℕ, zero, suc, ◌-◌, ◌%◌, ◌^◌, ◌<◌, ◌≤◌, Bool, true, false, cond, eqb, leb, List, [], ◌∷◌, ◌++◌, length, map, drop, Option, Some, None, Result, Ok, refl, sym, ap, subst, ◌∙◌, arith, inl, inr}
+use Rattle.std.specs.Prelude.{IfSome, option_map, option_and_then, ok_or, slice_get, codes, bytes_eq, decimal}
 use Rattle.std.specs.List.{AllByRecursion}
 use Rattle.std.proofs.lemmas.Bool.{leb-true, le-leb, eqb-true, eq-eqb}
 use Rattle.std.proofs.lemmas.Slice.Eq.{bytes_eq-Decides}
@@ -17,9 +17,10 @@ use Rattle.book_text.specs.declared.TheConstants.{TEXT_CALLERS}
 use Rattle.book_text.specs.Grammar.{answer_words, call_words, IsTextOperation, IsTextAnswer}
 use Rattle.book_text.specs.Numbers.{number_of}
 use Rattle.book_text.specs.Reading.{◌>>=◌, number_at, counts_at, last_at, due_at, place_at, operation_of, operation_at, reply_of, named_counts_at, answer_at, call_at, callers_in}
-use Rattle.book_text.proofs.Binding.{bind_ok, ok_or_ok, and_then_some, map_some, last_some, if_some, pair_is}
+use Rattle.book_text.proofs.Binding.{bind_ok, ok_or_ok, and_then_some, map_some, last_some, if_some}
+use Rattle.book_text.proofs.ListLaws.{pair_is}
 use Rattle.book_text.proofs.NumberTexts.{number_of-decimal, number_of-Some}
-use Rattle.book_text.proofs.QueueWords.{IsOperation, operation_of-Some, operation_of-Spells, operation_shape, IsReply, reply_of-Some, reply_of-IsReply}
+use Rattle.book_text.proofs.QueueWords.{operation_of-Some, operation_of-Spells, operation_shape, reply_of-Some, reply_of-IsReply}
 
 -- ---- numbers
 

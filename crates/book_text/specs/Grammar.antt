@@ -83,3 +83,7 @@ pub record IsBookText (bytes : List ℕ) (book : List Page) : Type 0 where
   pub callers : length book ≤ TEXT_CALLERS
   pub pages : AllByRecursion IsTextPage book
   pub text : bytes ≡ text_of (book_lines book)
+
+-- The bytes are the text of no book.
+abbrev pub IsNoBookText : List ℕ → Type 0
+IsNoBookText bytes = (book : List Page) → ¬ (IsBookText bytes book)

@@ -1,5 +1,5 @@
 -- The text of a number.
-use Rattle.std.specs.Prelude.{ℕ, ◌<◌, ◌^◌, ◌&&◌, List, Option, Some, None, if◌then◌else◌, nat_lt, bytes_eq, decimal}
+use Rattle.std.specs.Prelude.{ℕ, ◌^◌, ◌&&◌, List, Option, Some, None, if◌then◌else◌, nat_lt, bytes_eq, decimal}
 use Rattle.std.specs.Str.Parse.{digits_value}
 
 -- The number below 2^64 that a word is the text of: a word is a number's text exactly where it is what that number is written as.

@@ -1,7 +1,7 @@
-ghost use Rattle.std.specs.Prelude.{◌≡◌, ◌≤◌, ℕ, List, [], length, IfOk, MatchResult, OnOk, Ok};
+ghost use Rattle.std.specs.Prelude.{◌≡◌, ◌≤◌, ◌⊎◌, ℕ, List, [], length, IfOk, IfErr, MatchResult, OnOk, Ok};
 ghost use Rattle.book_base.specs.declared.TheConstants.{MAX_CALLERS, MAX_CALLS};
 ghost use Rattle.book_base.specs.Book.{Page, IsValid, calls_of};
-ghost use Rattle.book_text.specs.Grammar.{IsBookText};
+ghost use Rattle.book_text.specs.Grammar.{IsBookText, IsNoBookText};
 ghost use Rattle.book_text.specs.Reading.{Gives, book_at, calls_and_end_at};
 ghost use Rattle.book_text.specs.Building.{ArePagesWide};
 ghost use Rattle.book_text.specs.PageView.{all_shown};
@@ -21,6 +21,8 @@ pub fn read_book(alloc: Global, bytes: &[u8]) -> Result<Book, ReadFault>
     ensures found { IfOk result (λ book. IsBookText bytes.now book) }
     // A text of a book is read as that book, unless memory runs out.
     ensures only { (book : List Page) → IsBookText bytes.now book → MatchResult result (λ b. b ≡ book) (λ e. e ≡ ReadFault.NoMemory) }
+    // A fault of the text comes only where the bytes are no book's text.
+    ensures refused { IfErr result (λ e. (e ≡ ReadFault.NoMemory) ⊎ IsNoBookText bytes.now) }
 {
     read_valid(alloc, bytes)
 }

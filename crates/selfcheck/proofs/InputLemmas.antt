@@ -1,22 +1,11 @@
 -- What an input says of a book: a text is that of one book.
-use Rattle.std.proofs.Common.{◌≡◌, ℕ, List, Result, Ok, sym, ◌∙◌, subst}
+use Rattle.std.proofs.Common.{ℕ, List, subst}
 use Rattle.book_base.specs.Book.{Page}
 use Rattle.book_base.specs.Order.{HasLegalOrder}
-use Rattle.book_base.specs.declared.fault.TextFault.{TextFault}
-use Rattle.book_text.specs.Grammar.{IsBookText}
-use Rattle.book_text.proofs.BookAgain.{text_again}
+use Rattle.book_text.proofs.BookAgain.{one_book}
 use Rattle.seq_objects.specs.declared.kind.Kind.TheVariants.{Queue}
 use Rattle.seq_objects.specs.Objects.{kind_init, kind_next}
 use Rattle.selfcheck.specs.Input.{IsBookInput, IsLegalInput, IsIllegalInput}
-
-abbrev read : List Page → Result (List Page) TextFault
-read book = Ok book
-
-same_book : (a b : List Page) → read a ≡ read b → a ≡ b
-same_book a b e = cc
-
-pub one_book : (bytes : List ℕ) (a b : List Page) → IsBookText bytes a → IsBookText bytes b → a ≡ b
-one_book bytes a b h k = same_book a b (sym (text_again bytes a h) ∙ text_again bytes b k)
 
 pub IsBookInput-from_legal : (bytes : List ℕ) → IsLegalInput bytes → IsBookInput bytes
 unfolding IsLegalInput IsBookInput

@@ -7,3 +7,4 @@ pub mod Spans
 pub mod Moments
 pub mod Holding
 pub mod Looking
+pub mod Linear

@@ -1,6 +1,7 @@
 -- The history of the calls to the object in a run, and what it means that it is linearizable (Herlihy and Wing 1990).
-use Rattle.std.specs.Prelude.{◌≡◌, ◌≢◌, ℕ, ◌<◌, List, [], ◌∷◌, ◌++◌, length, Some, slice_get, All, AllPairs, Contains}
+use Rattle.std.specs.Prelude.{◌≡◌, ◌≢◌, ℕ, ◌<◌, List, [], ◌∷◌, ◌++◌, length, map, Some, slice_get, All, AllPairs, Contains}
 use Rattle.book_base.specs.declared.call.Call.{Call}
+use Rattle.book_base.specs.Sequential.{IsLegalRun}
 use Rattle.world_core.specs.Layout.{Shape}
 use Rattle.world_core.specs.Local.{Local}
 use Rattle.world_core.specs.Event.{Event, Announce, Look, Begins_view, staged_operation}
@@ -36,10 +37,9 @@ pub record Done : Type 0 where
   pub operation : ℕ
   pub reply : ℕ
 
--- The sequential object, from a list of words on, gives exactly these replies to the operations in this order.
-abbrev pub IsLegalFrom : (List ℕ → ℕ → List ℕ × ℕ) → List ℕ → List Done → Type 0
-IsLegalFrom next list [] = Unit {0}
-IsLegalFrom next list (d ∷ ds) = (d.reply ≡ (next list d.operation).1) × IsLegalFrom next (next list d.operation).0 ds
+-- The operation and the reply of a call in an order.
+abbrev pub step_of : Done → ℕ × ℕ
+step_of d = (d.operation, d.reply)
 
 -- Call a returned before call b was invoked.
 abbrev pub ReturnsBefore : List Happening → Call → Call → Type 0
@@ -54,7 +54,7 @@ pub record IsLinearization (init : List ℕ) (next : List ℕ → ℕ → List �
   -- each call that returned stands in it with its reply
   pub returned : (call : Call) (reply : ℕ) → Contains history (Returned call reply) → (operation : ℕ) × Contains order (record { call = call; operation = operation; reply = reply })
   -- the replies are those of the sequential object
-  pub legal : IsLegalFrom next init order
+  pub legal : IsLegalRun init next (map step_of order)
   -- a call that returned before another was invoked stands before it
   pub ordered : (p q : ℕ) (d e : Done) → slice_get order p ≡ Some d → slice_get order q ≡ Some e → ReturnsBefore history d.call e.call → p < q
 

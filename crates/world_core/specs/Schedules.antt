@@ -1,11 +1,12 @@
 -- Worked schedules: runs of two callers, written out.
-use Rattle.std.specs.Prelude.{ℕ, Bool, not, List, [], ◌∷◌, ◌++◌, map, take}
+use Rattle.std.specs.Prelude.{ℕ, ◌*◌, Bool, not, List, [], ◌∷◌, ◌++◌, map, take, drop}
 use Rattle.std.specs.List.{list_all}
 use Rattle.world_core.specs.declared.region.Region.TheVariants.{N, M}
 use Rattle.world_core.specs.Layout.{Shape}
 use Rattle.world_core.specs.Local.{Phase, Local}
 use Rattle.world_core.specs.Event.{Event, Stage, Announce, Look, Publish, Begins_none, Begins_scan, Begins_view}
 use Rattle.world_core.specs.World.{Step, local_of, end_of, is_possible}
+use Rattle.world_core.specs.Snapshot.{Span}
 
 -- Two callers, with one row each: the words are the four counts, the row of caller 0, and that of caller 1.
 abbrev pub pair : Shape
@@ -109,3 +110,20 @@ scan_for_nothing =
 -- The first look of the view's scan carries the reply.
 abbrev pub reply_carried : List Step
 reply_carried = by 0 (Look N 0 1 (Begins_view 50)) ∷ []
+
+-- An object whose reply is ten times the operation, and one whose reply is always 0.
+abbrev pub tenfold : List ℕ → ℕ → List ℕ × ℕ
+tenfold list operation = (list, operation * 10)
+
+abbrev pub silent : List ℕ → ℕ → List ℕ × ℕ
+silent list operation = (list, 0)
+
+-- The scan of the view of caller 0 in the run of two whole calls.
+abbrev pub view_span : Span
+view_span =
+    record {
+      before = take 2 two_calls;
+      first = by 0 (Look N 0 1 (Begins_view 50));
+      between = take 6 (drop 3 two_calls);
+      last = by 0 (Look N 1 1 Begins_none);
+    }

@@ -13,7 +13,7 @@ use std::marker::Model;
 ///
 /// It compares each collect with the one before and ends with two equal ones (Afek and others 1993).
 /// It keeps the last whole collect and the words of the collect under way, and no word before.
-/// Clauses see it as how a scan [`standing`] stands that has taken some list of words.
+/// Clauses see it as a standing: how a scan stands that has taken some list of words.
 #[derive(Debug, Drop)]
 pub struct ScanCore {
     me: u32,

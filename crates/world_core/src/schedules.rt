@@ -7,8 +7,9 @@ ghost use Rattle.world_core.specs.Scan.{wanted};
 ghost use Rattle.world_core.specs.Local.{Announcing, Asking, Viewing, Publishing, Judging, IsIdle};
 ghost use Rattle.world_core.specs.Event.{Stage, Announce, Peek, Publish, may_happen};
 ghost use Rattle.world_core.specs.World.{IsRun, end_of};
-ghost use Rattle.world_core.specs.History.{history_of, call_of, Invoked, Returned};
-ghost use Rattle.world_core.specs.Schedules.{pair, by, local_at, phases_at, allows, refuses, two_calls, scans_given_up, scan_for_nothing, reply_carried};
+ghost use Rattle.world_core.specs.Snapshot.{GivesCut};
+ghost use Rattle.world_core.specs.History.{history_of, call_of, Invoked, Returned, IsLinearizable};
+ghost use Rattle.world_core.specs.Schedules.{pair, by, local_at, phases_at, allows, refuses, two_calls, view_span, scans_given_up, scan_for_nothing, reply_carried, tenfold, silent};
 ghost use Rattle.world_core.specs.Refusals.{allowed_at_start, refused_at_start, asked, allowed_as_asked, refused_as_asked, viewing, allowed_as_viewing, refused_as_viewing, viewed, allowed_as_viewed, refused_as_viewed, staged_two, refused_as_staged_two, staged_three, looked, refused_as_looked, reply_peeked, entry_peeked, refused_as_entry_peeked, given_cut, looked_past, staged_early};
 
 /// Two callers make one whole call each, through all five phases.
@@ -19,6 +20,7 @@ pub fn two_whole_calls()
     ensures words { (end_of pair two_calls).words ≡ 1 ∷ 1 ∷ 1 ∷ 1 ∷ 5 ∷ 50 ∷ 1 ∷ 1 ∷ 6 ∷ 60 ∷ 1 ∷ 1 ∷ [] }
 
     // The first caller's view took three collects, and it saw its own record alone.
+    ensures first_scan { GivesCut pair 0 N (1 ∷ 1 ∷ []) view_span }
     ensures first_views { (local_at two_calls 0).views ≡ (1 ∷ 1 ∷ []) ∷ [] }
     ensures first_seen { (local_at two_calls 0).seen ≡ (1 ∷ 0 ∷ []) ∷ [] }
     ensures second_seen { (local_at two_calls 1).seen ≡ (1 ∷ 1 ∷ []) ∷ [] }
@@ -109,4 +111,12 @@ pub fn scans_want()
     // Each collect is compared with the one before it, and not with the first.
     ensures back { wanted 2 (0 ∷ 0 ∷ 1 ∷ 0 ∷ 0 ∷ 0 ∷ []) ≡ Wants_look 0 }
     ensures alone { wanted 1 (3 ∷ 3 ∷ []) ≡ Done (3 ∷ []) }
+{}
+
+/// The object history of the two whole calls is linearizable for an object that gives their replies, and
+/// not for one that gives others.
+#[tactic(auto, using(crate::proofs::Linear::linearizable, crate::proofs::Linear::not_linearizable))]
+pub fn two_calls_are_linearizable()
+    ensures lawful { IsLinearizable [] tenfold (history_of pair two_calls) }
+    ensures unlawful { ¬ IsLinearizable [] silent (history_of pair two_calls) }
 {}

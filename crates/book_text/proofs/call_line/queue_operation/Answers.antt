@@ -1,5 +1,5 @@
 use Rattle.std.proofs.Common.{sym, ◌∙◌, ◌<◌, ◌^◌, arith}
-use Rattle.book_text.proofs.QueueWords.{IsOperation, operation_of-Spells, operation_of-None, operation_of-unknown}
+use Rattle.book_text.proofs.QueueWords.{operation_of-Spells, operation_of-None, operation_of-unknown}
 use Rattle.std.specs.Prelude.{option_copied}
 use Rattle.book_text.proofs.call_line.queue_operation.Goals as goal
 

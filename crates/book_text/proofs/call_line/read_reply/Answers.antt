@@ -1,5 +1,5 @@
 use Rattle.std.proofs.Common.{sym, ◌∙◌, ◌<◌, ◌^◌, arith}
-use Rattle.book_text.proofs.QueueWords.{IsReply, reply_of-IsReply, reply_of-None, reply_of-unknown}
+use Rattle.book_text.proofs.QueueWords.{reply_of-IsReply, reply_of-None, reply_of-unknown}
 use Rattle.book_text.proofs.call_line.read_reply.Goals as goal
 
 pub returns-in_err-reply : goal.returns-in_err-reply

@@ -1,6 +1,5 @@
 use Rattle.std.proofs.Common.{◌≡◌, ◌∷◌, ◌++◌, [], ◌+◌, ◌<◌, length, take, sym, ap, ◌∙◌, arith}
 use Rattle.std.proofs.lemmas.List.{take_all, take_more_set, length-set}
-use Rattle.book_text.specs.Reading.{counts_at}
 use Rattle.book_text.proofs.CountsLoop.{counts_go_on, counts_end, counts_done}
 use Rattle.book_text.proofs.counts.read_counts.Goals as goal
 

@@ -1,8 +1,7 @@
-use Rattle.std.proofs.Common.{◌≡◌, ◌∙◌, ◌++◌, ◌∷◌, [], sym, ap, arith, ◌-◌}
+use Rattle.std.proofs.Common.{◌≡◌, ap, arith, ◌-◌}
 use Rattle.std.proofs.lemmas.Result.{err_from_is_err_and}
 use Rattle.std.specs.Prelude.{option_to_list}
 use Rattle.book_base.specs.Book.{Page}
-use Rattle.book_text.specs.Reading.{page_at}
 use Rattle.book_text.proofs.Wide.{AreWide-append, AreWide-option}
 use Rattle.book_text.specs.PageView.{shown}
 use Rattle.book_text.proofs.PagesLoop.{page_starts, page_goes_on_as, page_ends, page_done}

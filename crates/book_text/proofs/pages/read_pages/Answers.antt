@@ -1,7 +1,6 @@
-use Rattle.std.proofs.Common.{◌≡◌, ◌∙◌, ◌++◌, ◌∷◌, [], ◌<◌, length, sym, ap, refl, arith}
+use Rattle.std.proofs.Common.{◌≡◌, ◌∙◌, ◌++◌, ◌∷◌, [], ◌<◌, length, ap, refl, arith}
 use Rattle.std.proofs.lemmas.Result.{err_from_is_err_and}
 use Rattle.std.proofs.lemmas.List.{map_push, length-append}
-use Rattle.book_text.specs.Reading.{pages_at}
 use Rattle.book_text.specs.PageView.{shown, all_shown}
 use Rattle.book_text.proofs.Wide.{ArePagesWide-push}
 use Rattle.book_text.proofs.PagesLoop.{pages_start, pages_go_on, pages_end, pages_done}

@@ -1,6 +1,6 @@
 use Rattle.std.proofs.Common.{◌∙◌, sym, ap}
 use Rattle.book_text.specs.PageView.{all_shown}
-use Rattle.book_text.specs.Reading.{head_at, book_at}
+use Rattle.book_text.specs.Reading.{head_at}
 use Rattle.book_text.proofs.Whole.{head_fails, head_then, apart, is_found, is_only}
 use Rattle.book_text.proofs.reader.read_valid.Goals as goal
 
