@@ -8,7 +8,17 @@ use Rattle.book_base.specs.Book.{Page, page_of, calls_of, record_of, announced}
 use Rattle.book_base.specs.declared.TheConstants.{MAX_CALLS}
 use Rattle.book_text.specs.declared.pages.CallerPage.{CallerPage}
 use Rattle.book_text.specs.PageView.{shown, all_shown}
-use Rattle.book_text.specs.Building.{unanswered, with_operations, with_records, AreWide, ArePagesWide, IsPart, made_up_to, blank, whole}
+use Rattle.book_text.specs.Building.{unanswered, with_operations, with_records, AreWide, ArePagesWide, IsPart, blank}
+
+-- the pages, of which the first so many are made one way, and the others another way
+abbrev pub made_up_to : (Page → Page) → (Page → Page) → ℕ → List Page → List Page
+made_up_to done still zero pages = map still pages
+made_up_to done still (suc k) [] = []
+made_up_to done still (suc k) (page ∷ pages) = done page ∷ made_up_to done still k pages
+
+-- the page itself
+abbrev pub whole : Page → Page
+whole page = page
 
 module _ (done still : Page → Page) where
   pub length-made : (k : ℕ) (pages : List Page) → length (made_up_to done still k pages) ≡ length pages

@@ -1,5 +1,5 @@
 -- How a book is built from the pages that were read.
-use Rattle.std.specs.Prelude.{◌≡◌, ℕ, zero, suc, List, [], ◌∷◌, length, map, Some, slice_set}
+use Rattle.std.specs.Prelude.{◌≡◌, ℕ, List, [], length, Some, slice_set}
 use Rattle.std.specs.List.{AllByRecursion}
 use Rattle.book_base.specs.declared.call.Call.{Call}
 use Rattle.book_base.specs.declared.call.Record.{Record}
@@ -31,16 +31,6 @@ pub record IsPart (part whole : List Page) : Type 0 where
   pub calls : announced part ≡ announced whole
   pub answers : (call : Call) (r : Record) → record_of part call ≡ Some r → record_of whole call ≡ Some r
 
--- the pages, of which the first so many are made one way, and the others another way
-abbrev pub made_up_to : (Page → Page) → (Page → Page) → ℕ → List Page → List Page
-made_up_to done still zero pages = map still pages
-made_up_to done still (suc k) [] = []
-made_up_to done still (suc k) (page ∷ pages) = done page ∷ made_up_to done still k pages
-
 -- a page without calls
 abbrev pub blank : Page → Page
 blank page = record { operations = []; records = [] }
-
--- the page itself
-abbrev pub whole : Page → Page
-whole page = page

@@ -79,7 +79,8 @@ is_asking Asking = true
 is_asking _ = false
 
 -- A look may begin a scan, at the first caller, unless the view's scan is under way; and the view's scan, which is of N, in
--- the phase ask.
+-- the phase ask. The view's scan begins with the reply that the object gave: who makes the step knows it, and the world
+-- takes any.
 abbrev pub may_begin : Local → Region → ℕ → Opening → Bool
 may_begin l region j Begins_none = true
 may_begin l region j Begins_scan = j == first_caller && not (is_view_under_way l.scan)
@@ -98,7 +99,7 @@ knows_row n l region j k =
     || (list_any (λ (given : Given). is_same_region given.region region && nat_lt k (slice_index given.cut j)) l.cuts
     || (is_same_region region N && list_any (λ (p : Peeked). is_same_region p.region M && (is_view_entry (content n M p.place) j && nat_lt k p.word)) l.peeked))
 
--- Where an event is allowed. The condition speaks of the shape, the caller's number, its own local and the loaded word alone.
+-- Where an event of a caller is allowed. The condition speaks of the shape, the caller's own local and the loaded word alone.
 abbrev pub may_happen : Shape → Local → Event → Bool
 may_happen s l (Stage region place x) =
     is_staging l.phase region && (nat_lt (own_count l region) s.cap && (nat_lt place (places s.callers region) && is_due l (content s.callers region place) x))
@@ -111,11 +112,13 @@ may_happen s l Publish = is_row_staged s.callers l M
 abbrev pub is_allowed : Shape → ℕ → Local → Event → Bool
 is_allowed s me l event = nat_lt me s.callers && may_happen s l event
 
--- The loaded word of a look or a peek is the one that stands there.
+-- The loaded word of a look or a peek is the one that stands there. The other events load none.
 abbrev pub is_loaded : Shape → List ℕ → Event → Bool
 is_loaded s words (Look region j x opening) = x == slice_index words (count_index s region j)
 is_loaded s words (Peek region j k place x) = x == slice_index words (place_index s region j k place)
-is_loaded s words _ = true
+is_loaded s words (Stage region place x) = true
+is_loaded s words Announce = true
+is_loaded s words Publish = true
 
 -- What an event does to the words of the table: a stage, an announcement and a publication each write one word.
 abbrev pub words_after : Shape → ℕ → Local → List ℕ → Event → List ℕ
@@ -135,7 +138,9 @@ pub data Purpose : Type 0 where
 abbrev pub purpose_of : Phase → Scan → Purpose
 purpose_of Viewing scan = if is_same_region scan.region N && scan.is_view then For_view else For_nothing
 purpose_of Judging scan = if is_same_region scan.region M then For_seen else For_nothing
-purpose_of _ scan = For_nothing
+purpose_of Announcing scan = For_nothing
+purpose_of Asking scan = For_nothing
+purpose_of Publishing scan = For_nothing
 
 -- The local after a cut served its purpose.
 abbrev pub served : Local → Purpose → List ℕ → Local

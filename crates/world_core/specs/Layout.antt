@@ -23,7 +23,7 @@ places n M = 1 + n
 abbrev pub operation_place : ℕ
 operation_place = 0
 
--- What a place of a region is for.
+-- What a place of a region is for. A region has the places below its number of places: no event names another.
 abbrev pub content : ℕ → Region → ℕ → Content
 content n N place = Operation
 content n M zero = Reply

@@ -3,8 +3,8 @@ use Rattle.std.proofs.lemmas.List.{length-map}
 use Rattle.std.proofs.lemmas.Result.{err_from_is_err_and}
 use Rattle.book_base.specs.Book.{Page}
 use Rattle.book_text.specs.PageView.{shown, all_shown}
-use Rattle.book_text.specs.Building.{IsPart, unanswered, whole}
-use Rattle.book_text.proofs.MadeUpTo.{caller_of_made, page_of_made, with_records_made, wide_row, made_all, length-made, part_made, map-whole}
+use Rattle.book_text.specs.Building.{IsPart, unanswered}
+use Rattle.book_text.proofs.MadeUpTo.{caller_of_made, page_of_made, with_records_made, wide_row, made_all, length-made, part_made, map-whole, whole}
 use Rattle.book_text.proofs.building.answer_all.Goals as goal
 
 pub answer-requires-clause-caller : goal.answer-requires-clause-caller
