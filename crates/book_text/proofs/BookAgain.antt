@@ -1,5 +1,5 @@
 -- The text of a book is read as that book.
-use Rattle.std.proofs.Common.{Result, sym, ◌≡◌, ℕ, zero, suc, ◌+◌, ◌-◌, ◌^◌, ◌<◌, ◌≤◌, Bool, true, false, ltb, List, [], ◌∷◌, ◌++◌, length, get_or, map, Option, Some, None, Ok, Err, inl, inr, refl, ap, subst, ◌∙◌, arith}
+use Rattle.std.proofs.Common.{◌≡◌, ℕ, zero, suc, ◌+◌, ◌-◌, ◌^◌, ◌<◌, ◌≤◌, Bool, true, false, ltb, List, [], ◌∷◌, ◌++◌, length, get_or, map, Option, Some, None, Result, Ok, Err, refl, sym, ap, subst, ◌∙◌, arith}
 use Rattle.std.specs.Prelude.{is_some, not, option_to_list, codes, decimal}
 use Rattle.std.specs.List.{AllByRecursion, join_with_byte}
 use Rattle.std.proofs.lemmas.Bool.{lt-ltb}
@@ -11,6 +11,7 @@ use Rattle.std.proofs.lemmas.Option.{slice_get-get_or}
 use Rattle.book_base.specs.declared.call.Call.{Call}
 use Rattle.book_base.specs.declared.call.Record.{Record}
 use Rattle.std.specs.Prelude.{◌⊎◌, MatchResult, IfErr}
+use Rattle.std.proofs.Common.{inl, inr}
 use Rattle.book_base.specs.declared.fault.ReadFault.{ReadFault}
 use Rattle.book_base.specs.declared.fault.ReadFault.TheVariants as faults
 use Rattle.book_base.specs.declared.fault.TextFault.{TextFault}
@@ -230,9 +231,6 @@ module _ (book : List Page) (valid : IsValid book) (fit : AllByRecursion IsTextP
   pub written_book : AllByRecursion (IsWrittenPage (length book)) book
   written_book = recursion_from_All (IsWrittenPage (length book)) book (λ i d lt. subst (IsWrittenPage (length book)) (get_or-default book i _ d lt) (written_page i lt))
 
-same_ok : (a b : List Page) → ◌≡◌ {A = Result (List Page) TextFault} (Ok a) (Ok b) → a ≡ b
-same_ok a b e = cc
-
 -- a text of a book is read as that book
 pub text_again : (bytes : List ℕ) (book : List Page) → IsBookText bytes book → book_at (record { bytes = bytes; number = 1 }) ≡ Ok book
 text_again bytes book h = ap (λ (x : List ℕ). book_at (record { bytes = x; number = 1 })) h.text ∙ book_again book h.some h.callers h.pages (written_book book h.valid h.pages)
@@ -240,9 +238,15 @@ text_again bytes book h = ap (λ (x : List ℕ). book_at (record { bytes = x; nu
 pub few_enough : (book : List Page) → AllByRecursion IsTextPage book → (i : ℕ) → calls_of book i ≤ MAX_CALLS
 few_enough book h i = omega (arith, few_calls book h i)
 
--- no text is the text of two books
+abbrev read : List Page → Result (List Page) TextFault
+read book = Ok book
+
+same_book : (a b : List Page) → read a ≡ read b → a ≡ b
+same_book a b e = cc
+
+-- a text is that of one book
 pub one_book : (bytes : List ℕ) (a b : List Page) → IsBookText bytes a → IsBookText bytes b → a ≡ b
-one_book bytes a b g h = same_ok a b (sym (text_again bytes a g) ∙ text_again bytes b h)
+one_book bytes a b h k = same_book a b (sym (text_again bytes a h) ∙ text_again bytes b k)
 
 -- what refuses no book's text, but for memory, refuses a text only where it is no book's
 pub refused_text : (result : Result (List Page) ReadFault) (bytes : List ℕ)

@@ -12,7 +12,7 @@ use book_base::{Call, Cut, OpWord, ReadFault, Record};
 use std::alloc::Global;
 
 /// What was read of one caller.
-#[derive(Debug, Drop)]
+#[derive(Drop)]
 pub(crate) struct CallerPage {
     pub(crate) operations: Vec<OpWord>,
     pub(crate) records: Vec<Record>,

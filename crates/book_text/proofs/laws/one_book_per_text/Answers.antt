@@ -2,4 +2,4 @@ use Rattle.book_text.proofs.BookAgain.{one_book}
 use Rattle.book_text.proofs.laws.one_book_per_text.Goals as goal
 
 pub returns : goal.returns
-returns c = one_book
+returns c bytes a b h k = one_book bytes a b h k
