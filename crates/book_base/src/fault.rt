@@ -1,3 +1,7 @@
+ghost use Rattle.std.specs.Prelude.{◌≡◌};
+ghost use Rattle.book_base.specs.declared.fault.BookFault.{BookFault};
+ghost use Rattle.book_base.specs.declared.fault.ReadFault.{ReadFault};
+
 use crate::call::Call;
 use std::alloc::{AllocError, AllocFailed};
 
@@ -79,11 +83,40 @@ pub enum ReadFault {
     NoMemory,
 }
 
-impl<T: Drop> From<AllocFailed<T>> for BookFault {
-    ghost use Rattle.std.specs.Prelude.{◌≡◌};
-    ghost use Rattle.book_base.specs.declared.fault.BookFault.TheVariants.{NoMemory as out_of_memory};
+impl From<TextFault> for ReadFault {
+    ghost from_gives = { λ fault e. e ≡ ReadFault.Text fault };
 
-    ghost from_gives = { λ _ e. e ≡ out_of_memory };
+    fn from(fault: TextFault) -> ReadFault {
+        ReadFault::Text(fault)
+    }
+}
+
+impl From<NoMemory> for ReadFault {
+    ghost from_gives = { λ _ e. e ≡ ReadFault.NoMemory };
+
+    fn from(_e: NoMemory) -> ReadFault {
+        ReadFault::NoMemory
+    }
+}
+
+impl From<AllocError> for ReadFault {
+    ghost from_gives = { λ _ e. e ≡ ReadFault.NoMemory };
+
+    fn from(_e: AllocError) -> ReadFault {
+        ReadFault::NoMemory
+    }
+}
+
+impl<T: Drop> From<AllocFailed<T>> for ReadFault {
+    ghost from_gives = { λ _ e. e ≡ ReadFault.NoMemory };
+
+    fn from(_e: AllocFailed<T>) -> ReadFault {
+        ReadFault::NoMemory
+    }
+}
+
+impl<T: Drop> From<AllocFailed<T>> for BookFault {
+    ghost from_gives = { λ _ e. e ≡ BookFault.NoMemory };
 
     fn from(_e: AllocFailed<T>) -> BookFault {
         BookFault::NoMemory

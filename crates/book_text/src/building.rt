@@ -24,9 +24,7 @@ pub(crate) fn book_of(alloc: Global, pages: &[CallerPage]) -> Result<Book, ReadF
     ensures valid { IfOk result (λ book. IsValid book) }
     ensures refused { IsValid (all_shown pages.now) → ((i : ℕ) → calls_of (all_shown pages.now) i ≤ MAX_CALLS) → IfErr result (λ e. e ≡ ReadFault.NoMemory) }
 {
-    let Ok(mut book) = Book::new(alloc, pages.len() as u32) else {
-        return Err(ReadFault::NoMemory);
-    };
+    let mut book = Book::new(alloc, pages.len() as u32)?;
     announce_all(&mut book, pages)?;
     answer_all(&mut book, pages)?;
     let callers = book.callers();

@@ -32,7 +32,7 @@ pub(crate) fn read_call_line(
     ensures wide { IfOk result (λ entry. IfSome entry.1 (λ r. length r.view ≡ n)) }
 {
     let number = lines.number();
-    let line = lines.line().map_err(ReadFault::Text)?;
+    let line = lines.line()?;
     read_call(line, call, n, gap).map_err(|what| {
         ReadFault::Text(TextFault { line: number, what })
     })

@@ -34,11 +34,9 @@ impl CallerPage {
         ensures entry { OnOk result (shown self.new ≡ record { operations = self.old.operations.items ++ entry.0 ∷ []; records = self.old.records.items ++ option_to_list entry.1 }) }
     {
         let (operation, answer) = entry;
-        self.operations
-            .push(operation)
-            .map_err(|_| ReadFault::NoMemory)?;
+        self.operations.push(operation)?;
         if let Some(record) = answer {
-            self.records.push(record).map_err(|_| ReadFault::NoMemory)?;
+            self.records.push(record)?;
         }
         Ok(())
     }
@@ -48,7 +46,7 @@ impl CallerPage {
         ensures { self.new.records.items ≡ self.old.records.items }
     {
         while (self.operations.len() as u64) < count {
-            self.operations.push(0).map_err(|_| ReadFault::NoMemory)?;
+            self.operations.push(0)?;
         }
         Ok(())
     }
@@ -98,7 +96,7 @@ pub(crate) fn read_pages(
     for i in 0..n {
         let mut page = CallerPage::new(alloc);
         let read = read_page(lines, n, i, calls.get(i), &mut page);
-        pages.push(page).map_err(|_| ReadFault::NoMemory)?;
+        pages.push(page)?;
         read?;
     }
     Ok(())

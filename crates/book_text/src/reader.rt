@@ -33,10 +33,7 @@ fn read_valid(alloc: Global, bytes: &[u8]) -> Result<Book, ReadFault>
     ensures only { (pages : List Page) → book_at (record { bytes = bytes.now; number = 1 }) ≡ Ok pages → IsValid pages → ((i : ℕ) → calls_of pages i ≤ MAX_CALLS) → MatchResult result (λ b. b ≡ pages) (λ e. e ≡ ReadFault.NoMemory) }
 {
     let mut lines = Lines::new(bytes);
-    let calls = match read_head(&mut lines) {
-        Ok(calls) => calls,
-        Err(fault) => return Err(ReadFault::Text(fault)),
-    };
+    let calls = read_head(&mut lines)?;
     let mut pages = Vec::new(alloc);
     match read_calls_and_end(alloc, &mut lines, &calls, &mut pages) {
         Ok(()) => book_of(alloc, &pages),
@@ -60,10 +57,8 @@ fn read_calls_and_end(
     ensures count { OnOk result (length pages.new.items ≡ length calls.now) }
 {
     read_pages(alloc, lines, calls, pages)?;
-    match read_end(lines) {
-        Ok(()) => Ok(()),
-        Err(fault) => Err(ReadFault::Text(fault)),
-    }
+    read_end(lines)?;
+    Ok(())
 }
 
 /// The first fault of a text in which this one was met: a view of a line before it may be at fault.
@@ -110,9 +105,7 @@ fn add_pages(alloc: Global, calls: &Cut, pages: &mut Vec<CallerPage>) -> Result<
     ensures count { OnOk result (length pages.new.items ≡ length calls.now) }
 {
     for _ in pages.len()..calls.n() as usize {
-        pages
-            .push(CallerPage::new(alloc))
-            .map_err(|_| ReadFault::NoMemory)?;
+        pages.push(CallerPage::new(alloc))?;
     }
     Ok(())
 }

@@ -26,7 +26,7 @@ loop-i-preserved c =
     let lt : c.loop-i.i < length c.args.calls.now = omega (arith, c.n-n.ensures.count) in
     let reads = rw (c.n-n.ensures.count, c.get.ensures) at c.in_ok-read.ensures.value in
     let page = c.read_page-read.new.page in
-    let items : c.push.new.self.items ≡ c.loop-i.pages.items ++ page ∷ [] = rw (← c.in_ok-map_err.ensures.variant) at c.push.ensures.items in
+    let items = c.in_ok-push.ensures.items in
     let pages : all_shown c.push.new.self.items ≡ all_shown c.loop-i.pages.items ++ shown page ∷ [] = ap all_shown items ∙ map_push shown c.loop-i.pages.items page in
     record {
       reading = rw (pages, c.n-n.ensures.count) (pages_go_on (length c.args.calls.now) c.args.calls.now _ (all_shown c.loop-i.pages.items) c.loop-i.i c.loop-i.lines c.read_page-read.new.lines (shown page) lt reads (rw c.n-n.ensures.count at c.loop-i.invariant.reading));
