@@ -1,17 +1,16 @@
 -- The text of a book is read as that book.
-use Rattle.std.proofs.Common.{◌≡◌, ℕ, zero, suc, ◌+◌, ◌-◌, ◌^◌, ◌<◌, ◌≤◌, Bool, true, false, ltb, List, [], ◌∷◌, ◌++◌, length, get_or, map, Option, Some, None, Result, Ok, Err, refl, sym, ap, subst, ◌∙◌, arith}
-use Rattle.std.specs.Prelude.{is_some, not, option_to_list, codes, decimal}
+use Rattle.std.proofs.Common.{◌≡◌, ℕ, zero, suc, ◌+◌, ◌-◌, ◌^◌, ◌<◌, ◌≤◌, Bool, true, false, ltb, List, [], ◌∷◌, ◌++◌, length, get_or, map, Option, Some, None, Result, Ok, Err, refl, sym, ap, subst, ◌∙◌, arith, inl, inr}
+use Rattle.std.specs.Prelude.{is_some, not, option_to_list, codes, decimal, ◌⊎◌, MatchResult, IfErr}
 use Rattle.std.specs.List.{AllByRecursion, join_with_byte}
 use Rattle.std.proofs.lemmas.Bool.{lt-ltb}
 use Rattle.std.proofs.lemmas.Slice.Eq.{bytes_eq-Decides}
-use Rattle.std.proofs.lemmas.List.{length-map}
+use Rattle.std.proofs.lemmas.List.{length-map, get_or_default}
 use Rattle.std.proofs.lemmas.List.Sums.{list_all-from_AllPass}
 use Rattle.std.proofs.lemmas.List.Elements.{recursion_from_All, All-from_recursion}
 use Rattle.std.proofs.lemmas.Option.{slice_get-get_or}
+use Rattle.list_laws.proofs.Elements.{AllByRecursion-append}
 use Rattle.book_base.specs.declared.call.Call.{Call}
 use Rattle.book_base.specs.declared.call.Record.{Record}
-use Rattle.std.specs.Prelude.{◌⊎◌, MatchResult, IfErr}
-use Rattle.std.proofs.Common.{inl, inr}
 use Rattle.book_base.specs.declared.fault.ReadFault.{ReadFault}
 use Rattle.book_base.specs.declared.fault.ReadFault.TheVariants as faults
 use Rattle.book_base.specs.declared.fault.TextFault.{TextFault}
@@ -28,7 +27,6 @@ use Rattle.book_text.specs.declared.TheConstants.{TEXT_CALLERS, TEXT_CALLS}
 use Rattle.book_text.specs.Lines.{Unread}
 use Rattle.book_text.specs.Grammar.{line_text, text_of, answer_words, call_words, page_lines, call_lines, book_lines, IsTextOperation, IsTextAnswer, IsTextPage, IsBookText, IsNoBookText}
 use Rattle.book_text.specs.Reading.{call_at, exact_at, callers_at, calls_at, head_at, call_line_at, page_at, pages_at, end_at, calls_and_end_at, book_at}
-use Rattle.book_text.proofs.ListLaws.{get_or-default}
 use Rattle.book_text.proofs.WordTexts.{AreCounts, callers_again, named_counts_again, answered_again, unanswered_again}
 use Rattle.book_text.proofs.LineTexts.{is_solid, AreSolid, line_again, words_of-join}
 use Rattle.book_text.proofs.BookReads.{head_of, text_of-cons, text_of-append, book_text}
@@ -45,10 +43,6 @@ solid_counts : (most : ℕ) (counts : List ℕ) → AreCounts most counts → Ar
 solid_counts most [] h = tt
 solid_counts most (n ∷ counts) h = (solid_decimal n h.0.0, solid_counts most counts h.1)
 
-solid_append : (a b : List (List ℕ)) → AreSolid a → AreSolid b → AreSolid (a ++ b)
-solid_append [] b g h = h
-solid_append (w ∷ a) b g h = (g.0, solid_append a b g.1 h)
-
 solid_operation : (op : ℕ) → IsTextOperation op → AreSolid (operation_words Queue op)
 solid_operation op fits = recursion_from_All (λ (w : List ℕ). is_solid w ≡ true) (operation_words Queue op) (λ k d lt. solid_word _ (operation_words-IsWord Queue op fits.0 k d lt))
 
@@ -63,13 +57,13 @@ solid_answered n call op r caller number fits written = (
   solid_decimal call.caller caller,
   (
     solid_decimal call.number number,
-    solid_append (operation_words Queue op) (answer_words (Some r)) (solid_operation op fits)
+    AllByRecursion-append (λ word. is_solid word ≡ true) (operation_words Queue op) (answer_words (Some r)) (solid_operation op fits)
         (solid_word (reply_word r.reply) (reply_word-IsWord r.reply written.fits.0), (refl, solid_counts (2 ^ 64 - 1) r.view written.counts)),
   ),
 )
 
 solid_unanswered : (call : Call) (op : ℕ) → call.caller < 2 ^ 64 → call.number < 2 ^ 64 → IsTextOperation op → AreSolid (call_words call op None)
-solid_unanswered call op caller number fits = (solid_decimal call.caller caller, (solid_decimal call.number number, solid_append (operation_words Queue op) [] (solid_operation op fits) tt))
+solid_unanswered call op caller number fits = (solid_decimal call.caller caller, (solid_decimal call.number number, AllByRecursion-append (λ word. is_solid word ≡ true) (operation_words Queue op) [] (solid_operation op fits) tt))
 
 -- ---- the head
 
@@ -211,7 +205,7 @@ module _ (book : List Page) (valid : IsValid book) (fit : AllByRecursion IsTextP
     fits = fits;
     wide = valid.wide call r at;
     counts = recursion_from_All (λ n. (n < 2 ^ 64) × (n ≤ 2 ^ 64 - 1)) r.view (λ j d lt.
-        let same = get_or-default r.view j d 0 lt in
+        let same = get_or_default r.view j d 0 lt in
         let few = few_calls book fit j in
         let within = valid.within call r at j in
         let calls = announced_at book j in
@@ -229,7 +223,7 @@ module _ (book : List Page) (valid : IsValid book) (fit : AllByRecursion IsTextP
       }
 
   pub written_book : AllByRecursion (IsWrittenPage (length book)) book
-  written_book = recursion_from_All (IsWrittenPage (length book)) book (λ i d lt. subst (IsWrittenPage (length book)) (get_or-default book i _ d lt) (written_page i lt))
+  written_book = recursion_from_All (IsWrittenPage (length book)) book (λ i d lt. subst (IsWrittenPage (length book)) (get_or_default book i _ d lt) (written_page i lt))
 
 -- a text of a book is read as that book
 pub text_again : (bytes : List ℕ) (book : List Page) → IsBookText bytes book → book_at (record { bytes = bytes; number = 1 }) ≡ Ok book

@@ -1,10 +1,12 @@
 -- A book that is built a caller at a time.
-use Rattle.std.proofs.Common.{◌≡◌, ℕ, zero, suc, ◌+◌, ◌<◌, List, [], ◌∷◌, ◌++◌, length, get_or, set, take, Some, refl, sym, ap, subst, ◌∙◌, arith, inl, inr}
+use Rattle.std.proofs.Common.{◌≡◌, ℕ, ◌+◌, ◌<◌, List, [], ◌∷◌, ◌++◌, length, get_or, set, take, Some, refl, sym, ap, subst, ◌∙◌, arith, inl, inr}
 use Rattle.std.specs.Prelude.{slice_get}
 use Rattle.std.proofs.lemmas.Bool.{cases_eq}
-use Rattle.std.proofs.lemmas.List.{get_or-set_same, get_or-set_other, length-take, set-get_or, set-set, take_more}
+use Rattle.std.proofs.lemmas.List.{get_or-set_same, get_or-set_other, length-take, set-set, take_more}
 use Rattle.std.proofs.Math.Seq.{map-set_same}
 use Rattle.std.proofs.lemmas.Option.{slice_get_within}
+use Rattle.list_laws.proofs.Places.{slice_get-take}
+use Rattle.book_base.proofs.PageLemmas.{empty}
 use Rattle.book_base.proofs.GrowthLemmas.{announced_at}
 use Rattle.book_base.specs.declared.call.Call.{Call}
 use Rattle.book_base.specs.declared.call.Record.{Record}
@@ -13,24 +15,10 @@ use Rattle.book_base.specs.Book.{Page, page_of, calls_of, answers_of, record_of,
 use Rattle.book_base.specs.Refusal.{MayAnswer}
 use Rattle.book_text.specs.Building.{with_operations, with_records, IsPart}
 
-abbrev empty : Page
-empty = record { operations = []; records = [] }
-
--- a caller without calls is announced from none on
-pub no_operations : (book : List Page) (i : ℕ) → page_of book i ≡ empty → with_operations book i [] ≡ book
-no_operations book i e = ap (set book i) (sym e) ∙ set-get_or book i empty
-
 pub one_operation : (book : List Page) (i op : ℕ) (ops : List ℕ) → i < length book → with_call (with_operations book i ops) i op ≡ with_operations book i (ops ++ op ∷ [])
 one_operation book i op ops lt =
     let known : page_of (with_operations book i ops) i ≡ record { operations = ops; records = [] } = get_or-set_same book i _ empty lt in
     ap (λ (p : Page). set (with_operations book i ops) i (record p { operations = p.operations ++ op ∷ [] })) known ∙ set-set book i _ _
-
-pub calls_of-with_operations : (book : List Page) (i : ℕ) (ops : List ℕ) → i < length book → calls_of (with_operations book i ops) i ≡ length ops
-calls_of-with_operations book i ops lt = ap (λ (p : Page). length p.operations) (get_or-set_same book i (record { operations = ops; records = [] }) empty lt)
-
--- a caller without answers is answered from none on
-pub no_records : (book : List Page) (i : ℕ) → (page_of book i).records ≡ [] → with_records book i [] ≡ book
-no_records book i e = ap (λ (rs : List Record). set book i (record (page_of book i) { records = rs })) (sym e) ∙ set-get_or book i empty
 
 page_of-with_records : (book : List Page) (i : ℕ) (rs : List Record) → i < length book → page_of (with_records book i rs) i ≡ record (page_of book i) { records = rs }
 page_of-with_records book i rs lt = get_or-set_same book i (record (page_of book i) { records = rs }) empty lt
@@ -41,12 +29,6 @@ one_record book i r rs lt = ap (λ (p : Page). set (with_records book i rs) i (r
 -- the records of a caller
 record_of-with_records : (book : List Page) (i : ℕ) (rs : List Record) (k : ℕ) → i < length book → record_of (with_records book i rs) (record { caller = i; number = k }) ≡ slice_get rs k
 record_of-with_records book i rs k lt = ap (λ (p : Page). slice_get p.records k) (page_of-with_records book i rs lt)
-
-slice_get-take : (k : ℕ) (rs : List Record) (n : ℕ) (s : Record) → slice_get (take k rs) n ≡ Some s → slice_get rs n ≡ Some s
-slice_get-take zero rs n s e = absurd cc
-slice_get-take (suc k) [] n s e = absurd cc
-slice_get-take (suc k) (r ∷ rs) zero s e = e
-slice_get-take (suc k) (r ∷ rs) (suc n) s e = slice_get-take k rs n s e
 
 fewer_records : (book : List Page) (i k : ℕ) (rs : List Record) (call : Call) (s : Record) → i < length book → record_of (with_records book i (take k rs)) call ≡ Some s → record_of (with_records book i rs) call ≡ Some s
 fewer_records book i k rs call s lt e =

@@ -17,15 +17,13 @@ use Rattle.book_text.specs.declared.TheConstants.{TEXT_CALLERS, TEXT_CALLS}
 use Rattle.book_text.specs.Lines.{Unread, line_at, words_of}
 use Rattle.book_text.specs.Grammar.{line_text, text_of, call_words, page_lines, call_lines, head_lines, book_lines, IsTextOperation, IsTextAnswer, IsTextPage, IsBookText}
 use Rattle.book_text.specs.Reading.{◌>>=◌, at_line, call_at, exact_at, callers_in, callers_at, named_counts_at, calls_at, head_at, call_line_at, page_at, pages_at, nothing_at, end_at, calls_and_end_at, book_at}
-use Rattle.book_text.proofs.Binding.{bind_ok, ok_or_ok, at_line_ok, if_ok}
+use Rattle.list_laws.proofs.Results.{same_Ok, ok_or_ok, if_ok}
+use Rattle.book_text.proofs.Binding.{bind_ok, at_line_ok}
 use Rattle.book_text.proofs.WordTexts.{AreCounts, callers_take, named_counts_take, call_takes}
 use Rattle.book_text.proofs.LineTexts.{line_takes}
 
 abbrev done : {A : Type 0} → A → Result A TextFault
 done x = Ok x
-
-done_is : {A : Type 0} (x y : A) → done x ≡ done y → x ≡ y
-done_is x y e = cc
 
 -- the lines stand in front of what is left
 pub record Stand (text : Unread) (lines : List (List (List ℕ))) (left : Unread) : Type 0 where
@@ -81,7 +79,7 @@ callers_line text x e =
     let a = bind_ok (line_at text) (λ line. at_line text.number (ok_or (callers_in (words_of line.0)) what.Callers) >>= λ n. done (n, line.1)) x e in
     let b = bind_ok (at_line text.number (ok_or (callers_in (words_of a.0.0)) what.Callers)) (λ n. done (n, a.0.1)) x a.2 in
     let read = callers_take (words_of a.0.0) b.0 (ok_or_ok _ what.Callers b.0 (at_line_ok text.number _ b.0 b.1)) in
-    subst (λ (y : ℕ × Unread). (text.bytes ≡ line_text (codes "callers" ∷ decimal y.0 ∷ []) ++ y.1.bytes) × (1 ≤ y.0) × (y.0 ≤ TEXT_CALLERS)) (done_is (b.0, a.0.1) x b.2) (reads_words text a.0.1 a.0.0 _ a.1 read.0, read.1, read.2)
+    subst (λ (y : ℕ × Unread). (text.bytes ≡ line_text (codes "callers" ∷ decimal y.0 ∷ []) ++ y.1.bytes) × (1 ≤ y.0) × (y.0 ≤ TEXT_CALLERS)) (same_Ok (b.0, a.0.1) x b.2) (reads_words text a.0.1 a.0.0 _ a.1 read.0, read.1, read.2)
 
 pub record IsCallsLine (n : ℕ) (text : Unread) (calls : List ℕ) (left : Unread) : Type 0 where
   pub line : text.bytes ≡ line_text (codes "calls" ∷ map decimal calls) ++ left.bytes
@@ -94,7 +92,7 @@ calls_line n text x e =
     let a = bind_ok (line_at text) (λ line. at_line text.number (ok_or (named_counts_at (codes "calls") TEXT_CALLS n (words_of line.0)) what.Calls) >>= λ counts. done (counts, line.1)) x e in
     let b = bind_ok (at_line text.number (ok_or (named_counts_at (codes "calls") TEXT_CALLS n (words_of a.0.0)) what.Calls)) (λ counts. done (counts, a.0.1)) x a.2 in
     let read = named_counts_take (codes "calls") TEXT_CALLS n (words_of a.0.0) b.0 (ok_or_ok _ what.Calls b.0 (at_line_ok text.number _ b.0 b.1)) in
-    subst (λ (y : List ℕ × Unread). IsCallsLine n text y.0 y.1) (done_is (b.0, a.0.1) x b.2) (record { line = reads_words text a.0.1 a.0.0 _ a.1 read.text; many = read.many; fit = read.fit })
+    subst (λ (y : List ℕ × Unread). IsCallsLine n text y.0 y.1) (same_Ok (b.0, a.0.1) x b.2) (record { line = reads_words text a.0.1 a.0.0 _ a.1 read.text; many = read.many; fit = read.fit })
 
 pub head_takes : (text : Unread) (x : List ℕ × Unread) → head_at text ≡ Ok x → IsHead text x.0 x.1
 unfolding head_at
@@ -128,7 +126,7 @@ call_line_takes n gap call text x e =
     let a = bind_ok (line_at text) (λ line. at_line text.number (call_at n gap call (words_of line.0)) >>= λ read. done (read, line.1)) x e in
     let b = bind_ok (at_line text.number (call_at n gap call (words_of a.0.0))) (λ read. done (read, a.0.1)) x a.2 in
     let read = call_takes n gap call (words_of a.0.0) b.0 (at_line_ok text.number _ b.0 b.1) in
-    subst (λ (y : (ℕ × Option Record) × Unread). IsCallRead n gap call text y.0.0 y.0.1 y.1) (done_is (b.0, a.0.1) x b.2) (record { line = reads_words text a.0.1 a.0.0 _ a.1 read.text; operation = read.operation; answered = read.answered; behind_gap = read.behind_gap })
+    subst (λ (y : (ℕ × Option Record) × Unread). IsCallRead n gap call text y.0.0 y.0.1 y.1) (same_Ok (b.0, a.0.1) x b.2) (record { line = reads_words text a.0.1 a.0.0 _ a.1 read.text; operation = read.operation; answered = read.answered; behind_gap = read.behind_gap })
 
 pub record IsPageRead (gap : Bool) (i k count : ℕ) (text : Unread) (page : Page) (left : Unread) : Type 0 where
   pub lines : Stand text (page_lines i k page.operations page.records) left
@@ -161,17 +159,14 @@ add_call n gap i k count text middle left op (Some r) others call rest = record 
 
 pub page_takes : (n : ℕ) (gap : Bool) (i k count : ℕ) (text : Unread) (x : Page × Unread) → page_at n gap i k count text ≡ Ok x → IsPageRead gap i k count text x.0 x.1
 unfolding page_at
-page_takes n gap i k zero text x e = subst (λ (y : Page × Unread). IsPageRead gap i k 0 text y.0 y.1) (done_is (record { operations = []; records = [] }, text) x e) (record { lines = stand_none text; many = refl; operations = tt; answers = tt; behind_gap = λ _. refl })
+page_takes n gap i k zero text x e = subst (λ (y : Page × Unread). IsPageRead gap i k 0 text y.0 y.1) (same_Ok (record { operations = []; records = [] }, text) x e) (record { lines = stand_none text; many = refl; operations = tt; answers = tt; behind_gap = λ _. refl })
 page_takes n gap i k (suc count) text x e =
     let add = λ (call : (ℕ × Option Record) × Unread) (others : Page × Unread). done {A = Page × Unread} (record { operations = call.0.0 ∷ others.0.operations; records = option_to_list call.0.1 ++ others.0.records }, others.1) in
     let a = bind_ok (call_line_at n gap (record { caller = i; number = k }) text) (λ call. page_at n (not (is_some call.0.1)) i (k + 1) count call.1 >>= add call) x e in
     let b = bind_ok (page_at n (not (is_some a.0.0.1)) i (k + 1) count a.0.1) (add a.0) x a.2 in
     let call = call_line_takes n gap (record { caller = i; number = k }) text a.0 a.1 in
     let rest = page_takes n (not (is_some a.0.0.1)) i (k + 1) count a.0.1 b.0 b.1 in
-    subst (λ (y : Page × Unread). IsPageRead gap i k (suc count) text y.0 y.1) (done_is (record { operations = a.0.0.0 ∷ b.0.0.operations; records = option_to_list a.0.0.1 ++ b.0.0.records }, b.0.1) x b.2) (add_call n gap i k count text a.0.1 b.0.1 a.0.0.0 a.0.0.1 b.0.0 call rest)
-
-counts_cons : {a b : ℕ} {xs ys : List ℕ} → a ≡ b → xs ≡ ys → a ∷ xs ≡ b ∷ ys
-counts_cons e f = cc
+    subst (λ (y : Page × Unread). IsPageRead gap i k (suc count) text y.0 y.1) (same_Ok (record { operations = a.0.0.0 ∷ b.0.0.operations; records = option_to_list a.0.0.1 ++ b.0.0.records }, b.0.1) x b.2) (add_call n gap i k count text a.0.1 b.0.1 a.0.0.0 a.0.0.1 b.0.0 call rest)
 
 pub record ArePagesRead (i : ℕ) (counts : List ℕ) (text : Unread) (pages : List Page) (left : Unread) : Type 0 where
   pub lines : Stand text (call_lines i pages) left
@@ -180,7 +175,7 @@ pub record ArePagesRead (i : ℕ) (counts : List ℕ) (text : Unread) (pages : L
 
 pub pages_take : (n i : ℕ) (counts : List ℕ) (text : Unread) (x : List Page × Unread) → AreCounts TEXT_CALLS counts → pages_at n i counts text ≡ Ok x → ArePagesRead i counts text x.0 x.1
 unfolding pages_at
-pages_take n i [] text x few e = subst (λ (y : List Page × Unread). ArePagesRead i [] text y.0 y.1) (done_is ([], text) x e) (record { lines = stand_none text; many = refl; fit = tt })
+pages_take n i [] text x few e = subst (λ (y : List Page × Unread). ArePagesRead i [] text y.0 y.1) (same_Ok ([], text) x e) (record { lines = stand_none text; many = refl; fit = tt })
 pages_take n i (count ∷ counts) text x few e =
     let add = λ (page : Page × Unread) (others : List Page × Unread). done {A = List Page × Unread} (page.0 ∷ others.0, others.1) in
     let a = bind_ok (page_at n false i 0 count text) (λ page. pages_at n (i + 1) counts page.1 >>= add page) x e in
@@ -188,9 +183,9 @@ pages_take n i (count ∷ counts) text x few e =
     let page = page_takes n false i 0 count text a.0 a.1 in
     let others = pages_take n (i + 1) counts a.0.1 b.0 few.1 b.1 in
     let fits : IsTextPage a.0.0 = record { calls = omega (arith, page.many, few.0.1); operations = page.operations; answers = page.answers } in
-    subst (λ (y : List Page × Unread). ArePagesRead i (count ∷ counts) text y.0 y.1) (done_is (a.0.0 ∷ b.0.0, b.0.1) x b.2) (record {
+    subst (λ (y : List Page × Unread). ArePagesRead i (count ∷ counts) text y.0 y.1) (same_Ok (a.0.0 ∷ b.0.0, b.0.1) x b.2) (record {
       lines = stand_both text a.0.1 b.0.1 _ _ page.lines others.lines;
-      many = counts_cons page.many others.many;
+      many = cc (page.many, others.many);
       fit = (fits, others.fit);
     })
 
@@ -239,7 +234,7 @@ book_takes text pages e =
     let many : length b.0.0 ≡ length a.0.0 = sym (length-map b.0.0 (λ (p : Page). length p.operations)) ∙ ap length read.many in
     let lines = stand_both text a.0.1 b.0.1 _ _ head.lines read.lines in
     let whole : text.bytes ≡ text_of (head_of a.0.0 ++ call_lines 0 b.0.0) ++ line_text (codes "end" ∷ []) = lines.bytes ∙ ap (λ (x : List ℕ). text_of (head_of a.0.0 ++ call_lines 0 b.0.0) ++ x) end in
-    subst (IsBookRead text.bytes) (done_is b.0.0 pages c.2) (record {
+    subst (IsBookRead text.bytes) (same_Ok b.0.0 pages c.2) (record {
       some = omega (arith, many, head.some);
       callers = omega (arith, many, head.few);
       fit = read.fit;

@@ -1,4 +1,3 @@
-pub mod ListLaws
 pub mod Cuts
 pub mod NumberTexts
 pub mod CountsLoop

@@ -4,12 +4,13 @@ use Rattle.std.specs.Prelude.{not}
 use Rattle.std.specs.List.{AllByRecursion, list_all, prefix_len, join_with_byte}
 use Rattle.std.proofs.lemmas.Bool.{ltb-true, lt-ltb, ne_eqb, eq-eqb, and_parts, and_from, not-true}
 use Rattle.std.proofs.lemmas.List.{take_at, drop_at, length-append}
-use Rattle.std.proofs.lemmas.List.Elements.{All-from_recursion}
-use Rattle.std.proofs.lemmas.List.Splits.{slice_split_none, slice_split_at, join_with_byte-slice_split}
+use Rattle.std.proofs.lemmas.List.Elements.{All-from_recursion, All-weaker}
+use Rattle.std.proofs.lemmas.List.Folds.{list_all-append}
+use Rattle.std.proofs.lemmas.List.Splits.{join_with_byte-slice_split}
 use Rattle.book_base.specs.declared.fault.TextFault.{TextFault}
 use Rattle.book_text.specs.Lines.{Unread, cut_at, line_from, line_at, words_of}
 use Rattle.book_text.specs.Grammar.{line_text}
-use Rattle.book_text.proofs.ListLaws.{pair_is, prefix_len-front}
+use Rattle.list_laws.proofs.Splits.{Lacks, prefix_len-front, slice_split-join_with_byte}
 use Rattle.book_text.proofs.Cuts.{cut_joins}
 
 -- no byte of the list is this one
@@ -33,10 +34,7 @@ lacks-solid byte (b ∷ word) le e =
     and_from (not (eqb b byte)) (lacks byte word) (ap not other) (lacks-solid byte word le parts.1)
 
 lacks-append : (byte : ℕ) (xs ys : List ℕ) → lacks byte xs ≡ true → lacks byte ys ≡ true → lacks byte (xs ++ ys) ≡ true
-lacks-append byte [] ys a b = b
-lacks-append byte (x ∷ xs) ys a b =
-    let parts = and_parts (not (eqb x byte)) (lacks byte xs) a in
-    and_from (not (eqb x byte)) (lacks byte (xs ++ ys)) parts.0 (lacks-append byte xs ys parts.1 b)
+lacks-append byte xs ys a b = list_all-append (λ b. not (eqb b byte)) xs ys ∙ and_from (lacks byte xs) (lacks byte ys) a b
 
 cut_front : (byte : ℕ) (front rest : List ℕ) → lacks byte front ≡ true → cut_at byte (front ++ byte ∷ rest) ≡ Some (front, rest)
 cut_front byte front rest h =
@@ -45,7 +43,7 @@ cut_front byte front rest h =
     let inside : ltb (length front) (length whole) ≡ true = lt-ltb _ _ (omega (arith, length-append front (byte ∷ rest))) in
     let before : take (length front) whole ≡ front = take_at front (byte ∷ rest) (length front) refl in
     let behind : drop (length front + 1) whole ≡ rest = ap (drop (length front + 1)) (sym (append_assoc front (byte ∷ []) rest)) ∙ drop_at (front ++ byte ∷ []) rest (length front + 1) (length-append front (byte ∷ [])) in
-    rw (at, inside) (ap Some (pair_is before behind))
+    rw (at, inside) cc
 
 -- ---- lines
 
@@ -63,10 +61,8 @@ all_other byte (x ∷ xs) h = let parts = and_parts (not (eqb x byte)) (lacks by
 
 -- the words of a line are those that it was made of
 pub words_of-join : (w : List ℕ) (words : List (List ℕ)) → AreSolid (w ∷ words) → words_of (join_with_byte 32 (w ∷ words)) ≡ w ∷ words
-words_of-join w [] h = slice_split_none (λ b. eqb b 32) w (All-from_recursion (λ b. eqb b 32 ≡ false) w (all_other 32 w (lacks-solid 32 w (omega arith) h.0)))
-words_of-join w (v ∷ words) h =
-    slice_split_at (λ b. eqb b 32) w 32 (join_with_byte 32 (v ∷ words)) (All-from_recursion (λ b. eqb b 32 ≡ false) w (all_other 32 w (lacks-solid 32 w (omega arith) h.0))) refl
-    ∙ ap (λ (ws : List (List ℕ)). w ∷ ws) (words_of-join v words h.1)
+words_of-join w words h =
+    slice_split-join_with_byte 32 w words (All-weaker (λ word. is_solid word ≡ true) (Lacks 32) (λ word solid. All-from_recursion (λ b. eqb b 32 ≡ false) word (all_other 32 word (lacks-solid 32 word (omega arith) solid))) (w ∷ words) (All-from_recursion (λ word. is_solid word ≡ true) (w ∷ words) h))
 
 line_from_takes : (bytes : List ℕ) (number : ℕ) (cut : Option (List ℕ × List ℕ)) → cut_at 10 bytes ≡ cut → (line : List ℕ) (left : Unread) → line_from number cut ≡ Ok (line, left) → bytes ≡ line_text (words_of line) ++ left.bytes
 line_from_takes bytes number None is line left e = absurd cc

@@ -1,7 +1,8 @@
 -- Pages of which the first so many are made.
 use Rattle.std.proofs.Common.{◌≡◌, ℕ, zero, suc, ◌+◌, ◌<◌, ◌≤◌, List, [], ◌∷◌, length, get_or, set, map, replicate, Some, refl, sym, ap, subst, ◌∙◌, arith, add-one}
-use Rattle.std.specs.Prelude.{slice_get}
-use Rattle.std.proofs.lemmas.List.{length-map}
+use Rattle.std.proofs.lemmas.Option.{none-some}
+use Rattle.std.proofs.lemmas.List.{length-map, get_or-map}
+use Rattle.std.proofs.lemmas.Simd.{splat_is_map}
 use Rattle.std.proofs.lemmas.List.Elements.{All-from_recursion}
 use Rattle.book_base.specs.declared.call.Record.{Record}
 use Rattle.book_base.specs.Book.{Page, page_of, calls_of, record_of, announced}
@@ -44,27 +45,16 @@ module _ (done still : Page → Page) where
   made_all zero (p ∷ pages) le = absurd (omega arith)
   made_all (suc k) (p ∷ pages) le = ap (λ (xs : List Page). done p ∷ xs) (made_all k pages (omega arith))
 
-pub map-blank : (pages : List Page) → map blank pages ≡ replicate (length pages) (record { operations = []; records = [] })
-map-blank [] = refl
-map-blank (p ∷ pages) = ap (λ (xs : List Page). record { operations = []; records = [] } ∷ xs) (map-blank pages)
-
-pub map-whole : (pages : List Page) → map whole pages ≡ pages
-map-whole [] = refl
-map-whole (p ∷ pages) = ap (λ (xs : List Page). p ∷ xs) (map-whole pages)
-
 part_calls : (k : ℕ) (pages : List Page) → announced (made_up_to whole unanswered k pages) ≡ announced pages
 part_calls zero [] = refl
 part_calls zero (p ∷ pages) = ap (λ (xs : List ℕ). length p.operations ∷ xs) (part_calls zero pages)
 part_calls (suc k) [] = refl
 part_calls (suc k) (p ∷ pages) = ap (λ (xs : List ℕ). length p.operations ∷ xs) (part_calls k pages)
 
-no_record : (n : ℕ) (r : Record) → slice_get {X = Record} [] n ≡ Some r → ⊥
-no_record n r e = absurd cc
-
 part_answers : (k : ℕ) (pages : List Page) (i n : ℕ) (r : Record) → record_of (made_up_to whole unanswered k pages) (record { caller = i; number = n }) ≡ Some r → record_of pages (record { caller = i; number = n }) ≡ Some r
 part_answers zero [] i n r e = e
 part_answers (suc k) [] i n r e = e
-part_answers zero (p ∷ pages) zero n r e = absurd (no_record n r e)
+part_answers zero (p ∷ pages) zero n r e = absurd (none-some r e)
 part_answers zero (p ∷ pages) (suc i) n r e = part_answers zero pages i n r e
 part_answers (suc k) (p ∷ pages) zero n r e = e
 part_answers (suc k) (p ∷ pages) (suc i) n r e = part_answers k pages i n r e
@@ -79,9 +69,7 @@ part_made k pages = record {
 
 -- the page of a caller, by what was read of it
 pub page_shown : (rows : List CallerPage) (i : ℕ) (row : CallerPage) (d : Page) → row ≡ get_or rows i row → i < length rows → get_or (all_shown rows) i d ≡ shown row
-page_shown [] i row d e lt = absurd (omega arith)
-page_shown (x ∷ rows) zero row d e lt = ap shown (sym e)
-page_shown (x ∷ rows) (suc i) row d e lt = page_shown rows i row d e (omega arith)
+page_shown rows i row d e lt = get_or-map shown rows i row d lt ∙ ap shown (sym e)
 
 module _ (rows : List CallerPage) (i : ℕ) (row : CallerPage) (book : List Page) (e : row ≡ get_or rows i row) (lt : i < length rows) where
   within : i < length (all_shown rows)
@@ -110,4 +98,4 @@ module _ (rows : List CallerPage) (i : ℕ) (row : CallerPage) (book : List Page
 
 -- the book without calls, for as many callers as were read
 pub blank_book : (rows : List CallerPage) → map blank (all_shown rows) ≡ replicate (length rows) (record { operations = []; records = [] })
-blank_book rows = map-blank (all_shown rows) ∙ ap (λ (n : ℕ). replicate n (record { operations = []; records = [] })) (length-map rows shown)
+blank_book rows = sym (splat_is_map (all_shown rows) (length rows) (record { operations = []; records = [] }) (length-map rows shown))

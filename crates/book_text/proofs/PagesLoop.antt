@@ -1,6 +1,7 @@
 -- Reading the lines of calls one after the other, as the loops do.
-use Rattle.std.proofs.Common.{◌≡◌, ℕ, suc, ◌+◌, ◌-◌, ◌≤◌, ◌<◌, Bool, true, false, List, [], ◌∷◌, ◌++◌, length, get_or, drop, Option, Result, Ok, Err, refl, sym, ap, subst, ◌∙◌, append_assoc, arith, add-one}
+use Rattle.std.proofs.Common.{◌≡◌, ℕ, suc, ◌+◌, ◌-◌, ◌≤◌, ◌<◌, Bool, false, List, [], ◌∷◌, ◌++◌, length, get_or, drop, Option, Result, Ok, Err, refl, sym, ap, subst, ◌∙◌, append_assoc, arith, add-one}
 use Rattle.std.specs.Prelude.{is_some, not, option_to_list}
+use Rattle.std.proofs.Math.Bool.{not-not}
 use Rattle.std.proofs.lemmas.List.{append-nil, drop_all}
 use Rattle.std.proofs.Math.Seq.{drop-cons}
 use Rattle.book_base.specs.declared.call.Record.{Record}
@@ -9,7 +10,7 @@ use Rattle.book_base.specs.declared.fault.ReadFault.{ReadFault}
 use Rattle.book_base.specs.declared.fault.ReadFault.TheVariants.{Text, NoMemory}
 use Rattle.book_base.specs.Book.{Page}
 use Rattle.book_text.specs.Lines.{Unread}
-use Rattle.book_text.proofs.ListLaws.{pair_is}
+use Rattle.list_laws.proofs.Options.{pair_is}
 use Rattle.book_text.specs.Reading.{◌>>=◌, Fails, call_line_at, page_at, pages_at}
 
 -- a page with more calls behind it
@@ -19,10 +20,6 @@ page_with front behind = record { operations = front.operations ++ behind.operat
 -- what was read of a page before, and what is still read
 abbrev pub with_page : Page → Result (Page × Unread) TextFault → Result (Page × Unread) TextFault
 with_page front read = read >>= λ x. Ok (page_with front x.0, x.1)
-
-not_not : (b : Bool) → not (not b) ≡ b
-not_not true = refl
-not_not false = refl
 
 regroup_page : (front : Page) (op : ℕ) (answer : Option Record) (read : Result (Page × Unread) TextFault)
     → with_page front (read >>= λ others. Ok (record { operations = op ∷ others.0.operations; records = option_to_list answer ++ others.0.records }, others.1))
@@ -50,7 +47,7 @@ module _ (n i count : ℕ) (total : Result (Page × Unread) TextFault) where
       → made ≡ record { operations = front.operations ++ op ∷ []; records = front.records ++ option_to_list answer } → is_some answer ≡ not after_gap
       → with_page front (page_at n gap i k (count - k) text) ≡ total → with_page made (page_at n after_gap i (k + 1) (count - (k + 1)) after) ≡ total
   page_goes_on_as front made gap after_gap k text after op answer lt h made_is gap_is so_far =
-      let gap_was : not (is_some answer) ≡ after_gap = ap not gap_is ∙ not_not after_gap in
+      let gap_was : not (is_some answer) ≡ after_gap = ap not gap_is ∙ not-not after_gap in
       subst (λ (x : Page × Bool). with_page x.0 (page_at n x.1 i (k + 1) (count - (k + 1)) after) ≡ total) (pair_is (sym made_is) gap_was) (page_goes_on front gap k text after op answer lt h so_far)
 
   pub page_ends : (e : ReadFault) (front : Page) (gap : Bool) (k : ℕ) (text : Unread) → k < count → Fails e (call_line_at n gap (record { caller = i; number = k }) text)

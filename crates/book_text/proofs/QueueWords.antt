@@ -1,40 +1,26 @@
 -- The words of a queue's operations and replies are read as what they stand for.
 use Rattle.std.proofs.Common.{◌≡◌, ℕ, ◌+◌, ◌*◌, ◌/◌, ◌%◌, ◌^◌, ◌<◌, Bool, true, false, cond, eqb, ltb, List, [], ◌∷◌, Option, Some, None, refl, sym, ap, subst, ◌∙◌, arith, inl, inr}
 use Rattle.std.specs.Prelude.{◌⊎◌, ◌||◌, is_some, option_map, option_and_then, codes, bytes_eq, decimal}
-use Rattle.std.proofs.lemmas.Bool.{ltb-true, lt-ltb, eqb-true, eq-eqb, and_parts, and_from, or_cases, cases_Bool}
+use Rattle.std.proofs.lemmas.Bool.{ltb-true, lt-ltb, eqb-true, eq-eqb, and_parts, and_from, or_cases, or_right, cases_Bool}
 use Rattle.std.proofs.lemmas.Option.{cond_some, some_pair_parts, same_Some}
 use Rattle.std.proofs.lemmas.Slice.Eq.{bytes_eq-Decides}
 use Rattle.seq_objects.specs.declared.kind.Kind.TheVariants.{Queue}
 use Rattle.seq_objects.specs.Words.{Entry, enq, deq, entries, is_operation_of, entry_of, is_known_word, operation_words, Spells}
 use Rattle.seq_objects.specs.Replies.{reply_word, is_value, named_reply, named_replies}
-use Rattle.seq_objects.proofs.ListLaws.{IsIn}
+use Rattle.list_laws.proofs.Finds.{IsIn}
 use Rattle.seq_objects.proofs.Spelling.{operation_words-known, Spells-entry, Spells-once}
 use Rattle.seq_objects.proofs.Tables.{entry_of-operation, entry_of-inside}
 use Rattle.seq_objects.proofs.ReplyTexts.{reply_word-value, reply_word-once}
 use Rattle.book_text.specs.Grammar.{IsTextOperation, IsKnownOperation, IsKnownReply, is_queue_reply}
 use Rattle.book_text.specs.Numbers.{number_of}
 use Rattle.book_text.specs.Reading.{argument_of, operation_of, value_of, reply_of}
-use Rattle.book_text.proofs.ListLaws.{pair_is}
+use Rattle.list_laws.proofs.Options.{pair_is, none_from_never, some_from_is_some}
 use Rattle.book_text.proofs.NumberTexts.{number_of-decimal, number_of-Some}
 
 -- what a word is read as, and is the text of
 pub record IsOperation (first : List ℕ) (second : Option (List ℕ)) (op : ℕ) (used : Bool) : Type 0 where
   pub spells : Spells Queue first second op used
   pub fits : IsTextOperation op
-
-pair_words : {a b c d : List ℕ} → a ≡ c → b ≡ d → a ∷ b ∷ [] ≡ c ∷ d ∷ []
-pair_words e f = cc
-
-cons_words : {a c : ℕ} {b d : List ℕ} → a ≡ c → b ≡ d → a ∷ b ≡ c ∷ d
-cons_words e f = cc
-
-or_right : (x y : Bool) → y ≡ true → (x || y) ≡ true
-or_right true y e = refl
-or_right false y e = e
-
-some_of : {A : Type 0} (o : Option A) → is_some o ≡ true → (x : A) × (o ≡ Some x)
-some_of None h = absurd cc
-some_of (Some x) h = (x, refl)
 
 enq_entry : IsIn enq (entries Queue)
 unfolding entries
@@ -56,7 +42,7 @@ known op e at = ap is_some at
 
 entry_known : (op : ℕ) → IsKnownOperation op → (e : Entry) × (entry_of Queue op ≡ Some e)
 unfolding is_known_word
-entry_known op h = some_of (entry_of Queue op) h
+entry_known op h = some_from_is_some (entry_of Queue op) h
 
 is_deq : (first : List ℕ) (second : Option (List ℕ)) → first ≡ codes "deq" → IsOperation first second (2 * 2 ^ 32) false
 is_deq first second e =
@@ -77,7 +63,7 @@ is_enq first word n e f lt =
     let at = entry_of-operation Queue op enq enq_entry passes in
     let words : operation_words Queue op ≡ codes "enq" ∷ decimal (op % 2 ^ 32) ∷ [] = operation_words-known Queue op enq at in
     record {
-      spells = words ∙ ap (λ (k : ℕ). codes "enq" ∷ decimal k ∷ []) code.1 ∙ pair_words (sym e) (sym f);
+      spells = cc;
       fits = (omega arith, known op enq at);
     }
 
@@ -125,10 +111,6 @@ operation_of-Some first second op used e =
       ]
     ]
 
-no_operation : (first : List ℕ) (second : Option (List ℕ)) (read : Option (ℕ × Bool)) → operation_of first second ≡ read → ((op : ℕ) (used : Bool) → IsOperation first second op used → ⊥) → read ≡ None
-no_operation first second None e none = refl
-no_operation first second (Some found) e none = absurd (none found.0 found.1 (operation_of-Some first second found.0 found.1 e))
-
 -- what is written so is read
 pub operation_of-Spells : (first : List ℕ) (second : Option (List ℕ)) (op : ℕ) (used : Bool) → IsOperation first second op used → operation_of first second ≡ Some (op, used)
 unfolding operation_of
@@ -159,7 +141,7 @@ operation_of-Spells first second op used h =
 
 -- where the words stand for no operation, none is read
 pub operation_of-None : (first : List ℕ) (second : Option (List ℕ)) → ((op : ℕ) (used : Bool) → IsOperation first second op used → ⊥) → operation_of first second ≡ None
-operation_of-None first second none = no_operation first second (operation_of first second) refl none
+operation_of-None first second none = none_from_never (operation_of first second) (λ read e. none read.0 read.1 (operation_of-Some first second read.0 read.1 e))
 
 -- where the words stand for an operation that a queue doesn't know, none is read
 pub operation_of-unknown : (first : List ℕ) (second : Option (List ℕ)) (op : ℕ) (used : Bool) → op < 2 ^ 64 → Spells Queue first second op used → is_known_word Queue op ≡ false → operation_of first second ≡ None
@@ -202,7 +184,7 @@ values : (byte : ℕ) (digits : List ℕ) (reply : ℕ) → byte ≡ 61 → (rea
 values byte digits reply mark None read e = absurd cc
 values byte digits reply mark (Some n) read e =
     let c = cond_some (ltb n (2 ^ 32)) (2 * 2 ^ 32 + n) reply e in
-    subst (IsReply (byte ∷ digits)) c.1 (is_value_reply (byte ∷ digits) n (cons_words mark (number_of-Some digits n read).1) (ltb-true _ _ c.0))
+    subst (IsReply (byte ∷ digits)) c.1 (is_value_reply (byte ∷ digits) n (cc ((number_of-Some digits n read).1)) (ltb-true _ _ c.0))
 
 value_of-Some : (word : List ℕ) (reply : ℕ) → value_of word ≡ Some reply → IsReply word reply
 value_of-Some [] reply e = absurd cc
@@ -241,13 +223,9 @@ reply_of-IsReply word reply h =
           rw (text, number_of-decimal (decimal (reply % 2 ^ 32)) (reply % 2 ^ 32) (omega arith) refl, lt-ltb (reply % 2 ^ 32) (2 ^ 32) small) (ap Some back)
     ]
 
-no_reply : (word : List ℕ) (read : Option ℕ) → reply_of word ≡ read → ((reply : ℕ) → IsReply word reply → ⊥) → read ≡ None
-no_reply word None e none = refl
-no_reply word (Some reply) e none = absurd (none reply (reply_of-Some word reply e))
-
 -- where the word stands for no reply, none is read
 pub reply_of-None : (word : List ℕ) → ((reply : ℕ) → IsReply word reply → ⊥) → reply_of word ≡ None
-reply_of-None word none = no_reply word (reply_of word) refl none
+reply_of-None word none = none_from_never (reply_of word) (λ reply e. none reply (reply_of-Some word reply e))
 
 -- where the word stands for a reply that a queue doesn't give, none is read
 pub reply_of-unknown : (word : List ℕ) (reply : ℕ) → reply < 2 ^ 64 → reply_word reply ≡ word → is_queue_reply reply ≡ false → reply_of word ≡ None

@@ -1,23 +1,14 @@
 -- Views that have a count for each caller.
-use Rattle.std.proofs.Common.{◌≡◌, ℕ, zero, suc, ◌<◌, List, [], ◌∷◌, ◌++◌, length, get_or, set, Option, Some, None, ap, arith}
+use Rattle.std.proofs.Common.{◌≡◌, ℕ, zero, suc, ◌<◌, List, [], ◌∷◌, length, get_or, set, Option, Some, None, ap, arith}
 use Rattle.std.specs.Prelude.{IfSome, option_to_list}
 use Rattle.book_base.specs.declared.call.Record.{Record}
-use Rattle.book_base.specs.Book.{Page}
 use Rattle.book_text.specs.declared.pages.CallerPage.{CallerPage}
 use Rattle.book_text.specs.PageView.{all_shown}
 use Rattle.book_text.specs.Building.{AreWide, ArePagesWide}
 
-pub AreWide-append : (n : ℕ) (xs ys : List Record) → AreWide n xs → AreWide n ys → AreWide n (xs ++ ys)
-AreWide-append n [] ys a b = b
-AreWide-append n (x ∷ xs) ys a b = (a.0, AreWide-append n xs ys a.1 b)
-
 pub AreWide-option : (n : ℕ) (answer : Option Record) → IfSome answer (λ (r : Record). length r.view ≡ n) → AreWide n (option_to_list answer)
 AreWide-option n None h = tt
 AreWide-option n (Some r) h = (h, tt)
-
-pub ArePagesWide-push : (n : ℕ) (pages : List Page) (page : Page) → ArePagesWide n pages → AreWide n page.records → ArePagesWide n (pages ++ page ∷ [])
-ArePagesWide-push n [] page a b = (b, tt)
-ArePagesWide-push n (p ∷ pages) page a b = (a.0, ArePagesWide-push n pages page a.1 b)
 
 -- a page is replaced by one with the same records
 pub ArePagesWide-set : (n : ℕ) (rows : List CallerPage) (i : ℕ) (old new : CallerPage) → old ≡ get_or rows i old → i < length rows → new.records.items ≡ old.records.items → ArePagesWide n (all_shown rows) → ArePagesWide n (all_shown (set rows i new))

@@ -17,8 +17,9 @@ use Rattle.book_text.specs.declared.TheConstants.{TEXT_CALLERS}
 use Rattle.book_text.specs.Grammar.{answer_words, call_words, IsTextOperation, IsTextAnswer}
 use Rattle.book_text.specs.Numbers.{number_of}
 use Rattle.book_text.specs.Reading.{◌>>=◌, number_at, counts_at, last_at, due_at, place_at, operation_of, operation_at, reply_of, named_counts_at, answer_at, call_at, callers_in}
-use Rattle.book_text.proofs.Binding.{bind_ok, ok_or_ok, and_then_some, map_some, last_some, if_some}
-use Rattle.book_text.proofs.ListLaws.{pair_is}
+use Rattle.list_laws.proofs.Results.{ok_or_ok}
+use Rattle.book_text.proofs.Binding.{bind_ok, last_some}
+use Rattle.list_laws.proofs.Options.{and_then_some, map_some, if_some, pair_is}
 use Rattle.book_text.proofs.NumberTexts.{number_of-decimal, number_of-Some}
 use Rattle.book_text.proofs.QueueWords.{operation_of-Some, operation_of-Spells, operation_shape, reply_of-Some, reply_of-IsReply}
 
@@ -55,7 +56,7 @@ unfolding counts_at
 counts_take most zero words x e = subst (λ (y : List ℕ × List (List ℕ)). IsCounts most 0 words y.0 y.1) (let same : ([], words) ≡ x = cc in same) (record { text = refl; many = refl; fit = tt })
 counts_take most (suc n) words x e =
     let a = and_then_some (number_at most words) (λ first. option_map {U = List ℕ × List (List ℕ)} (λ others. (first.0 ∷ others.0, others.1)) (counts_at most n first.1)) x e in
-    let b = map_some {B = List ℕ × List (List ℕ)} (counts_at most n a.0.1) (λ others. (a.0.0 ∷ others.0, others.1)) x a.2 in
+    let b = map_some {Y = List ℕ × List (List ℕ)} (counts_at most n a.0.1) (λ others. (a.0.0 ∷ others.0, others.1)) x a.2 in
     let first = number_takes most words a.0.0 a.0.1 a.1 in
     let others = counts_take most n a.0.1 b.0 b.1 in
     subst (λ (y : List ℕ × List (List ℕ)). IsCounts most (suc n) words y.0 y.1) b.2 (record {
@@ -128,7 +129,7 @@ pub operation_takes : (words : List (List ℕ)) (op : ℕ) (rest : List (List �
 operation_takes [] op rest e = absurd cc
 operation_takes (word ∷ words) op rest e =
     let left : Bool → List (List ℕ) = λ used. cond used (drop 1 words) words in
-    let a = map_some {B = ℕ × List (List ℕ)} (operation_of word (slice_get words 0)) (λ found. (found.0, cond found.1 (drop 1 words) words)) (op, rest) e in
+    let a = map_some {Y = ℕ × List (List ℕ)} (operation_of word (slice_get words 0)) (λ found. (found.0, cond found.1 (drop 1 words) words)) (op, rest) e in
     let h = operation_of-Some word (slice_get words 0) a.0.0 a.0.1 a.1 in
     subst (λ (x : ℕ × List (List ℕ)). (word ∷ words ≡ operation_words Queue x.0 ++ x.1) × IsTextOperation x.0) a.2 (spelled word words a.0.0 a.0.1 h.spells, h.fits)
 

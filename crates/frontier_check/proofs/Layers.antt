@@ -1,17 +1,19 @@
 -- The layers of the search: how a pair gets into one, and what stands in it then.
-use Rattle.std.proofs.Common.{◌≡◌, ℕ, ◌+◌, ◌-◌, ◌*◌, ◌<◌, ◌≤◌, ◌⊎◌, ◌∙◌, true, false, cond, List, [], ◌∷◌, ◌++◌, length, get_or, sum, Option, Some, None, Ordering, unwrap_or, refl, sym, ap, subst, inl, inr, arith}
+use Rattle.std.proofs.Common.{◌≡◌, ℕ, ◌+◌, ◌-◌, ◌*◌, ◌<◌, ◌≤◌, ◌⊎◌, ◌∙◌, true, false, cond, List, [], ◌∷◌, ◌++◌, length, get_or, sum, Option, Some, Ordering, unwrap_or, refl, sym, ap, subst, inl, inr, arith}
 use Rattle.std.specs.declared.cmp.Ordering.TheVariants.{Less, Equal, Greater}
 use Rattle.std.specs.Ordering.{is_eq, match_ordering, ordering_then, nat_cmp}
-use Rattle.std.specs.Option.{is_some, IfNone}
+use Rattle.std.specs.Option.{is_some}
 use Rattle.std.specs.Cmp.Lexicographic.{slice_cmp}
 use Rattle.std.specs.List.{All, AllByRecursion}
 use Rattle.std.specs.Map.{lookup}
 use Rattle.std.specs.BTreeMap.{insert_entry}
-use Rattle.std.proofs.lemmas.Bool.{cases_eq, cases_lt}
-use Rattle.std.proofs.lemmas.Cmp.{ranked}
-use Rattle.std.proofs.lemmas.List.{append_assoc, append-nil, get_or_append_left, get_or_at, get_or_past, get_or-replicate, length-append, length-set}
+use Rattle.std.proofs.lemmas.Map.Text.{is_eq-slice_cmp}
+use Rattle.std.proofs.lemmas.Slice.Eq.{bytes_eq-Decides}
+use Rattle.std.proofs.lemmas.Bool.{cases_eq}
+use Rattle.std.proofs.lemmas.List.{append_assoc, append-nil, get_or_append_left, get_or_at, length-append, length-set}
 use Rattle.std.proofs.lemmas.List.Sums.{sum_by-set, sum_by-le}
 use Rattle.std.proofs.lemmas.List.Elements.{All-from_get_or}
+use Rattle.list_laws.proofs.Places.{get_or-replicate_default}
 use Rattle.book_base.specs.declared.call.Call.{Call}
 use Rattle.book_base.specs.declared.call.Place.{Place}
 use Rattle.book_base.specs.declared.call.Record.{Record}
@@ -19,7 +21,7 @@ use Rattle.book_base.specs.declared.TheConstants.{MAX_CALLERS, MAX_CALLS}
 use Rattle.book_base.specs.State.{Contents}
 use Rattle.book_base.specs.Book.{Page, calls_of, operation_of, record_of, IsSmall}
 use Rattle.book_base.proofs.PageLemmas.{caller_from_call}
-use Rattle.book_base.specs.Order.{IsLegalOrder, HasLegalOrder, call_at, step_at}
+use Rattle.book_base.specs.Order.{HasLegalOrder, call_at, step_at}
 use Rattle.frontier_check.specs.declared.pair.Pair.{Pair}
 use Rattle.frontier_check.specs.declared.frontier.Frontier.{Frontier}
 use Rattle.frontier_check.specs.Next.{raised, next_call, HoldsAnswered, MayComeNext, MayStandNext, list_after, Continues}
@@ -27,9 +29,6 @@ use Rattle.frontier_check.specs.Layer.{no_counts, IsReached, KeepsOrders, AllRea
 use Rattle.frontier_check.proofs.LegalOrder.{same_call, raised_same, raised_other, legal_order_from_continues, continues_from_legal_order}
 
 -- orders stay where they stand
-
-pub keeps_refl : (orders : List (List Place)) → KeepsOrders orders orders
-keeps_refl orders = record { longer = omega arith; same = λ k h. refl }
 
 pub keeps_trans : (a b c : List (List Place)) → KeepsOrders a b → KeepsOrders b c → KeepsOrders a c
 keeps_trans a b c h k = record { longer = omega arith; same = λ (i : ℕ) (lt : i < length a). k.same i (omega arith) ∙ h.same i lt }
@@ -65,14 +64,7 @@ then_equal Equal b e = (refl, e)
 then_equal Greater b e = absurd cc
 
 same_lists : (xs ys : List ℕ) → slice_cmp nat_cmp xs ys ≡ Equal → xs ≡ ys
-same_lists [] [] e = refl
-same_lists [] (y ∷ ys) e = absurd cc
-same_lists (x ∷ xs) [] e = absurd cc
-same_lists (x ∷ xs) (y ∷ ys) e =
-    let both = then_equal (nat_cmp x y) (slice_cmp nat_cmp xs ys) e in
-    let first : x ≡ y = ranked x y Equal (sym both.0) in
-    let rest : xs ≡ ys = same_lists xs ys both.1 in
-    ap (λ (n : ℕ). n ∷ xs) first ∙ ap (λ (l : List ℕ). y ∷ l) rest
+same_lists xs ys e = (bytes_eq-Decides xs ys).0 (sym (is_eq-slice_cmp xs ys) ∙ ap is_eq e)
 
 pub same_pair : (a b : Pair) → ordering_then (slice_cmp nat_cmp a.counts b.counts) (slice_cmp nat_cmp a.words.items b.words.items) ≡ Equal
     → (a.counts ≡ b.counts) × (a.words.items ≡ b.words.items)
@@ -224,11 +216,7 @@ reached_next book init next orders from pair index place grows few h may counts 
 
 -- the cut without calls counts none
 zeros : (i : ℕ) → get_or no_counts i 0 ≡ 0
-zeros i =
-    elim (cases_lt i MAX_CALLERS) [
-      | inl lt ↦ get_or-replicate MAX_CALLERS i 0 0 lt
-      | inr le ↦ get_or_past no_counts i 0 le
-    ]
+zeros i = get_or-replicate_default MAX_CALLERS i 0
 
 -- A book with a legal order can go on from the start.
 pub can_start : (book : List Page) (init : List ℕ) (next : List ℕ → ℕ → List ℕ × ℕ) (pair : Pair) → length book ≤ MAX_CALLERS → pair.counts ≡ no_counts → pair.words.items ≡ init
@@ -247,10 +235,6 @@ found_at_end book init next orders entry few h all =
     let whole : Continues book next no_counts init (get_or orders entry.1 []) =
     subst (λ (o : List Place). Continues book next no_counts init o) (append-nil (get_or orders entry.1 [])) (h.leads [] all) in
     record { there = h.index; legal = legal_order_from_continues book init next no_counts (get_or orders entry.1 []) few zeros whole }
-
--- The order without places is legal where no call is answered.
-pub none_is_legal : (book : List Page) (init : List ℕ) (next : List ℕ → ℕ → List ℕ × ℕ) → length book ≤ MAX_CALLERS → HoldsAnswered book no_counts → IsLegalOrder init next book []
-none_is_legal book init next few all = legal_order_from_continues book init next no_counts [] few zeros all
 
 -- one layer after another
 
@@ -276,11 +260,6 @@ pub stepped_words : (next : List ℕ → ℕ → List ℕ × ℕ) (op : ℕ) (wo
     → stepped ≡ record { words = (next loaded op).0; room = room } → read ≡ stepped.words → kept ≡ read → kept ≡ (next words op).0
 stepped_words next op words loaded read kept stepped room at step view copy =
     copy ∙ (view ∙ (ap (λ (s : Contents). s.words) step ∙ ap (λ (l : List ℕ). (next l op).0) at))
-
--- what follows from what a clause says of `None`
-pub if_none_weaker : {X : Type 0} (o : Option X) {P Q : Type 0} → (P → Q) → IfNone o P → IfNone o Q
-if_none_weaker None f p = f p
-if_none_weaker (Some x) f p = tt
 
 -- The step that the search makes: what may stand next, and the list after it.
 pub may_stand-from_step : (book : List Page) (next : List ℕ → ℕ → List ℕ × ℕ) (counts list loaded : List ℕ) (caller : ℕ) (call : Call) (op reply : ℕ) → call ≡ next_call counts caller → loaded ≡ list

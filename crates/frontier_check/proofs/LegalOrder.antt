@@ -1,9 +1,9 @@
 -- Legal orders, one call after another: what a legal order has after the calls of a cut is what may stand one after another there.
-use Rattle.std.proofs.Common.{◌≡◌, ◌≢◌, ℕ, zero, suc, ◌+◌, ◌<◌, ◌≤◌, ◌⊎◌, ◌∙◌, List, [], ◌∷◌, length, get_or, Option, Some, None, refl, sym, ap, subst, inl, inr, slice_get, arith}
+use Rattle.std.proofs.Common.{◌≡◌, ◌≢◌, ℕ, zero, suc, ◌+◌, ◌<◌, ◌≤◌, ◌⊎◌, ◌∙◌, List, [], ◌∷◌, length, get_or, Some, refl, sym, ap, subst, inl, inr, slice_get, arith}
 use Rattle.std.proofs.lemmas.Bool.{cases_eq, cases_lt}
 use Rattle.std.proofs.lemmas.List.{get_or-set_same, get_or-set_other, length-set}
 use Rattle.std.proofs.lemmas.Option.{same_Some, none-some, slice_get_within, slice_get_cases}
-use Rattle.std.specs.Option.{IsSomeAnd}
+use Rattle.list_laws.proofs.Options.{some_from_is_some_and}
 use Rattle.book_base.specs.declared.call.Call.{Call}
 use Rattle.book_base.specs.declared.call.Record.{Record}
 use Rattle.book_base.specs.declared.call.Place.{Place}
@@ -72,11 +72,6 @@ same_place : (a b : Place) → a.caller ≡ b.caller → a.number ≡ b.number �
 same_place a b caller number reply =
     let made : ℕ → ℕ → ℕ → Place = λ i n r. record { caller = i; number = n; reply = r } in
     ap (λ (i : ℕ). made i a.number a.reply) caller ∙ (ap (λ (n : ℕ). made b.caller n a.reply) number ∙ ap (made b.caller b.number) reply)
-
--- the value that a fact on an option speaks of
-pub some_and : {X : Type 0} (o : Option X) (P : X → Type 0) → IsSomeAnd o P → (x : X) × (o ≡ Some x)
-some_and None P h = absurd h
-some_and (Some x) P h = (x, refl)
 
 -- a call that stands where the raised cut doesn't hold it isn't the first one
 not_first : (cut : List ℕ) (place : Place) (call : Call) → place.caller < length cut → place.number ≡ get_or cut place.caller 0
@@ -198,7 +193,7 @@ first_may_come book next cut list place rest whole =
         | inl held ↦ held
         | inr out ↦ elim p [
           | inl answered ↦
-              let known = some_and (record_of book a) (λ (r : Record). get_or r.view place.caller 0 ≤ place.number) answered in
+              let known = some_from_is_some_and (record_of book a) (λ (r : Record). get_or r.view place.caller 0 ≤ place.number) answered in
               let found = whole.answered a known.0 known.1 out in
               let none : found.0 < 0 = whole.precedence found.0 0 a (call_at place) (record { caller = a.caller; number = a.number; reply = known.0.reply }, found.1, refl) stands (inl answered) in
               absurd (omega arith)

@@ -8,7 +8,8 @@ use Rattle.book_base.specs.declared.call.Call.{Call}
 use Rattle.book_base.specs.declared.call.Record.{Record}
 use Rattle.book_base.specs.Book.{Page, calls_of, IsCall, IsAnswered, IsValid, record_of, Precedes}
 use Rattle.frontier_check.specs.Next.{next_call, MayComeNext}
-use Rattle.frontier_check.proofs.LegalOrder.{same_call, some_and, answer_stands}
+use Rattle.list_laws.proofs.Options.{some_from_is_some_and}
+use Rattle.frontier_check.proofs.LegalOrder.{same_call, answer_stands}
 
 -- a later call of a caller has no smaller view
 pub views_grow : (book : List Page) → IsValid book → (a b : Call) (r s : Record) → record_of book a ≡ Some r → record_of book b ≡ Some s → a.caller ≡ b.caller → a.number ≤ b.number
@@ -27,7 +28,7 @@ call_from_precedes : (book : List Page) (a b : Call) → IsValid book → IsCall
 call_from_precedes book a b valid is p =
     elim p [
       | inl answered ↦
-          let known = some_and (record_of book a) (λ (r : Record). get_or r.view b.caller 0 ≤ b.number) answered in
+          let known = some_from_is_some_and (record_of book a) (λ (r : Record). get_or r.view b.caller 0 ≤ b.number) answered in
           let early = slice_get_within _ a.number known.0 known.1 in
           omega (arith, early, valid.answers a.caller)
       | inr own ↦ omega (arith, own.1, is, ap (calls_of book) own.0)
@@ -56,7 +57,7 @@ may_come_next-from_first book cut call valid is at none =
     (may_come_next-precedence book cut call valid is at).1 (λ (a : Call) (there : IsCall book a) (out : get_or cut a.caller 0 ≤ a.number) (p : Precedes book a call). elim p [
       | inl answered ↦
           let says : Record → Type 0 = λ r. get_or r.view call.caller 0 ≤ call.number in
-          let known = some_and (record_of book a) says answered in
+          let known = some_from_is_some_and (record_of book a) says answered in
           let later : IsSomeAnd (Some known.0) says = subst (λ o. IsSomeAnd o says) known.1 answered in
           let first : Call = next_call cut a.caller in
           let within = slice_get_within _ a.number known.0 known.1 in

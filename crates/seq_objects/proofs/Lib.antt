@@ -1,5 +1,3 @@
-pub mod Decimals
-pub mod ListLaws
 pub mod Spelling
 pub mod Tables
 pub mod Fronts

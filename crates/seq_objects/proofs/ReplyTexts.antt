@@ -1,5 +1,5 @@
 -- Reading a word as a reply, and writing a reply, are the two directions of one spelling.
-use Rattle.std.proofs.Common.{◌≡◌, ◌≢◌, ℕ, ◌/◌, ◌%◌, ◌^◌, ◌<◌, Bool, true, false, not, ◌==◌, ◌&&◌, ◌⊎◌, List, ◌∷◌, get_or, decimal, bytes_eq, Some, None, is_some, inl, inr, sym, ap, subst, refl, ◌∙◌, arith}
+use Rattle.std.proofs.Common.{◌≡◌, ◌≢◌, ℕ, ◌/◌, ◌%◌, ◌^◌, ◌<◌, Bool, true, false, not, ◌==◌, ◌&&◌, ◌⊎◌, List, ◌∷◌, get_or, drop, decimal, bytes_eq, Some, None, is_some, inl, inr, sym, ap, subst, refl, ◌∙◌, arith}
 use Rattle.std.specs.List.{list_all}
 use Rattle.std.proofs.lemmas.Bool.{cases_Bool, both_ways, not-true, eqb-true, eqb-false, eq-eqb, and_parts, cond-true, cond-false, or_from, or_parts}
 use Rattle.std.proofs.lemmas.Option.{none-some, same_Some}
@@ -8,7 +8,8 @@ use Rattle.std.proofs.lemmas.Slice.Eq.{bytes_eq-Decides}
 use Rattle.seq_objects.specs.Replies.{NamedReply, named_replies, named_reply, is_value, is_known_reply, reply_value, reply_word, reply_word_by_entry}
 use Rattle.seq_objects.specs.ReplyView.{reply_named}
 use Rattle.seq_objects.proofs.Tables.{is_plain_name, marked-name}
-use Rattle.seq_objects.proofs.ListLaws.{IsIn, find_inside, find_only, list_all-inside, are_distinct, are_distinct-inside, cases_Option, none_from_is_some, same_head, same_tail}
+use Rattle.list_laws.proofs.Finds.{IsIn, find_inside, find_only, list_all-inside, are_distinct, are_distinct-inside}
+use Rattle.list_laws.proofs.Options.{cases_Option, none_from_is_some}
 
 abbrev same_word : NamedReply → NamedReply → Bool
 same_word a b = a.word == b.word
@@ -128,18 +129,15 @@ reply_word-unknown word digits reply begins spelled unknown =
     reply_word-other reply (none_from_is_some (named_reply reply) parts.0) parts.1
     ∙ ap (λ ds. 35 ∷ ds) spelled ∙ sym begins
 
-other_mark : ◌≡◌ {A = ℕ} 61 35 → ⊥
-other_mark same = omega arith
-
 -- Behind '=' stands no reply's text where the digits are no value's.
 pub not-reply-value : (word digits : List ℕ) → reply_named word ≡ None → word ≡ 61 ∷ digits
     → ((n : ℕ) → n < 2 ^ 32 → decimal n ≢ digits) → (reply : ℕ) → reply_word reply ≢ word
 not-reply-value word digits none begins lacking reply same = elim (reply_word-cases reply) [
   | inl named ↦ none-some named.0 (sym none ∙ reply_named-name word named.0 named.1 (sym named.3 ∙ same))
   | inr (inl value) ↦
-      let spelled = same_tail 61 61 (decimal (reply % 2 ^ 32)) digits (sym value.1 ∙ same ∙ begins) in
+      let spelled = ap (drop 1) (sym value.1 ∙ same ∙ begins) in
       lacking (reply % 2 ^ 32) (omega arith) spelled
-  | inr (inr other) ↦ absurd (other_mark (sym (same_head 35 61 (decimal reply) digits (sym other.1 ∙ same ∙ begins))))
+  | inr (inr other) ↦ omega (arith, ap (λ (ds : List ℕ). get_or ds 0 0) (sym other.1 ∙ same ∙ begins))
 ]
 
 -- A word that is no name and begins with neither mark stands for no reply.
@@ -158,9 +156,9 @@ pub not-reply-marked : (word digits : List ℕ) → reply_named word ≡ None �
     → (reply : ℕ) → reply < 2 ^ 64 → reply_word reply ≢ word
 not-reply-marked word digits none begins known reply small same = elim (reply_word-cases reply) [
   | inl named ↦ none-some named.0 (sym none ∙ reply_named-name word named.0 named.1 (sym named.3 ∙ same))
-  | inr (inl value) ↦ absurd (other_mark (same_head 61 35 (decimal (reply % 2 ^ 32)) digits (sym value.1 ∙ same ∙ begins)))
+  | inr (inl value) ↦ omega (arith, ap (λ (ds : List ℕ). get_or ds 0 0) (sym value.1 ∙ same ∙ begins))
   | inr (inr other) ↦
-      let spelled = same_tail 35 35 (decimal reply) digits (sym other.1 ∙ same ∙ begins) in
+      let spelled = ap (drop 1) (sym other.1 ∙ same ∙ begins) in
       both_ways (is_known_reply reply) other.0 (known reply small spelled)
 ]
 
@@ -203,12 +201,12 @@ reply_word-once a b a_small b_small same = elim (reply_word-cases a) [
   ]
   | inr (inl a_value) ↦ elim (reply_word-cases b) [
     | inl b_named ↦ absurd ((not-marked-name b_named.0 (decimal (a % 2 ^ 32)) b_named.1).0 (sym b_named.3 ∙ sym same ∙ a_value.1))
-    | inr (inl b_value) ↦ one_value a b a_value.0 b_value.0 (same_tail 61 61 (decimal (a % 2 ^ 32)) (decimal (b % 2 ^ 32)) (sym a_value.1 ∙ same ∙ b_value.1))
-    | inr (inr b_other) ↦ absurd (other_mark (same_head 61 35 (decimal (a % 2 ^ 32)) (decimal b) (sym a_value.1 ∙ same ∙ b_other.1)))
+    | inr (inl b_value) ↦ one_value a b a_value.0 b_value.0 (cc)
+    | inr (inr b_other) ↦ cc
   ]
   | inr (inr a_other) ↦ elim (reply_word-cases b) [
     | inl b_named ↦ absurd ((not-marked-name b_named.0 (decimal a) b_named.1).1 (sym b_named.3 ∙ sym same ∙ a_other.1))
-    | inr (inl b_value) ↦ absurd (other_mark (same_head 61 35 (decimal (b % 2 ^ 32)) (decimal a) (sym b_value.1 ∙ sym same ∙ a_other.1)))
-    | inr (inr b_other) ↦ decimal_injective a b a_small b_small (same_tail 35 35 (decimal a) (decimal b) (sym a_other.1 ∙ same ∙ b_other.1))
+    | inr (inl b_value) ↦ cc
+    | inr (inr b_other) ↦ decimal_injective a b a_small b_small (cc)
   ]
 ]

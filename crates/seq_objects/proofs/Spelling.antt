@@ -7,7 +7,8 @@ use Rattle.std.proofs.lemmas.Fmt.{decimal_injective}
 use Rattle.seq_objects.specs.declared.kind.Kind.{Kind}
 use Rattle.seq_objects.specs.Words.{Entry, entries, entry_of, is_operation_of, is_known_word, code_of, argument_of, argument_words, words_by_entry, operation_words, operation_text, Spells}
 use Rattle.seq_objects.specs.EntryView.{entry_named, text_of, IsWrittenWith, LacksArgument}
-use Rattle.seq_objects.proofs.ListLaws.{IsIn, cases_Option, none_from_is_some, same_head, same_tail}
+use Rattle.list_laws.proofs.Finds.{IsIn}
+use Rattle.list_laws.proofs.Options.{cases_Option, none_from_is_some}
 use Rattle.seq_objects.proofs.Tables.{is_plain_name, is_plain_name-entry, marked-name, entry_of-operation, entry_of-inside, entry_named-name, entry_named-inside}
 
 -- The words of an operation of an entry.
@@ -55,7 +56,7 @@ Spells-known kind first second e word false named written =
 -- One word for the arguments: the entry has one.
 argument_words-one : (has : Bool) (word : ℕ) (a : List ℕ) → argument_words has word ≡ a ∷ []
     → (has ≡ true) × (decimal (argument_of word) ≡ a)
-argument_words-one true word a same = (refl, same_head (decimal (argument_of word)) a [] [] same)
+argument_words-one true word a same = (refl, cc)
 argument_words-one false word a same = cc
 
 -- No word for the arguments: the entry has none.
@@ -75,17 +76,17 @@ pub Spells-entry : (kind : Kind) (first : List ℕ) (second : Option (List ℕ))
 Spells-entry kind first None word true e known spells = absurd spells
 Spells-entry kind first (Some a) word true e known spells =
     let same : e.name ∷ argument_words e.has_argument word ≡ first ∷ a ∷ [] = sym (operation_words-known kind word e known) ∙ spells in
-    let one = argument_words-one e.has_argument word a (same_tail e.name first (argument_words e.has_argument word) (a ∷ []) same) in
+    let one = argument_words-one e.has_argument word a (cc) in
     record {
-      name = same_head e.name first (argument_words e.has_argument word) (a ∷ []) same;
+      name = cc;
       taken = sym one.0;
       argument = λ has. ap Some (sym one.1);
     }
 Spells-entry kind first second word false e known spells =
     let same : e.name ∷ argument_words e.has_argument word ≡ first ∷ [] = sym (operation_words-known kind word e known) ∙ spells in
-    let none = argument_words-none e.has_argument word (same_tail e.name first (argument_words e.has_argument word) [] same) in
+    let none = argument_words-none e.has_argument word (cc) in
     record {
-      name = same_head e.name first (argument_words e.has_argument word) [] same;
+      name = cc;
       taken = sym none;
       argument = λ has. absurd (both_ways e.has_argument none has);
     }
@@ -97,11 +98,10 @@ pub Spells-marked : (kind : Kind) (first : List ℕ) (second : Option (List ℕ)
 Spells-marked kind first None word true unknown spells = absurd spells
 Spells-marked kind first (Some a) word true unknown spells =
     let same : (35 ∷ decimal word) ∷ [] ≡ first ∷ a ∷ [] = sym (operation_words-unknown kind word unknown) ∙ spells in
-    let rest = same_tail (35 ∷ decimal word) first [] (a ∷ []) same in
     cc
 Spells-marked kind first second word false unknown spells =
     let same : (35 ∷ decimal word) ∷ [] ≡ first ∷ [] = sym (operation_words-unknown kind word unknown) ∙ spells in
-    (sym (same_head (35 ∷ decimal word) first [] [] same), refl)
+    (cc, refl)
 
 -- How words spell an operation: '#' and the whole number, or an entry's name and its argument.
 pub Spells-cases : (kind : Kind) (first : List ℕ) (second : Option (List ℕ)) (word : ℕ) (used : Bool)
@@ -142,7 +142,7 @@ pub not-Spells-marked : (kind : Kind) (first digits : List ℕ) (second : Option
     → (op : ℕ) (used : Bool) → op < 2 ^ 64 → Spells kind first second op used → ⊥
 not-Spells-marked kind first digits second begins known op used small spells = elim (Spells-cases kind first second op used spells) [
   | inl marked ↦
-      let spelled = same_tail 35 35 (decimal op) digits (sym marked.0 ∙ begins) in
+      let spelled : decimal op ≡ digits = cc in
       both_ways (is_known_word kind op) marked.2 (known op small spelled)
   | inr named ↦
       let e : Entry = named.0 in
@@ -207,7 +207,7 @@ pub Spells-once : (kind : Kind) (first : List ℕ) (second : Option (List ℕ)) 
 Spells-once kind first second a b a_used b_used a_small b_small a_spells b_spells =
     elim (Spells-cases kind first second a a_used a_spells) [
       | inl a_marked ↦ elim (Spells-cases kind first second b b_used b_spells) [
-        | inl b_marked ↦ (decimal_injective a b a_small b_small (same_tail 35 35 (decimal a) (decimal b) (sym a_marked.0 ∙ b_marked.0)), a_marked.1 ∙ sym b_marked.1)
+        | inl b_marked ↦ (decimal_injective a b a_small b_small (cc), a_marked.1 ∙ sym b_marked.1)
         | inr b_named ↦ absurd (named-marked kind first b_named.0 (decimal a) b_named.1 b_named.3.name a_marked.0)
       ]
       | inr a_named ↦ elim (Spells-cases kind first second b b_used b_spells) [

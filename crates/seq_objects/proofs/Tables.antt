@@ -8,7 +8,7 @@ use Rattle.seq_objects.specs.declared.kind.Kind.{Kind}
 use Rattle.seq_objects.specs.declared.kind.Kind.TheVariants.{Queue, Stack, Register, Counter, IntSet, Pqueue}
 use Rattle.seq_objects.specs.Words.{Entry, entries, entry_of, is_operation_of, code_of, argument_of}
 use Rattle.seq_objects.specs.EntryView.{entry_named}
-use Rattle.seq_objects.proofs.ListLaws.{IsIn, find_inside, find_only, list_all-inside, are_distinct, are_distinct-inside}
+use Rattle.list_laws.proofs.Finds.{IsIn, find_inside, find_only, list_all-inside, are_distinct, are_distinct-inside}
 
 -- Whether a byte is a printed character of ASCII.
 abbrev pub is_printed : ℕ → Bool

@@ -1,9 +1,10 @@
 -- The texts of operations and replies are words, and no two operations or replies share one.
-use Rattle.std.proofs.Common.{◌≡◌, ℕ, zero, suc, ◌%◌, ◌^◌, ◌<◌, Bool, true, false, eqb, List, [], ◌∷◌, get_or, All, decimal, nat_lt, Option, Some, None, inl, inr, sym, ap, subst, refl, ◌∙◌, ne_eqb, arith, find, bytes_eq}
+use Rattle.std.proofs.Common.{◌≡◌, ℕ, ◌%◌, ◌^◌, ◌<◌, Bool, true, false, eqb, List, [], ◌∷◌, get_or, All, decimal, nat_lt, Option, Some, None, inl, inr, sym, ap, subst, refl, ◌∙◌, ne_eqb, arith, find, bytes_eq}
 use Rattle.std.proofs.lemmas.Option.{same_Some}
 use Rattle.std.specs.List.{join_with_byte, slice_split, list_all}
 use Rattle.std.proofs.lemmas.List.{get_or_default}
-use Rattle.std.proofs.lemmas.List.Splits.{slice_split_at, slice_split_none}
+use Rattle.std.proofs.lemmas.List.Elements.{All-nil, All-cons, All-weaker}
+use Rattle.list_laws.proofs.Splits.{Lacks, slice_split-join_with_byte}
 use Rattle.std.proofs.lemmas.Bool.{and_parts, ltb-true}
 use Rattle.std.proofs.lemmas.Fmt.{decimal_nonempty}
 use Rattle.seq_objects.specs.declared.kind.Kind.{Kind}
@@ -11,23 +12,10 @@ use Rattle.seq_objects.specs.declared.kind.Kind.TheVariants.{Queue, Stack, Regis
 use Rattle.seq_objects.specs.Words.{kind_name, Entry, entry_of, argument_of, argument_words, operation_words, operation_text, Spells, IsPrinted, IsWord}
 use Rattle.seq_objects.specs.Replies.{reply_word}
 use Rattle.seq_objects.proofs.ReplyTexts.{reply_word-cases, named-plain}
-use Rattle.seq_objects.proofs.ListLaws.{cases_Option}
-use Rattle.seq_objects.proofs.Decimals.{decimal_byte}
+use Rattle.list_laws.proofs.Options.{cases_Option}
+use Rattle.list_laws.proofs.Decimals.{decimal_byte}
 use Rattle.seq_objects.proofs.Tables.{is_printed, is_plain_name, is_plain_name-entry, entry_of-inside}
 use Rattle.seq_objects.proofs.Spelling.{operation_words-known, operation_words-unknown, Spells-once}
-
-All-none : {X : Type 0} (P : X → Type 0) → All P []
-All-none P k d inside = absurd (omega arith)
-
-All-cons : {X : Type 0} (P : X → Type 0) (x : X) (xs : List X) → P x → All P xs → All P (x ∷ xs)
-All-cons P x xs holds rest zero d inside = holds
-All-cons P x xs holds rest (suc k) d inside = rest k d (omega arith)
-
-All-head : {X : Type 0} (P : X → Type 0) (x : X) (xs : List X) → All P (x ∷ xs) → P x
-All-head P x xs all = all 0 x (omega arith)
-
-All-tail : {X : Type 0} (P : X → Type 0) (x : X) (xs : List X) → All P (x ∷ xs) → All P xs
-All-tail P x xs all k d inside = all (suc k) d (omega arith)
 
 -- The digits of a number are printed.
 decimal-printed : (n : ℕ) → n < 2 ^ 64 → All IsPrinted (decimal n)
@@ -42,7 +30,7 @@ pub IsWord-marked : (mark n : ℕ) → IsPrinted mark → n < 2 ^ 64 → IsWord 
 IsWord-marked mark n printed small = record { some = omega arith; printed = All-cons IsPrinted mark (decimal n) printed (decimal-printed n small) }
 
 name-printed : (name : List ℕ) → list_all is_printed name ≡ true → All IsPrinted name
-name-printed [] all = All-none IsPrinted
+name-printed [] all = All-nil IsPrinted
 name-printed (x ∷ xs) all =
     let parts = and_parts (is_printed x) (list_all is_printed xs) all in
     let ends = and_parts (nat_lt 32 x) (nat_lt x 127) parts.0 in
@@ -54,14 +42,14 @@ IsWord-name (x ∷ xs) plain = record { some = omega arith; printed = name-print
 
 argument_words-IsWord : (has : Bool) (word : ℕ) → All IsWord (argument_words has word)
 argument_words-IsWord true word =
-    All-cons IsWord (decimal (argument_of word)) [] (IsWord-decimal (argument_of word) (omega arith)) (All-none IsWord)
-argument_words-IsWord false word = All-none IsWord
+    All-cons IsWord (decimal (argument_of word)) [] (IsWord-decimal (argument_of word) (omega arith)) (All-nil IsWord)
+argument_words-IsWord false word = All-nil IsWord
 
 -- An operation is written in words.
 pub operation_words-IsWord : (kind : Kind) (word : ℕ) → word < 2 ^ 64
     → All IsWord (operation_words kind word)
 operation_words-IsWord kind word small = elim (cases_Option (entry_of kind word)) [
-  | inl none ↦ subst (λ ws. All IsWord ws) (sym (operation_words-unknown kind word none)) (All-cons IsWord (35 ∷ decimal word) [] (IsWord-marked 35 word (omega arith, omega arith) small) (All-none IsWord))
+  | inl none ↦ subst (λ ws. All IsWord ws) (sym (operation_words-unknown kind word none)) (All-cons IsWord (35 ∷ decimal word) [] (IsWord-marked 35 word (omega arith, omega arith) small) (All-nil IsWord))
   | inr known ↦
       let e : Entry = known.0 in
       let name = IsWord-name e.name (is_plain_name-entry kind e (entry_of-inside kind word e known.1).0) in
@@ -69,19 +57,10 @@ operation_words-IsWord kind word small = elim (cases_Option (entry_of kind word)
 ]
 
 -- No byte of a word is a space.
-pub IsWord-space : (word : List ℕ) → IsWord word → All (λ b. eqb b 32 ≡ false) word
+pub IsWord-space : (word : List ℕ) → IsWord word → Lacks 32 word
 IsWord-space word is k d inside =
     let printed = is.printed k d inside in
     ne_eqb (get_or word k d) 32 (λ same. omega arith)
-
--- Words with one space between two are cut into these words at the spaces.
-pub slice_split-join : (word : List ℕ) (words : List (List ℕ)) → All IsWord (word ∷ words)
-    → slice_split (λ b. eqb b 32) (join_with_byte 32 (word ∷ words)) ≡ word ∷ words
-slice_split-join word [] all =
-    slice_split_none (λ b. eqb b 32) word (IsWord-space word (All-head IsWord word [] all))
-slice_split-join word (next ∷ words) all =
-    slice_split_at (λ b. eqb b 32) word 32 (join_with_byte 32 (next ∷ words)) (IsWord-space word (All-head IsWord word (next ∷ words) all)) refl
-    ∙ ap (λ ws. word ∷ ws) (slice_split-join next words (All-tail IsWord word (next ∷ words) all))
 
 some_words : (kind : Kind) (word : ℕ)
     → (first : List ℕ) × (rest : List (List ℕ)) × (operation_words kind word ≡ first ∷ rest)
@@ -96,7 +75,7 @@ pub slice_split-operation : (kind : Kind) (word : ℕ) → word < 2 ^ 64
 unfolding operation_text
 slice_split-operation kind word small =
     let some = some_words kind word in
-    subst (λ ws. slice_split (λ b. eqb b 32) (join_with_byte 32 ws) ≡ ws) (sym some.2) (slice_split-join some.0 some.1 (subst (λ ws. All IsWord ws) some.2 (operation_words-IsWord kind word small)))
+    subst (λ ws. slice_split (λ b. eqb b 32) (join_with_byte 32 ws) ≡ ws) (sym some.2) (slice_split-join_with_byte 32 some.0 some.1 (All-weaker IsWord (Lacks 32) IsWord-space (some.0 ∷ some.1) (subst (λ ws. All IsWord ws) some.2 (operation_words-IsWord kind word small))))
 
 own-entry : (kind : Kind) (word : ℕ) (e : Entry) (has : Bool)
     → operation_words kind word ≡ e.name ∷ argument_words has word

@@ -1,16 +1,18 @@
 -- What a caller looked at stays at most the count that stands there.
 use Rattle.std.proofs.Common.{◌≡◌, ℕ, zero, suc, ◌<◌, ◌≤◌, true, ◌&&◌, nat_lt, List, [], ◌∷◌, ◌++◌, slice_get, slice_index, Option, Some, None, refl, sym, ◌∙◌, subst, arith, inl, inr}
+use Rattle.std.proofs.lemmas.Option.{same_Some, none-some}
+use Rattle.list_laws.proofs.Places.{get_or-replicate_default}
 use Rattle.std.proofs.lemmas.Bool.{and_parts, eqb-true, cases_eq, cond_both, ltb-true}
 use Rattle.world_core.specs.declared.region.Region.{Region}
 use Rattle.world_core.specs.declared.want.Want.{Want}
 use Rattle.world_core.specs.declared.want.Want.TheVariants.{Look as Wants_look, Peek as Wants_peek, Done}
 use Rattle.world_core.specs.Layout.{Shape, count_index}
 use Rattle.world_core.specs.Scan.{wanted}
-use Rattle.world_core.specs.Local.{Local, Scan, Looked}
+use Rattle.world_core.specs.Local.{Local, Scan, Looked, fresh}
 use Rattle.world_core.specs.Event.{Event, Stage, Announce, Look, Peek, Publish, Opening, Begins_none, Begins_scan, Begins_view, may_happen, may_begin, is_allowed, is_loaded, local_after, opened, looked_for, went_on, with_word, served, purpose_of, Purpose, For_view, For_seen, For_nothing, is_same_region, is_look_wanted}
 use Rattle.world_core.specs.World.{World, Step, start, local_of, count_of, after, is_possible, after_all, are_possible}
 use Rattle.world_core.specs.Laws.{LookedCountsAreLow}
-use Rattle.world_core.proofs.Running.{Kept, start_kept, step_kept, step_grows, own_local, other_local, all_fresh}
+use Rattle.world_core.proofs.Running.{Kept, start_kept, step_kept, step_grows, own_local, other_local}
 
 served_looked : (l : Local) (p : Purpose) (cut : List ℕ) → (served l p cut).looked ≡ l.looked
 served_looked l For_view cut = refl
@@ -40,12 +42,6 @@ look_looked n l q j x o =
     let saw : Local = record l { looked = record { region = q; caller = j; count = x } ∷ l.looked } in
     looked_for_looked n (opened saw q o) (opened saw q o).scan q j x ∙ opened_looked saw q o
 
-same_item : (new look : Looked) → Some new ≡ Some look → new ≡ look
-same_item new look h = cc
-
-no_item : (look : Looked) → None ≡ Some look → ⊥
-no_item look h = cc
-
 -- What a caller looked at fits the world.
 AreLow : Shape → World → List Looked → Type 0
 AreLow s w looked = (p : ℕ) (look : Looked) → slice_get looked p ≡ Some look → (look.caller < s.callers) × (look.count ≤ count_of s w look.region look.caller)
@@ -60,7 +56,7 @@ low_more : (s : Shape) (w : World) (looked : List Looked) (q : Region) (j x : �
     → AreLow s w (record { region = q; caller = j; count = x } ∷ looked)
 unfolding AreLow
 low_more s w looked q j x below is low zero look h =
-    let here : record { region = q; caller = j; count = x } ≡ look = (let new : Looked = record { region = q; caller = j; count = x } in same_item new look h) in
+    let here : record { region = q; caller = j; count = x } ≡ look = (let new : Looked = record { region = q; caller = j; count = x } in same_Some new look h) in
     subst (λ (l : Looked). (l.caller < s.callers) × (l.count ≤ count_of s w l.region l.caller)) here (below, omega (arith, is))
 low_more s w looked q j x below is low (suc p) look h = low p look h
 
@@ -99,9 +95,9 @@ steps_low s w (step ∷ steps) i kept may low =
 
 none_low : (s : Shape) (w : World) → AreLow s w []
 unfolding AreLow
-none_low s w p look h = absurd (no_item look h)
+none_low s w p look h = absurd (none-some look h)
 
 pub looked_counts_are_low : LookedCountsAreLow
 unfolding AreLow
 looked_counts_are_low s steps i p look run low h =
-    steps_low s (start s) steps i (start_kept s) run (subst (λ (m : Local). AreLow s (start s) m.looked) (sym (all_fresh s.callers i low)) (none_low s (start s))) p look h
+    steps_low s (start s) steps i (start_kept s) run (subst (λ (m : Local). AreLow s (start s) m.looked) (sym (get_or-replicate_default s.callers i fresh)) (none_low s (start s))) p look h

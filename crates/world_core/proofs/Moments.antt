@@ -1,5 +1,7 @@
 -- The cuts that scans of one region gave are the counts of one moment each, and so they are comparable.
-use Rattle.std.proofs.Common.{◌≡◌, ℕ, zero, suc, ◌+◌, ◌<◌, ◌≤◌, true, false, List, [], ◌∷◌, ◌++◌, length, slice_get, slice_index, Option, Some, None, refl, sym, ap, ◌∙◌, subst, arith, inl, inr, ◌⊎◌, length-append, append_assoc, length-drop, ◌*◌}
+use Rattle.std.proofs.Common.{◌≡◌, ℕ, ◌+◌, ◌<◌, ◌≤◌, true, false, List, [], ◌∷◌, ◌++◌, length, slice_get, slice_index, Option, Some, None, refl, sym, ap, ◌∙◌, subst, arith, inl, inr, ◌⊎◌, length-append, append_assoc, length-drop, ◌*◌}
+use Rattle.std.proofs.lemmas.Option.{slice_get_within, none-some}
+use Rattle.list_laws.proofs.Places.{slice_get-push_cases, get_or-replicate_default, append_cases}
 use Rattle.std.proofs.lemmas.List.{append-nil, get_or_past}
 use Rattle.std.proofs.lemmas.List.FromFn.{fill_by_all, get_or-map-range_with_len, length-map-range_with_len}
 use Rattle.std.proofs.lemmas.Bool.{and_parts, cases_eq, cases_lt}
@@ -11,7 +13,7 @@ use Rattle.world_core.specs.Event.{Event, Stage, Announce, Look, Peek, Publish, 
 use Rattle.world_core.specs.World.{Step, start, local_of, count_of, are_possible, IsRun, end_of}
 use Rattle.world_core.specs.Snapshot.{counts_in}
 use Rattle.world_core.proofs.Scans.{open_lacks, open_more, open_whole, collects_more}
-use Rattle.world_core.proofs.Running.{start_kept, are_possible-append, all_fresh}
+use Rattle.world_core.proofs.Running.{start_kept, are_possible-append}
 use Rattle.world_core.specs.Laws.{CutsAreComparable, CutsRise}
 use Rattle.book_base.specs.Cut.{IsWithin}
 use Rattle.world_core.specs.declared.region.Region.TheVariants.{N}
@@ -71,18 +73,6 @@ own_event n l (Look q j x (Begins_view r)) =
     let begun : Local = opened (record l { looked = record { region = q; caller = j; count = x } ∷ l.looked }) q (Begins_view r) in
     let scan : Scan = record { region = q; is_view = true; taken = [] } in
     begun_takes n l begun (local_after n l (Look q j x (Begins_view r))) (Look q j x (Begins_view r)) scan q j x (Begins_view r) refl refl refl refl (looked n begun scan q j x)
-
--- what stands in a list with one more at its end
-push_cases : {A : Type 0} (xs : List A) (y z : A) (p : ℕ) → slice_get (xs ++ y ∷ []) p ≡ Some z → (slice_get xs p ≡ Some z) ⊎ ((p ≡ length xs) × (y ≡ z))
-push_cases [] y z zero h = inr (refl, cc)
-push_cases [] y z (suc p) h = absurd cc
-push_cases (x ∷ xs) y z zero h = inl h
-push_cases (x ∷ xs) y z (suc p) h = elim (push_cases xs y z p h) [ inl old ↦ inl old | inr new ↦ inr (omega (arith, new.0), new.1) ]
-
-get_below : {A : Type 0} (xs : List A) (z : A) (p : ℕ) → slice_get xs p ≡ Some z → p < length xs
-get_below [] z p h = absurd cc
-get_below (x ∷ xs) z zero h = omega arith
-get_below (x ∷ xs) z (suc p) h = let rest : p < length xs = get_below xs z p h in omega (arith, rest)
 
 -- The cuts that a caller's scans gave in a run.
 module _ (s : Shape) (some : 0 < s.callers) where
@@ -248,17 +238,17 @@ module _ (s : Shape) (some : 0 < s.callers) where
 
         rise_now : (p q : ℕ) (a b : Given) → p < q → slice_get (l.cuts ++ gift ∷ []) p ≡ Some a → slice_get (l.cuts ++ gift ∷ []) q ≡ Some b → a.region ≡ b.region
             → (j : ℕ) → j < s.callers → slice_index a.cut j ≤ slice_index b.cut j
-        rise_now p q a b lt ha hb r j below = elim (push_cases l.cuts gift a p ha) [
-          | inl old_a ↦ elim (push_cases l.cuts gift b q hb) [
+        rise_now p q a b lt ha hb r j below = elim (slice_get-push_cases l.cuts gift p a ha) [
+          | inl old_a ↦ elim (slice_get-push_cases l.cuts gift q b hb) [
             | inl old_b ↦ snap.rise p q a b lt old_a old_b r j below
             | inr new_b ↦
-                let here : a.region ≡ t.scan.region = r ∙ sym (ap (λ (g : Given). g.region) new_b.1) in
+                let here : a.region ≡ t.scan.region = r ∙ ap (λ (g : Given). g.region) new_b.1 in
                 let bound : slice_index a.cut j ≤ slice_index (words ++ t.word ∷ []) j =
                 pushed_later ends.takes p a old_a here j (omega (arith, length-append words (t.word ∷ []), end.fills)) in
-                subst (λ (c : List ℕ). slice_index a.cut j ≤ slice_index c j) (end.is_cut ∙ ap (λ (g : Given). g.cut) new_b.1) bound
+                subst (λ (c : List ℕ). slice_index a.cut j ≤ slice_index c j) (end.is_cut ∙ sym (ap (λ (g : Given). g.cut) new_b.1)) bound
           ]
-          | inr new_a ↦ elim (push_cases l.cuts gift b q hb) [
-            | inl old_b ↦ absurd (omega (arith, get_below l.cuts b q old_b, new_a.0))
+          | inr new_a ↦ elim (slice_get-push_cases l.cuts gift q b hb) [
+            | inl old_b ↦ absurd (omega (arith, slice_get_within l.cuts q b old_b, new_a.0))
             | inr new_b ↦ absurd (omega (arith, new_a.0, new_b.0))
           ]
         ]
@@ -267,9 +257,9 @@ module _ (s : Shape) (some : 0 < s.callers) where
         ended =
             record {
               under = λ scan h. absurd (no_scan scan (sym ends.scan ∙ h));
-              given = λ p g h. elim (push_cases l.cuts gift g p (ap (λ (cs : List Given). slice_get cs p) (sym cuts_now) ∙ h)) [
+              given = λ p g h. elim (slice_get-push_cases l.cuts gift p g (ap (λ (cs : List Given). slice_get cs p) (sym cuts_now) ∙ h)) [
                 | inl old ↦ moment_on steps step g (snap.given p g old)
-                | inr new ↦ subst (λ (k : Given). Moment (steps ++ step ∷ []) k) new.1 gift_moment
+                | inr new ↦ subst (λ (k : Given). Moment (steps ++ step ∷ []) k) (sym new.1) gift_moment
               ];
               later = λ scan p g h at r j below. absurd (no_scan scan (sym ends.scan ∙ h));
               rise = λ p q a b lt ha hb r j below.
@@ -278,9 +268,6 @@ module _ (s : Shape) (some : 0 < s.callers) where
 
       took : Snap (steps ++ step ∷ []) m
       took = elim t.outcome [ inl goes ↦ went_on goes | inr ends ↦ ended ends.0 ends.1 ]
-
-  no_given : (p : ℕ) (g : Given) → slice_get {X = Given} [] p ≡ Some g → ⊥
-  no_given p g h = cc
 
   entry : (g : Given) (early : List Step) → counts_in s g.region (end_of s early) ≡ g.cut → (j : ℕ) → j < s.callers → slice_index g.cut j ≡ at_region g.region early j
   entry g early exact j low =
@@ -321,13 +308,13 @@ module _ (s : Shape) (some : 0 < s.callers) where
   fresh_snap =
       record {
         under = λ scan h. absurd (no_scan scan h);
-        given = λ p g h. absurd (no_given p g h);
+        given = λ p g h. absurd (none-some g h);
         later = λ scan p g h at r j below. absurd (no_scan scan h);
-        rise = λ p q a b lt ha hb r j below. absurd (no_given p a ha);
+        rise = λ p q a b lt ha hb r j below. absurd (none-some a ha);
       }
 
   run_snap : (steps : List Step) → IsRun s steps → (i : ℕ) → i < s.callers → Snap steps (local_of (end_of s steps) i)
-  run_snap steps run i low = snaps [] steps run i (subst (λ (l : Local). Snap [] l) (sym (all_fresh s.callers i low)) fresh_snap)
+  run_snap steps run i _ = snaps [] steps run i (subst (λ (l : Local). Snap [] l) (sym (get_or-replicate_default s.callers i fresh)) fresh_snap)
 
   -- two moments of one run
   ordered : (steps : List Step) (a b : Given) → IsRun s steps → a.region ≡ b.region → (m : Moment steps a) (k : Moment steps b) (more : List Step) → k.early ≡ m.early ++ more
@@ -345,25 +332,13 @@ module _ (s : Shape) (some : 0 < s.callers) where
     | inr past ↦ omega (arith, get_or_past a.cut j 0 (omega (arith, cut_long a m.early m.exact)))
   ]
 
--- of two beginnings of one list one begins the other
-one_begins : (xs ys us vs : List Step) → xs ++ us ≡ ys ++ vs → ((zs : List Step) × (ys ≡ xs ++ zs)) ⊎ ((zs : List Step) × (xs ≡ ys ++ zs))
-one_begins [] ys us vs h = inl (ys, refl)
-one_begins (x ∷ xs) [] us vs h = inr (x ∷ xs, refl)
-one_begins (x ∷ xs) (y ∷ ys) us vs h =
-    let head : x ≡ y = cc in
-    let rest : xs ++ us ≡ ys ++ vs = cc in
-    elim (one_begins xs ys us vs rest) [
-      | inl longer ↦ inl (longer.0, cc (head, longer.1))
-      | inr shorter ↦ inr (shorter.0, cc (head, shorter.1))
-    ]
-
 -- the laws
 pub cuts_are_comparable : CutsAreComparable
 cuts_are_comparable s steps i j p q a b run low_i low_j ha hb r =
     let some : 0 < s.callers = omega arith in
     let m = (run_snap s some steps run i low_i).given p a ha in
     let k = (run_snap s some steps run j low_j).given q b hb in
-    elim (one_begins m.early k.early m.late k.late (sym m.parts ∙ k.parts)) [
+    elim (append_cases m.early k.early m.late k.late (sym m.parts ∙ k.parts)) [
       | inl longer ↦ inl (ordered s some steps a b run r m k longer.0 longer.1)
       | inr shorter ↦ inr (ordered s some steps b a run (sym r) k m shorter.0 shorter.1)
     ]

@@ -1,7 +1,9 @@
 -- What each step keeps, and what therefore holds along every run.
-use Rattle.std.proofs.Common.{◌≡◌, ◌≢◌, ℕ, ◌+◌, ◌<◌, ◌≤◌, Bool, true, false, not, ◌&&◌, ◌==◌, nat_lt, List, [], ◌∷◌, ◌++◌, length, replicate, slice_index, slice_index_or, refl, sym, ap, ◌∙◌, subst, arith, IsTrue, inl, inr, length-set}
-use Rattle.std.proofs.lemmas.List.{get_or-set_other, get_or-set_same, get_or-replicate, get_or_past, length-replicate}
-use Rattle.std.proofs.lemmas.Bool.{and_parts, ltb-true, cases_eq, cases_lt, not-true, eqb-false, and_from}
+use Rattle.std.proofs.Common.{◌≡◌, ◌≢◌, ℕ, ◌+◌, ◌<◌, ◌≤◌, true, false, not, ◌&&◌, ◌==◌, nat_lt, List, [], ◌∷◌, ◌++◌, length, slice_index, refl, sym, ap, ◌∙◌, subst, arith, IsTrue, inl, inr, length-set}
+use Rattle.std.proofs.Math.Bool.{and_assoc}
+use Rattle.list_laws.proofs.Places.{get_or-replicate_default}
+use Rattle.std.proofs.lemmas.List.{get_or-set_other, get_or-set_same, length-replicate}
+use Rattle.std.proofs.lemmas.Bool.{and_parts, ltb-true, cases_eq, not-true, eqb-false, and_from}
 use Rattle.world_core.specs.declared.region.Region.{Region}
 use Rattle.world_core.specs.declared.region.Region.TheVariants.{N, M}
 use Rattle.world_core.specs.Layout.{Shape, places, count_index, place_index, words_of}
@@ -64,12 +66,6 @@ step_kept s w step h may =
     }
 
 -- the start has it
-all_zero : (n i : ℕ) → slice_index (replicate n 0) i ≡ 0
-all_zero n i = elim (cases_lt i n) [ inl below ↦ get_or-replicate n i 0 0 below | inr past ↦ get_or_past (replicate n 0) i 0 (omega (arith, length-replicate {A = ℕ} n 0)) ]
-
-pub all_fresh : (n i : ℕ) → i < n → slice_index_or (replicate n fresh) i fresh ≡ fresh
-all_fresh n i below = get_or-replicate n i fresh fresh below
-
 no_count : (r : Region) → 0 ≡ own_count fresh r
 no_count N = refl
 no_count M = refl
@@ -81,7 +77,7 @@ no_rows M k below = omega arith
 fresh_agrees : (s : Shape) (i : ℕ) → Agrees s (start s).words i fresh
 fresh_agrees s i =
     record {
-      counts = λ r. all_zero (words_of s) (count_index s r i) ∙ no_count r;
+      counts = λ r. get_or-replicate_default (words_of s) (count_index s r i) 0 ∙ no_count r;
       few = omega arith;
       rows = λ r k p below fits. absurd (no_rows r k below);
       staged = λ r p staging staged. let never : false ≡ true = staged in absurd cc;
@@ -95,7 +91,7 @@ start_kept s =
     record {
       words_long = length-replicate (words_of s) 0;
       locals_long = length-replicate s.callers fresh;
-      agree = λ i low. subst (λ (l : Local). Agrees s (start s).words i l) (sym (all_fresh s.callers i low)) (fresh_agrees s i);
+      agree = λ i low. subst (λ (l : Local). Agrees s (start s).words i l) (sym (get_or-replicate_default s.callers i fresh)) (fresh_agrees s i);
     }
 
 -- and each world after possible steps
@@ -104,10 +100,6 @@ steps_kept s w [] h may = h
 steps_kept s w (step ∷ steps) h may =
     let parts = and_parts (is_possible s w step) (are_possible s (after s w step) steps) may in
     steps_kept s (after s w step) steps (step_kept s w step h parts.0) parts.1
-
-and_assoc : (a b c : Bool) → ((a && b) && c) ≡ (a && (b && c))
-and_assoc true b c = refl
-and_assoc false b c = refl
 
 -- a run goes on
 pub after_all-append : (s : Shape) (w : World) (xs ys : List Step) → after_all s w (xs ++ ys) ≡ after_all s (after_all s w xs) ys

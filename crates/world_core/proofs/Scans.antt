@@ -12,10 +12,7 @@ use Rattle.world_core.specs.ScanLayout.{standing_of}
 same_standing : (n me : ℕ) (region : Region) {l m : Option (List ℕ)} {c d : List ℕ} {a b : Option (List ℕ)} → l ≡ m → c ≡ d → a ≡ b
     → (let s : Standing = record { callers = n; me = me; region = region; last = l; current = c; cut = a } in s)
     ≡ record { callers = n; me = me; region = region; last = m; current = d; cut = b }
-same_standing n me region {l} {m} {c} {d} {a} {b} p q r =
-    ap (λ (o : Option (List ℕ)). let s : Standing = record { callers = n; me = me; region = region; last = o; current = c; cut = a } in s) p
-    ∙ (ap (λ (xs : List ℕ). let s : Standing = record { callers = n; me = me; region = region; last = m; current = xs; cut = a } in s) q
-    ∙ ap (λ (t : Option (List ℕ)). let s : Standing = record { callers = n; me = me; region = region; last = m; current = d; cut = t } in s) r)
+same_standing n me region p q r = cc
 
 module _ (n : ℕ) (taken : List ℕ) (w : ℕ) (some : 0 < n) where
   whole_words : collects n taken * n ≤ length taken
@@ -105,10 +102,7 @@ module _ (n : ℕ) (taken : List ℕ) (w : ℕ) (some : 0 < n) where
 same_scanner : {n m i j : ℕ} {r q : Region} (l : Option (List ℕ)) (c : List ℕ) (a : Option (List ℕ)) → n ≡ m → i ≡ j → r ≡ q
     → (let s : Standing = record { callers = n; me = i; region = r; last = l; current = c; cut = a } in s)
     ≡ record { callers = m; me = j; region = q; last = l; current = c; cut = a }
-same_scanner {n} {m} {i} {j} {r} {q} l c a p u v =
-    ap (λ (k : ℕ). let s : Standing = record { callers = k; me = i; region = r; last = l; current = c; cut = a } in s) p
-    ∙ (ap (λ (k : ℕ). let s : Standing = record { callers = m; me = k; region = r; last = l; current = c; cut = a } in s) u
-    ∙ ap (λ (t : Region). let s : Standing = record { callers = m; me = j; region = t; last = l; current = c; cut = a } in s) v)
+same_scanner l c a p u v = cc
 
 -- What the fields are after a word, where the scan stood as one that has taken these words.
 module _ (c : Inside) (w : ℕ) (n me : ℕ) (region : Region) (taken : List ℕ) (stood : standing_of c ≡ standing n me region taken) (lacks : c.looks < length c.current) where

@@ -1,6 +1,7 @@
 -- The cut of every scan is instantaneous.
 use Rattle.std.proofs.Common.{◌≡◌, ℕ, zero, suc, ◌+◌, ◌*◌, ◌/◌, ◌<◌, ◌≤◌, Bool, true, false, ◌&&◌, ◌==◌, nat_lt, List, [], ◌∷◌, ◌++◌, length, slice_index, Option, Some, None, refl, sym, ap, ◌∙◌, subst, arith, inl, inr, ◌⊎◌, length-append, append_assoc, length-drop}
 use Rattle.std.specs.List.{list_all}
+use Rattle.std.proofs.lemmas.List.Folds.{list_all-append}
 use Rattle.std.proofs.lemmas.List.{append-nil, same_from_push}
 use Rattle.std.proofs.lemmas.List.FromFn.{fill_by_all}
 use Rattle.std.proofs.lemmas.Nat.{div-mul-add}
@@ -437,10 +438,6 @@ step_caller s v step may =
 no_steps : (moment later : List Step) → [] ≡ moment ++ later → moment ≡ []
 no_steps [] later h = refl
 no_steps (m ∷ moment) later h = absurd cc
-
-list_all-append : (p : Step → Bool) (xs ys : List Step) → list_all p (xs ++ ys) ≡ (list_all p xs && list_all p ys)
-list_all-append p [] ys = refl
-list_all-append p (x ∷ xs) ys = elim (p x) as (λ b. (b && list_all p (xs ++ ys)) ≡ ((b && list_all p xs) && list_all p ys)) [ true ↦ list_all-append p xs ys | false ↦ refl ]
 
 -- the scan after its first look
 module _ (s : Shape) (who : ℕ) (region : Region) (v : World) (first : Step) (some : 0 < s.callers) (kept : Kept s v) (may : is_possible s v first ≡ true)

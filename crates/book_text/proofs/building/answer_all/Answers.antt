@@ -1,10 +1,10 @@
 use Rattle.std.proofs.Common.{◌≡◌, ◌∙◌, ◌+◌, List, length, arith, ap, sym, subst}
-use Rattle.std.proofs.lemmas.List.{length-map}
+use Rattle.std.proofs.lemmas.List.{length-map, map-id}
 use Rattle.std.proofs.lemmas.Result.{err_from_is_err_and}
 use Rattle.book_base.specs.Book.{Page}
 use Rattle.book_text.specs.PageView.{shown, all_shown}
 use Rattle.book_text.specs.Building.{IsPart, unanswered}
-use Rattle.book_text.proofs.MadeUpTo.{caller_of_made, page_of_made, with_records_made, wide_row, made_all, length-made, part_made, map-whole, whole}
+use Rattle.book_text.proofs.MadeUpTo.{caller_of_made, page_of_made, with_records_made, wide_row, made_all, length-made, part_made, whole}
 use Rattle.book_text.proofs.building.answer_all.Goals as goal
 
 pub answer-requires-clause-caller : goal.answer-requires-clause-caller
@@ -29,4 +29,4 @@ pub loop-i-preserved : goal.loop-i-preserved
 loop-i-preserved c = c.in_ok-answer.ensures.ok ∙ with_records_made c.args.pages.now c.loop-i.i c.index-pages-i.result c.loop-i.book c.index-pages-i.is c.loop-i-test.true c.deref.result.now c.deref.ensures.value c.loop-i.invariant
 
 pub returns-clause-ok : goal.returns-clause-ok
-returns-clause-ok c = c.loop-i.invariant ∙ made_all whole unanswered c.loop-i.i (all_shown c.args.pages.now) (omega (arith, length-map c.args.pages.now shown)) ∙ map-whole (all_shown c.args.pages.now)
+returns-clause-ok c = c.loop-i.invariant ∙ made_all whole unanswered c.loop-i.i (all_shown c.args.pages.now) (omega (arith, length-map c.args.pages.now shown)) ∙ map-id (all_shown c.args.pages.now)

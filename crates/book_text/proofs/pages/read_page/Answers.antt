@@ -1,8 +1,10 @@
-use Rattle.std.proofs.Common.{◌≡◌, ap, arith, ◌-◌}
+use Rattle.std.proofs.Common.{◌≡◌, length, ap, arith, ◌-◌}
 use Rattle.std.proofs.lemmas.Result.{err_from_is_err_and}
 use Rattle.std.specs.Prelude.{option_to_list}
+use Rattle.book_base.specs.declared.call.Record.{Record}
 use Rattle.book_base.specs.Book.{Page}
-use Rattle.book_text.proofs.Wide.{AreWide-append, AreWide-option}
+use Rattle.list_laws.proofs.Elements.{AllByRecursion-append}
+use Rattle.book_text.proofs.Wide.{AreWide-option}
 use Rattle.book_text.specs.PageView.{shown}
 use Rattle.book_text.proofs.PagesLoop.{page_starts, page_goes_on_as, page_ends, page_done}
 use Rattle.book_text.proofs.pages.read_page.Goals as goal
@@ -33,7 +35,7 @@ loop-k-preserved c =
     let entry = c.in_ok-entry.entry in
     record {
       reading = page_goes_on_as c.args.n c.args.i c.args.count _ (shown c.loop-k.page) (shown c.add.new.self) c.loop-k.gap c.is_none-gap.result c.loop-k.k c.loop-k.lines c.read_call_line.new.lines entry.0 entry.1 c.loop-k-test.true c.in_ok-entry.ensures.value c.in_ok-add.ensures.entry c.is_none-gap.ensures c.loop-k.invariant.reading;
-      wide = rw (ap (λ (p : Page). p.records) c.in_ok-add.ensures.entry) (AreWide-append c.args.n c.loop-k.page.records.items (option_to_list entry.1) c.loop-k.invariant.wide (AreWide-option c.args.n entry.1 c.in_ok-entry.ensures.wide));
+      wide = rw (ap (λ (p : Page). p.records) c.in_ok-add.ensures.entry) (AllByRecursion-append (λ (r : Record). length r.view ≡ c.args.n) c.loop-k.page.records.items (option_to_list entry.1) c.loop-k.invariant.wide (AreWide-option c.args.n entry.1 c.in_ok-entry.ensures.wide));
     }
 
 pub returns-clause-value : goal.returns-clause-value

@@ -1,8 +1,10 @@
 use Rattle.std.proofs.Common.{◌≡◌, ◌∙◌, ◌++◌, ◌∷◌, [], ◌<◌, length, ap, refl, arith}
 use Rattle.std.proofs.lemmas.Result.{err_from_is_err_and}
 use Rattle.std.proofs.lemmas.List.{map_push, length-append}
+use Rattle.book_base.specs.Book.{Page}
+use Rattle.book_text.specs.Building.{AreWide}
 use Rattle.book_text.specs.PageView.{shown, all_shown}
-use Rattle.book_text.proofs.Wide.{ArePagesWide-push}
+use Rattle.list_laws.proofs.Elements.{AllByRecursion-append}
 use Rattle.book_text.proofs.PagesLoop.{pages_start, pages_go_on, pages_end, pages_done}
 use Rattle.book_text.proofs.pages.read_pages.Goals as goal
 
@@ -30,7 +32,7 @@ loop-i-preserved c =
     let pages : all_shown c.push.new.self.items ≡ all_shown c.loop-i.pages.items ++ shown page ∷ [] = ap all_shown items ∙ map_push shown c.loop-i.pages.items page in
     record {
       reading = rw (pages, c.n-n.ensures.count) (pages_go_on (length c.args.calls.now) c.args.calls.now _ (all_shown c.loop-i.pages.items) c.loop-i.i c.loop-i.lines c.read_page-read.new.lines (shown page) lt reads (rw c.n-n.ensures.count at c.loop-i.invariant.reading));
-      wide = rw pages (ArePagesWide-push (length c.args.calls.now) (all_shown c.loop-i.pages.items) (shown page) c.loop-i.invariant.wide (rw c.n-n.ensures.count at c.read_page-read.ensures.wide));
+      wide = rw pages (AllByRecursion-append (λ (page : Page). AreWide (length c.args.calls.now) page.records) (all_shown c.loop-i.pages.items) (shown page ∷ []) c.loop-i.invariant.wide (rw c.n-n.ensures.count at c.read_page-read.ensures.wide, tt));
       count = omega (arith, ap length items, length-append c.loop-i.pages.items (page ∷ []), c.loop-i.invariant.count);
     }
 

@@ -1,5 +1,5 @@
 use Rattle.std.proofs.Common.{◌^◌, arith}
-use Rattle.seq_objects.proofs.Decimals.{IfNone-narrowed}
+use Rattle.list_laws.proofs.Decimals.{IfNone-narrowed}
 use Rattle.seq_objects.proofs.digits.argument.Goals as goal
 
 pub returns-clause-none : goal.returns-clause-none

@@ -1,5 +1,5 @@
 use Rattle.std.proofs.Common.{subst, arith}
-use Rattle.seq_objects.proofs.Decimals.{BeginsAsNumber, BeginsAsNumber-decimal, IfSome-parsed, IfNone-parsed, decimal-other_bytes}
+use Rattle.list_laws.proofs.Decimals.{BeginsAsNumber, BeginsAsNumber-decimal, IfSome-parsed, IfNone-parsed, decimal-other_bytes}
 use Rattle.seq_objects.proofs.digits.number.Goals as goal
 
 pub returns-then-not-begins_as_number-clause-none :

@@ -2,7 +2,7 @@ use Rattle.std.proofs.Common.{rules, tests, ◌≡◌, find, option_map, option_
 use Rattle.std.proofs.lemmas.Iterator.{YieldsList-from_slice}
 use Rattle.std.proofs.lemmas.Iterator.Search.{find_from_yields_List}
 use Rattle.seq_objects.specs.EntryView.{shown, entry_named}
-use Rattle.seq_objects.proofs.ListLaws.{find-map}
+use Rattle.list_laws.proofs.Finds.{find-map}
 use Rattle.seq_objects.proofs.entry.entry_named.Goals as goal
 
 pub returns : goal.returns

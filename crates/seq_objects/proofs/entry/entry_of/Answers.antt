@@ -3,7 +3,7 @@ use Rattle.std.proofs.lemmas.Iterator.{YieldsList-from_slice}
 use Rattle.std.proofs.lemmas.Iterator.Search.{find_from_yields_List}
 use Rattle.seq_objects.specs.Words.{is_operation_of, entry_of}
 use Rattle.seq_objects.specs.EntryView.{shown}
-use Rattle.seq_objects.proofs.ListLaws.{find-map}
+use Rattle.list_laws.proofs.Finds.{find-map}
 use Rattle.seq_objects.proofs.entry.entry_of.Goals as goal
 
 pub returns : goal.returns

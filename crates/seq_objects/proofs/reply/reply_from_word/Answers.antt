@@ -2,7 +2,7 @@ use Rattle.std.proofs.Common.{sym, ap, ◌∙◌, arith}
 use Rattle.std.proofs.lemmas.Option.{IfSome_then}
 use Rattle.seq_objects.specs.ReplyView.{shown}
 use Rattle.seq_objects.specs.Replies.{reply_word, reply_value}
-use Rattle.seq_objects.proofs.ListLaws.{IfNone_then}
+use Rattle.list_laws.proofs.Options.{IfNone_then}
 use Rattle.seq_objects.proofs.ReplyTexts.{reply_word-name, reply_word-digits, reply_word-unknown, not-reply-value, not-reply-unmarked, not-reply-marked}
 use Rattle.seq_objects.proofs.reply.reply_from_word.Goals as goal
 

@@ -2,10 +2,11 @@ use Rattle.std.proofs.Common.{◌≡◌, ◌+◌, ◌<◌, ◌∷◌, ℕ, List,
 use Rattle.std.proofs.lemmas.Result.{IfOk-weaker}
 use Rattle.std.specs.Option.{IfNone}
 use Rattle.book_base.specs.declared.call.Place.{Place}
+use Rattle.list_laws.proofs.Options.{IfNone_then}
 use Rattle.frontier_check.specs.declared.pair.Pair.{Pair}
 use Rattle.frontier_check.specs.Next.{next_call, Continues}
 use Rattle.frontier_check.specs.Layer.{CanEnd, SomeCanEnd}
-use Rattle.frontier_check.proofs.Layers.{loaded_words, stepped_words, words_fit, sum_of_raised, reached_next, may_stand-from_step, can_end_after, if_none_weaker}
+use Rattle.frontier_check.proofs.Layers.{loaded_words, stepped_words, words_fit, sum_of_raised, reached_next, may_stand-from_step, can_end_after}
 use Rattle.frontier_check.proofs.search.Search.take.Goals as goal
 
 pub load-requires : goal.load-requires
@@ -65,6 +66,6 @@ returns-clause-taken g c =
     IfOk-weaker c.add.result (λ found. IfNone found (CanEnd book next pair → SomeCanEnd book next c.add.new.frontier.layer.entries))
     (λ found. IfNone found ((place : Place) (rest : List Place) → place.caller ≡ c.args.caller → Continues book next from.counts from.words.items (place ∷ rest)
     → SomeCanEnd book next c.add.new.frontier.layer.entries))
-    (λ found. if_none_weaker found (λ goes. λ (place : Place) (rest : List Place) by (h : Continues book next from.counts from.words.items (place ∷ rest)).
+    (λ found added. IfNone_then found added (λ goes. λ (place : Place) (rest : List Place) by (h : Continues book next from.counts from.words.items (place ∷ rest)).
     goes (can_end_after book next from.counts from.words.items c.args.caller c.next_call-call.result c.op.result pair place rest c.next_call-call.ensures c.op.ensures c.raised.ensures after by h)))
     c.add.ensures.added

@@ -1,6 +1,7 @@
 use Rattle.std.proofs.Common.{◌≡◌, ◌++◌, ◌∷◌, decimal, ap, ◌∙◌}
 use Rattle.seq_objects.specs.Words.{argument_of, AppendsFront}
-use Rattle.seq_objects.proofs.Fronts.{AppendsFront-after, OnErr-holds}
+use Rattle.list_laws.proofs.Results.{OnErr-holds}
+use Rattle.seq_objects.proofs.Fronts.{AppendsFront-after}
 use Rattle.seq_objects.proofs.entry.Entry.put.Goals as goal
 
 pub returns-in_err-put_marked-clause-err : goal.returns-in_err-put_marked-clause-err

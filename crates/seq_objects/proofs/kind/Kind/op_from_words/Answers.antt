@@ -2,7 +2,7 @@ use Rattle.std.proofs.Common.{option_copied, sym}
 use Rattle.std.proofs.lemmas.Option.{IfSome_then}
 use Rattle.seq_objects.specs.EntryView.{shown}
 use Rattle.seq_objects.proofs.Spelling.{Spells-unknown, Spells-known, not-Spells-marked, not-Spells-unnamed, not-Spells-lacking}
-use Rattle.seq_objects.proofs.ListLaws.{IfNone_then}
+use Rattle.list_laws.proofs.Options.{IfNone_then}
 use Rattle.seq_objects.proofs.kind.Kind.op_from_words.Goals as goal
 
 pub returns-in_err-unknown_word-in-Some-clause-none : goal.returns-in_err-unknown_word-in-Some-clause-none

@@ -1,16 +1,15 @@
--- Laws of lists and options: the first element that passes a test, lists where at most one does,
--- and heads and tails.
-use Rattle.std.proofs.Common.{◌≡◌, Bool, true, false, not, ◌&&◌, ◌⊎◌, List, [], ◌∷◌, map, find, Option, option_map, Some, None, is_some, IfNone, inl, inr, sym, ap, subst, refl, ◌∙◌}
+-- The first element of a list that passes a test, and lists where at most one does.
+use Rattle.std.proofs.Common.{◌≡◌, Bool, true, not, ◌&&◌, ◌⊎◌, List, [], ◌∷◌, map, find, option_map, Some, inl, inr, sym, ap, subst, refl, ◌∙◌}
 use Rattle.std.specs.List.{list_all}
-use Rattle.std.proofs.lemmas.Bool.{and_parts, both_ways, not-true, cond-true, cond-false, cases_Bool, true≢false}
+use Rattle.std.proofs.lemmas.Bool.{and_parts, both_ways, not-true, cond-true, cond-false, cases_Bool}
 use Rattle.std.proofs.lemmas.Option.{same_Some}
 
--- An element stands in a list.
+-- an element stands in a list
 abbrev pub IsIn : {X : Type 0} → X → List X → Type 0
 IsIn x [] = ⊥
 IsIn x (y ∷ ys) = (x ≡ y) ⊎ IsIn x ys
 
--- What is found stands in the list and passes.
+-- what is found stands in the list and passes
 pub find_inside : {X : Type 0} (p : X → Bool) (xs : List X) (x : X) → find p xs ≡ Some x
     → IsIn x xs × (p x ≡ true)
 find_inside p [] x found = cc
@@ -19,19 +18,7 @@ find_inside p (y ∷ ys) x found = elim (cases_Bool (p y)) [
   | inr past ↦ let rest = find_inside p ys x (sym (cond-false (p y) (Some y) (find p ys) past) ∙ found) in (inr rest.0, rest.1)
 ]
 
--- Where nothing is found no element passes.
-pub find_none : {X : Type 0} (p : X → Bool) (xs : List X) (x : X) → find p xs ≡ None → IsIn x xs
-    → p x ≡ false
-find_none p [] x none inside = absurd inside
-find_none p (y ∷ ys) x none inside = elim (cases_Bool (p y)) [
-  | inl here ↦ let impossible = sym (cond-true (p y) (Some y) (find p ys) here) ∙ none in cc
-  | inr past ↦ elim inside [
-    | inl same ↦ ap p same ∙ past
-    | inr later ↦ find_none p ys x (sym (cond-false (p y) (Some y) (find p ys) past) ∙ none) later
-  ]
-]
-
--- The only element that passes is found.
+-- the only element that passes is found
 pub find_only : {X : Type 0} (p : X → Bool) (xs : List X) (x : X) → IsIn x xs → p x ≡ true
     → ((y : X) → IsIn y xs → p y ≡ true → y ≡ x) → find p xs ≡ Some x
 find_only p [] x inside passes only = absurd inside
@@ -43,7 +30,7 @@ find_only p (y ∷ ys) x inside passes only = elim (cases_Bool (p y)) [
   ]
 ]
 
--- What holds of each element by a test holds of one.
+-- what holds of each element by a test holds of one
 pub list_all-inside : {X : Type 0} (p : X → Bool) (xs : List X) (x : X) → list_all p xs ≡ true
     → IsIn x xs → p x ≡ true
 list_all-inside p [] x all inside = absurd inside
@@ -52,12 +39,12 @@ list_all-inside p (y ∷ ys) x all inside = elim inside [
   | inr later ↦ list_all-inside p ys x (and_parts (p y) (list_all p ys) all).1 later
 ]
 
--- No two elements of a list are the same by a test.
+-- no two elements of a list are the same by a test
 abbrev pub are_distinct : {X : Type 0} → (X → X → Bool) → List X → Bool
 are_distinct same [] = true
 are_distinct same (x ∷ xs) = list_all (λ y. not (same x y)) xs && are_distinct same xs
 
--- In such a list two elements that the test takes for the same are one.
+-- in such a list two elements that the test takes for the same are one
 pub are_distinct-inside : {X : Type 0} (same : X → X → Bool) (symmetric : (x y : X) → same x y ≡ true → same y x ≡ true) (xs : List X) (x y : X)
     → are_distinct same xs ≡ true → IsIn x xs → IsIn y xs → same x y ≡ true → x ≡ y
 are_distinct-inside same symmetric [] x y distinct x_in y_in agree = absurd x_in
@@ -74,7 +61,7 @@ are_distinct-inside same symmetric (z ∷ zs) x y distinct x_in y_in agree =
       ]
     ]
 
--- What is found among values seen by f is what is found among the values.
+-- what is found among values seen by f is what is found among the values
 pub find-map : {X Y : Type 0} (f : X → Y) (p : Y → Bool) (xs : List X)
     → find p (map f xs) ≡ option_map f (find (λ x. p (f x)) xs)
 find-map f p [] = refl
@@ -82,23 +69,3 @@ find-map f p (x ∷ xs) = elim (cases_Bool (p (f x))) [
   | inl here ↦ cond-true (p (f x)) (Some (f x)) (find p (map f xs)) here ∙ ap (option_map f) (sym (cond-true (p (f x)) (Some x) (find (λ y. p (f y)) xs) here))
   | inr past ↦ cond-false (p (f x)) (Some (f x)) (find p (map f xs)) past ∙ find-map f p xs ∙ ap (option_map f) (sym (cond-false (p (f x)) (Some x) (find (λ y. p (f y)) xs) past))
 ]
-
--- An option is nothing or something.
-pub cases_Option : {X : Type 0} (o : Option X) → (o ≡ None) ⊎ ((x : X) × (o ≡ Some x))
-cases_Option None = inl refl
-cases_Option (Some x) = inr (x, refl)
-
-pub none_from_is_some : {X : Type 0} (o : Option X) → is_some o ≡ false → o ≡ None
-none_from_is_some None absent = refl
-none_from_is_some (Some x) absent = absurd (true≢false absent)
-
-pub same_head : {X : Type 0} (a b : X) (xs ys : List X) → a ∷ xs ≡ b ∷ ys → a ≡ b
-same_head a b xs ys same = cc
-
-pub same_tail : {X : Type 0} (a b : X) (xs ys : List X) → a ∷ xs ≡ b ∷ ys → xs ≡ ys
-same_tail a b xs ys same = cc
-
--- What follows where there is nothing.
-pub IfNone_then : {X A B : Type 0} (r : Option X) → IfNone r A → (A → B) → IfNone r B
-IfNone_then None holds gives = gives holds
-IfNone_then (Some x) holds gives = tt

@@ -7,18 +7,20 @@ use Rattle.std.proofs.lemmas.Str.Parse.{IsNumeralModel, numerals_by_value, tells
 use Rattle.std.proofs.lemmas.Str.{IsUtf8-from_ascii}
 use Rattle.std.proofs.lemmas.Fmt.{decimal_digit, first_decimal, decimal_nonempty, digits_decimal, decimal-digits_value, parse-decimal, IsAscii-decimal, decimal_injective}
 
+-- digits in base ten are numerals
 pub numerals : IsNumeralModel (AllDigits 10) (digits_value 10)
 numerals = numerals_by_value (AllDigits 10) tells_digits
 
--- Each byte of a number's text is a digit.
+-- each byte of a number's text is a digit
 pub decimal_byte : (n i : ℕ) → n < 2 ^ 64 → i < length (decimal n)
     → IsInRange 48 57 (get_or (decimal n) i 0)
 decimal_byte n i small inside = digit_at (decimal n) i (digits_decimal numerals n small) inside
 
--- What a text begins with that may be a number's.
+-- what a text begins with that may be a number's
 abbrev pub BeginsAsNumber : List ℕ → Type 0
 BeginsAsNumber word = (word ≡ 48 ∷ []) ⊎ IsInRange 49 57 (get_or word 0 0)
 
+-- a number's text begins so
 pub BeginsAsNumber-decimal : (n : ℕ) → n < 2 ^ 64 → BeginsAsNumber (decimal n)
 BeginsAsNumber-decimal zero small = inl (decimal_digit 0 (omega arith))
 BeginsAsNumber-decimal (suc n) small =
@@ -26,16 +28,18 @@ BeginsAsNumber-decimal (suc n) small =
     let digit = decimal_byte (suc n) 0 small (decimal_nonempty (suc n) small) in
     inr (omega arith, digit.1)
 
+-- what begins so begins with no sign
 no_plus : (word : List ℕ) → BeginsAsNumber word → get_or word 0 0 ≢ 43
 no_plus word (inl zero_alone) =
     λ plus. let first : get_or word 0 0 ≡ 48 = rw zero_alone in omega arith
 no_plus word (inr digit) = λ plus. omega arith
 
+-- and with 0 only where nothing follows
 single_zero : (word : List ℕ) → BeginsAsNumber word → get_or word 0 0 ≡ 48 → length word ≡ 1
 single_zero word (inl zero_alone) _ = rw zero_alone
 single_zero word (inr digit) zero_first = absurd (omega arith)
 
--- What a text that begins so is read as is the number whose text it is.
+-- what a text that begins so is read as is the number whose text it is
 pub IfSome-parsed : {E : Type 0} (word : List ℕ) (r : Result ℕ E) → BeginsAsNumber word
     → ParsesUnsigned 64 10 word r → IfSome (result_ok r) (λ n. decimal n ≡ word)
 IfSome-parsed {E} word (Ok n) begins parses =
@@ -43,20 +47,20 @@ IfSome-parsed {E} word (Ok n) begins parses =
     rw plain.1 (decimal-digits_value numerals word plain.0.0 plain.0.1 (single_zero word begins) plain.0.2)
 IfSome-parsed word (Err e) begins parses = tt
 
--- What isn't read as a number is no number's text.
+-- what isn't read as a number is no number's text
 pub IfNone-parsed : {E : Type 0} (word : List ℕ) (r : Result ℕ E) → ParsesUnsigned 64 10 word r
     → IfNone (result_ok r) ((n : ℕ) → n < 2 ^ 64 → decimal n ≢ word)
 IfNone-parsed word (Ok n) parses = tt
 IfNone-parsed word (Err e) parses =
     λ n small same. let gives : Err e ≡ Ok n = parse-decimal 64 n word (Err e) small small (sym same) parses in cc
 
--- Bytes that are no text are no number's text.
+-- bytes that are no text are no number's text
 pub decimal-other_bytes : (word : List ℕ) → ¬ (IsUtf8 word) → (n : ℕ) → n < 2 ^ 64
     → decimal n ≢ word
 decimal-other_bytes word other n small same =
     other (subst IsUtf8 same (IsUtf8-from_ascii (decimal n) (IsAscii-decimal n small)))
 
--- A number's text is no smaller number's text.
+-- a number's text is no smaller number's text
 pub IfNone-narrowed : {E : Type 0} (word : List ℕ) (m bound : ℕ) (r : Result ℕ E) → bound ≤ 2 ^ 64
     → m < 2 ^ 64 → decimal m ≡ word → OkIff r (m < bound) m
     → IfNone (result_ok r) ((n : ℕ) → n < bound → decimal n ≢ word)
