@@ -1,5 +1,5 @@
 -- How a book is built from the pages that were read.
-use Rattle.std.specs.Prelude.{◌≡◌, ℕ, List, [], length, map, Some, slice_set}
+use Rattle.std.specs.Prelude.{◌≡◌, ℕ, List, [], length, Some, slice_set}
 use Rattle.std.specs.List.{AllByRecursion}
 use Rattle.book_base.specs.declared.call.Call.{Call}
 use Rattle.book_base.specs.declared.call.Record.{Record}
