@@ -75,6 +75,7 @@ impl Sink for MemorySink {
         ensures bytes { WriteAppends (Some self.old.taken) (Some self.new.taken) result piece.now }
         ensures later { self.old.faults ≤ self.new.faults }
         ensures cause { IsRefusal result piece.now → Rose self.old.faults self.new.faults }
+        ensures calm { ¬ IsRefusal result piece.now → self.new.faults ≡ self.old.faults }
 
         // It fails exactly where the number of the call says so, or where no room is left.
         ensures fails { IsErr result ↔ WriteFails self.old piece.now }

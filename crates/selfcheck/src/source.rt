@@ -1,4 +1,4 @@
-ghost use Rattle.std.specs.Prelude.{ℕ, ◌≤◌, List, length, Option, IfOk, OnErr};
+ghost use Rattle.std.specs.Prelude.{◌≡◌, ℕ, ◌≤◌, List, length, Option, IfOk, OnOk, OnErr};
 ghost use Rattle.std.specs.Io.KnownBytes.{ReadConsumes};
 ghost use Rattle.selfcheck.specs.Fault.{Rose};
 
@@ -9,7 +9,7 @@ pub trait Source {
     /// The bytes that are left, where the source tells them.
     ghost left: { Self → Option (List ℕ) };
 
-    /// How often the source has failed. The count never falls.
+    /// How often the source has failed. The count never falls, and rises at a failure alone.
     ghost faults: { Self → ℕ };
 
     /// Fills the front of the piece, and answers how many bytes it gave: none of a piece that isn't empty
@@ -18,5 +18,6 @@ pub trait Source {
         ensures bound { IfOk result (λ count. count ≤ length piece.old) }
         ensures bytes { ReadConsumes (left self.old) (left self.new) result piece.new }
         ensures later { faults self.old ≤ faults self.new }
-        ensures cause { OnErr result (Rose (faults self.old) (faults self.new)) };
+        ensures cause { OnErr result (Rose (faults self.old) (faults self.new)) }
+        ensures calm { OnOk result (faults self.new ≡ faults self.old) };
 }

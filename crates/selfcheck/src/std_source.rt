@@ -1,10 +1,10 @@
-ghost use Rattle.std.specs.Prelude.{◌≡◌, None};
+ghost use Rattle.std.specs.Prelude.{◌≡◌};
 
 use crate::failed::Failed;
 use crate::source::Source;
 use std::io::Read;
 
-/// Standard input, with a count of the reads that failed. It tells no bytes.
+/// Standard input, with a count of the reads that failed. It tells the bytes that its reader tells.
 #[derive(Debug, Drop)]
 pub struct StdSource<I> {
     input: I,
@@ -24,7 +24,7 @@ impl<I: Read> StdSource<I> {
 }
 
 impl<I: Read> Source for StdSource<I> {
-    ghost left = { λ _. None };
+    ghost left = { λ s. ⟦<I as Read>⟧.remaining s.input };
 
     ghost faults = { λ s. s.faults };
 

@@ -26,6 +26,7 @@ fn read_more<S: Source>(
     ensures err { OnErr result ((given : List ℕ) × Consumes (S.left source.old) (S.left source.new) given) }
     ensures later { S.faults source.old ≤ S.faults source.new }
     ensures cause { IsErrOf result ReadAllError.Fault → Rose (S.faults source.old) (S.faults source.new) }
+    ensures calm { ¬ IsErrOf result ReadAllError.Fault → S.faults source.new ≡ S.faults source.old }
 {
     let mut buffer = [0; PIECE];
     let piece = &mut buffer[..room.min(PIECE)];
@@ -43,6 +44,7 @@ pub fn read_all<S: Source>(alloc: Global, source: &mut S) -> Result<Vec<u8>, Rea
     ensures err { OnErr result ((given : List ℕ) × Consumes (S.left source.old) (S.left source.new) given) }
     ensures later { S.faults source.old ≤ S.faults source.new }
     ensures cause { IsErrOf result ReadAllError.Fault → Rose (S.faults source.old) (S.faults source.new) }
+    ensures calm { ¬ IsErrOf result ReadAllError.Fault → S.faults source.new ≡ S.faults source.old }
 {
     let mut bytes = Vec::new(alloc);
     while bytes.len() <= INPUT_LIMIT {
@@ -60,6 +62,7 @@ pub fn write_all<K: Sink>(sink: &mut K, text: &[u8]) -> Result<(), Failed>
     ensures part { OnErr result (AppendsPart (K.taken sink.old) (K.taken sink.new) text.now) }
     ensures later { K.faults sink.old ≤ K.faults sink.new }
     ensures cause { OnErr result (Rose (K.faults sink.old) (K.faults sink.new)) }
+    ensures calm { OnOk result (K.faults sink.new ≡ K.faults sink.old) }
 {
     let mut at = 0;
     while at < text.len() {

@@ -1,4 +1,4 @@
-use Rattle.std.proofs.Common.{◌-◌, length, drop, arith, length-take, length-drop}
+use Rattle.std.proofs.Common.{◌-◌, length, drop, arith, length-take, length-drop, ◌∙◌}
 use Rattle.selfcheck.proofs.ToldLemmas.{Appends-take}
 use Rattle.selfcheck.proofs.transfer.write_all.Goals as goal
 
@@ -6,5 +6,5 @@ pub loop-at-preserved : goal.loop-at-preserved
 loop-at-preserved g c = record {
   within = omega (arith, c.in_ok-count.ensures.bound, length-take (length c.args.text.now - c.loop-at.at) (drop c.loop-at.at c.args.text.now), length-drop c.loop-at.at c.args.text.now);
   taken = Appends-take _ _ _ c.args.text.now c.loop-at.at c.in_ok-count.count c.loop-at.invariant.taken c.in_ok-count.ensures.bytes;
-  later = omega (arith, c.loop-at.invariant.later, c.write.ensures.later);
+  calm = c.in_ok-count.ensures.calm (λ refused. c.if-count-eq0.false refused.0) ∙ c.loop-at.invariant.calm;
 }
