@@ -41,7 +41,7 @@ fn a_book_without_calls_is_read(rt: HostRuntime) -> Result<(), Fail> {
 
 #[test]
 fn other_texts_are_refused(rt: HostRuntime) {
-    let cases: [(&[u8], u64, What); 14] = [
+    let cases: [(&[u8], u64, What); 15] = [
         (b"", 1, What::Cut),
         (b"report 1\n", 1, What::Head),
         (b"book 1\nobject heap\n", 2, What::Object),
@@ -92,6 +92,12 @@ fn other_texts_are_refused(rt: HostRuntime) {
             7,
             What::Rest,
         ),
+        // The view counts a call whose line is still to come.
+        (
+            b"book 1\nobject queue\ncallers 2\ncalls 1 1\n0 0 enq 5 done view 1 1\n",
+            6,
+            What::Cut,
+        ),
     ];
     for (text, line, what) in cases {
         let fault = ReadFault::Text(TextFault { line, what });
@@ -102,7 +108,7 @@ fn other_texts_are_refused(rt: HostRuntime) {
 // A view at fault comes before what is wrong with a later line.
 #[test]
 fn views_are_refused(rt: HostRuntime) {
-    let cases: [(&[u8], u64, What); 4] = [
+    let cases: [(&[u8], u64, What); 5] = [
         (
             b"book 1\nobject queue\ncallers 2\ncalls 2 1\n0 0 enq 5 done view 3 0\n",
             5,
@@ -122,6 +128,11 @@ fn views_are_refused(rt: HostRuntime) {
             b"book 1\nobject queue\ncallers 2\ncalls 1 1\n0 0 enq 5 done view 1 0\n1 0 deq none view 0 1\nend\n",
             6,
             What::ViewsCross,
+        ),
+        (
+            b"book 1\nobject queue\ncallers 2\ncalls 2 1\n0 0 enq 5 done view 1 0\n0 1 deq\n1 0 deq =5 view 1 0\n",
+            7,
+            What::ViewLacksOwn,
         ),
     ];
     for (text, line, what) in cases {
