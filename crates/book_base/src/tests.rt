@@ -13,6 +13,12 @@ fn two(first: u64, second: u64) -> Cut
 }
 
 #[test]
+fn limits_are_as_documented(rt: HostRuntime) {
+    assert_eq!(rt; (MAX_CALLERS, MAX_CALLS, MAX_ROOM), (8, 64, 8192));
+    assert_eq!(rt; BAD, 17_179_869_184);
+}
+
+#[test]
 fn cuts_are_lists_of_counts(rt: HostRuntime) {
     let cut = two(1, 3);
     assert_eq!(rt; (cut.n(), cut.get(0), cut.get(1)), (2, 1, 3));
