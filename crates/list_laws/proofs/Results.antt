@@ -20,3 +20,8 @@ ok_or_ok (Some y) d x e = cc
 pub if_ok : {T E : Type 0} (b : Bool) (x y : T) (d : E) → cond b (Ok x) (Err d) ≡ Ok y → (b ≡ true) × (x ≡ y)
 if_ok true x y d e = (refl, cc)
 if_ok false x y d e = absurd cc
+
+-- what follows after an error
+pub OnErr_then : {T E P Q : Type 0} (r : Result T E) → OnErr r P → (P → Q) → OnErr r Q
+OnErr_then (Ok x) holds gives = tt
+OnErr_then (Err e) holds gives = gives holds

@@ -1,0 +1,38 @@
+-- A byte that a word lacks ends the word: what stands before and behind it is known.
+use Rattle.std.proofs.Common.{◌≡◌, ◌≢◌, ℕ, ◌^◌, ◌<◌, false, eqb, List, [], ◌∷◌, ◌++◌, get_or, decimal, sym, refl, ne_eqb}
+use Rattle.std.specs.Int.{IsInRange}
+use Rattle.std.proofs.lemmas.Bool.{both_ways, eq-eqb}
+use Rattle.std.proofs.lemmas.List.{get_or_default}
+use Rattle.std.proofs.lemmas.List.Elements.{All-head, All-tail}
+use Rattle.list_laws.proofs.Decimals.{decimal_byte}
+use Rattle.list_laws.proofs.Splits.{Lacks}
+
+-- a word that lacks a byte doesn't begin with it
+not-first : (mark : ℕ) (x : ℕ) (word : List ℕ) → Lacks mark (x ∷ word) → mark ≢ x
+not-first mark x word lacks same =
+    both_ways (eqb x mark) (All-head (λ b. eqb b mark ≡ false) x word lacks) (eq-eqb x mark (sym same))
+
+-- what stands before the first such byte, and behind it, is one way only
+pub first_mark-once : (mark : ℕ) (before other behind rest : List ℕ) → Lacks mark before → Lacks mark other
+    → before ++ mark ∷ behind ≡ other ++ mark ∷ rest → (before ≡ other) × (behind ≡ rest)
+first_mark-once mark [] [] behind rest lacks other_lacks same = (refl, cc)
+first_mark-once mark [] (y ∷ other) behind rest lacks other_lacks same =
+    absurd (not-first mark y other other_lacks cc)
+first_mark-once mark (x ∷ before) [] behind rest lacks other_lacks same =
+    absurd (not-first mark x before lacks cc)
+first_mark-once mark (x ∷ before) (y ∷ other) behind rest lacks other_lacks same =
+    let tails = first_mark-once mark before other behind rest (All-tail (λ b. eqb b mark ≡ false) x before lacks) (All-tail (λ b. eqb b mark ≡ false) y other other_lacks) cc in
+    (cc, tails.1)
+
+-- a word with such a byte in it doesn't lack it
+pub not-Lacks-marked : (mark : ℕ) (before behind : List ℕ) → Lacks mark (before ++ mark ∷ behind) → ⊥
+not-Lacks-marked mark [] behind lacks = not-first mark mark behind lacks refl
+not-Lacks-marked mark (x ∷ before) behind lacks =
+    not-Lacks-marked mark before behind (All-tail (λ b. eqb b mark ≡ false) x (before ++ mark ∷ behind) lacks)
+
+-- the text of a number lacks what is no digit
+pub decimal-Lacks : (mark n : ℕ) → n < 2 ^ 64 → (IsInRange 48 57 mark → ⊥) → Lacks mark (decimal n)
+decimal-Lacks mark n small no_digit k d inside =
+    let digit = decimal_byte n k small inside in
+    let here : IsInRange 48 57 (get_or (decimal n) k d) = rw (get_or_default (decimal n) k d 0 inside) digit in
+    ne_eqb (get_or (decimal n) k d) mark (λ same. no_digit (rw same at here))

@@ -1,0 +1,9 @@
+-- An item that takes the place of another.
+use Rattle.std.proofs.Common.{◌≡◌, ℕ, zero, suc, ◌<◌, List, [], ◌∷◌, length, set, insert, remove, ap, refl, arith}
+
+-- to take an item out and put another there is to set it
+pub insert-remove : {X : Type 0} (xs : List X) (i : ℕ) (x : X) → i < length xs
+    → insert (remove xs i) i x ≡ set xs i x
+insert-remove [] i x inside = absurd (omega arith)
+insert-remove (y ∷ ys) zero x inside = refl
+insert-remove (y ∷ ys) (suc i) x inside = ap (λ zs. y ∷ zs) (insert-remove ys i x (omega arith))
