@@ -1,14 +1,16 @@
 -- A book with one more call, or with one more answer, is valid still.
-use Rattle.std.proofs.Common.{◌≡◌, ◌≢◌, ℕ, ◌+◌, ◌<◌, ◌≤◌, ◌∙◌, ◌⊎◌, List, [], ◌∷◌, ◌++◌, length, map, get_or, Some, refl, sym, ap, subst, inl, inr, arith, slice_get, set}
+use Rattle.std.proofs.Common.{◌≡◌, ◌≢◌, ℕ, zero, suc, ◌+◌, ◌<◌, ◌≤◌, ◌∙◌, ◌⊎◌, List, [], ◌∷◌, ◌++◌, length, map, take, get_or, Some, refl, sym, ap, subst, inl, inr, arith, slice_get, set}
 use Rattle.std.proofs.lemmas.Bool.{cases_lt, cases_eq}
-use Rattle.std.proofs.lemmas.List.{get_or_past, get_or-map, length-map, length-set, length-append, get_or-set_same, get_or-set_other}
+use Rattle.std.proofs.lemmas.List.{get_or_past, get_or-map, length-map, length-set, length-append, length-replicate, get_or-set_same, get_or-set_other}
+use Rattle.std.proofs.lemmas.Option.{none-some}
 use Rattle.std.proofs.Math.Seq.{map-set_same}
+use Rattle.list_laws.proofs.Maps.{map-take_more}
 use Rattle.list_laws.proofs.Places.{slice_get-push_old, slice_get-push_last, slice_get-push_cases}
 use Rattle.book_base.specs.declared.call.Call.{Call}
 use Rattle.book_base.specs.declared.call.Record.{Record}
-use Rattle.book_base.specs.declared.TheConstants.{MAX_CALLS}
+use Rattle.book_base.specs.declared.TheConstants.{MAX_CALLERS, MAX_CALLS}
 use Rattle.book_base.specs.Cut.{IsWithin, AreComparable}
-use Rattle.book_base.specs.Book.{first_unanswered, Page, page_of, calls_of, answers_of, announced, record_of, IsValid, IsSmall, with_call, with_answer}
+use Rattle.book_base.specs.Book.{first_unanswered, Page, page_of, calls_of, answers_of, announced, record_of, IsValid, IsSmall, unanswered_page, unanswered_book, with_call, with_operation, with_answer}
 use Rattle.book_base.specs.Refusal.{MayAnswer}
 use Rattle.book_base.proofs.PageLemmas.{empty, page_past}
 
@@ -35,6 +37,84 @@ page_of-set_same book i p h = get_or-set_same book i p empty h
 pub page_of-set_other : (book : List Page) (i j : ℕ) (p : Page) → j ≢ i → page_of (set book i p) j ≡ page_of book j
 page_of-set_other book i j p h = get_or-set_other book i j p empty h
 
+-- a book with the same callers and records, and no fewer calls, is valid still
+pub IsValid-more_calls : (book new : List Page) → length new ≡ length book → ((i : ℕ) → (page_of new i).records ≡ (page_of book i).records)
+    → ((i : ℕ) → calls_of book i ≤ calls_of new i) → IsValid book → IsValid new
+IsValid-more_calls book new wide records calls valid =
+    let known : (call : Call) (r : Record) → record_of new call ≡ Some r → record_of book call ≡ Some r
+    = λ call r e. sym (ap (λ (rs : List Record). slice_get rs call.number) (records call.caller)) ∙ e in
+    record {
+      answers = λ j. omega (arith, valid.answers j, calls j, ap (length {A = Record}) (records j));
+      wide = λ call r e. valid.wide call r (known call r e) ∙ sym wide;
+      within = λ call r e. within_announced new r.view (λ j. omega (arith, below_calls book r.view (valid.within call r (known call r e)) j, calls j));
+      own = λ call r e. valid.own call r (known call r e);
+      comparable = λ a b r s e f. valid.comparable a b r s (known a r e) (known b s f);
+    }
+
+-- ---- calls without answers
+
+pub page_of-unanswered_book : (calls : List ℕ) (i : ℕ) → page_of (unanswered_book calls) i ≡ unanswered_page (get_or calls i 0)
+page_of-unanswered_book [] i = refl
+page_of-unanswered_book (n ∷ calls) zero = refl
+page_of-unanswered_book (n ∷ calls) (suc i) = page_of-unanswered_book calls i
+
+pub IsValid-unanswered_book : (calls : List ℕ) → IsValid (unanswered_book calls)
+IsValid-unanswered_book calls =
+    let none : (call : Call) (r : Record) → record_of (unanswered_book calls) call ≡ Some r → ⊥
+    = λ call r e. none-some r (sym (ap (λ (p : Page). slice_get p.records call.number) (page_of-unanswered_book calls call.caller)) ∙ e) in
+    record {
+      answers = λ i. omega (arith, ap (λ (p : Page). length p.records) (page_of-unanswered_book calls i));
+      wide = λ call r e. absurd (none call r e);
+      within = λ call r e. absurd (none call r e);
+      own = λ call r e. absurd (none call r e);
+      comparable = λ a b r s e f. absurd (none a r e);
+    }
+
+pub IsSmall-unanswered_book : (calls : List ℕ) → 1 ≤ length calls → length calls ≤ MAX_CALLERS → ((i : ℕ) → get_or calls i 0 ≤ MAX_CALLS) → IsSmall (unanswered_book calls)
+IsSmall-unanswered_book calls some few small = record {
+  some = omega (arith, length-map calls unanswered_page);
+  callers = omega (arith, length-map calls unanswered_page);
+  calls = λ i. omega (arith, small i, ap (λ (p : Page). length p.operations) (page_of-unanswered_book calls i), length-replicate {A = ℕ} (get_or calls i 0) 0);
+}
+
+-- one caller more
+pub unanswered_book-more : (book : List Page) (calls : List ℕ) (i : ℕ) (p : Page) → i < length calls → book ≡ unanswered_book (take i calls) → p ≡ unanswered_page (get_or calls i 0)
+    → book ++ p ∷ [] ≡ unanswered_book (take (i + 1) calls)
+unanswered_book-more book calls i p h e is =
+    ap (λ (b : List Page). b ++ p ∷ []) e ∙ (ap (λ (q : Page). unanswered_book (take i calls) ++ q ∷ []) is ∙ map-take_more unanswered_page calls i 0 h)
+
+-- ---- another operation
+
+pub calls_of-with_operation : (book : List Page) (call : Call) (op j : ℕ) → call.caller < length book → calls_of (with_operation book call op) j ≡ calls_of book j
+calls_of-with_operation book call op j h =
+    let p : Page = record (page_of book call.caller) { operations = set (page_of book call.caller).operations call.number op } in
+    elim (cases_eq j call.caller) [
+      | inl same ↦ subst (λ (k : ℕ). calls_of (set book call.caller p) k ≡ calls_of book k) (sym same) (omega (arith, ap (λ (q : Page). length q.operations) (page_of-set_same book call.caller p h), length-set (page_of book call.caller).operations call.number op))
+      | inr other ↦ ap (λ (q : Page). length q.operations) (page_of-set_other book call.caller j p other)
+    ]
+
+pub records-with_operation : (book : List Page) (call : Call) (op j : ℕ) → call.caller < length book → (page_of (with_operation book call op) j).records ≡ (page_of book j).records
+records-with_operation book call op j h =
+    let p : Page = record (page_of book call.caller) { operations = set (page_of book call.caller).operations call.number op } in
+    elim (cases_eq j call.caller) [
+      | inl same ↦ subst (λ (k : ℕ). (page_of (set book call.caller p) k).records ≡ (page_of book k).records) (sym same) (ap (λ (q : Page). q.records) (page_of-set_same book call.caller p h))
+      | inr other ↦ ap (λ (q : Page). q.records) (page_of-set_other book call.caller j p other)
+    ]
+
+pub IsValid-with_operation : (book : List Page) (call : Call) (op : ℕ) → call.caller < length book → IsValid book → IsValid (with_operation book call op)
+IsValid-with_operation book call op h valid =
+    IsValid-more_calls book (with_operation book call op) (length-set book call.caller (record (page_of book call.caller) { operations = set (page_of book call.caller).operations call.number op }))
+    (λ j. records-with_operation book call op j h) (λ j. omega (arith, calls_of-with_operation book call op j h)) valid
+
+pub IsSmall-with_operation : (book : List Page) (call : Call) (op : ℕ) → call.caller < length book → IsSmall book → IsSmall (with_operation book call op)
+IsSmall-with_operation book call op h small =
+    let p : Page = record (page_of book call.caller) { operations = set (page_of book call.caller).operations call.number op } in
+    record {
+      some = omega (arith, length-set book call.caller p, small.some);
+      callers = omega (arith, length-set book call.caller p, small.callers);
+      calls = λ j. omega (arith, calls_of-with_operation book call op j h, small.calls j);
+    }
+
 -- ---- one more call
 
 -- who made how many calls after one more
@@ -57,15 +137,8 @@ records-with_call book i op j h =
 
 pub IsValid-with_call : (book : List Page) (i op : ℕ) → i < length book → IsValid book → IsValid (with_call book i op)
 IsValid-with_call book i op h valid =
-    let known : (call : Call) (r : Record) → record_of (with_call book i op) call ≡ Some r → record_of book call ≡ Some r
-    = λ call r e. sym (ap (λ (rs : List Record). slice_get rs call.number) (records-with_call book i op call.caller h)) ∙ e in
-    record {
-      answers = λ j. omega (arith, valid.answers j, calls_of-with_call book i op j h, ap (length {A = Record}) (records-with_call book i op j h));
-      wide = λ call r e. valid.wide call r (known call r e) ∙ sym (length-set book i (record (page_of book i) { operations = (page_of book i).operations ++ op ∷ [] }));
-      within = λ call r e. within_announced (with_call book i op) r.view (λ j. omega (arith, below_calls book r.view (valid.within call r (known call r e)) j, calls_of-with_call book i op j h));
-      own = λ call r e. valid.own call r (known call r e);
-      comparable = λ a b r s e f. valid.comparable a b r s (known a r e) (known b s f);
-    }
+    IsValid-more_calls book (with_call book i op) (length-set book i (record (page_of book i) { operations = (page_of book i).operations ++ op ∷ [] }))
+    (λ j. records-with_call book i op j h) (λ j. calls_of-with_call book i op j h) valid
 
 pub IsSmall-with_call : (book : List Page) (i op : ℕ) → i < length book → calls_of book i < MAX_CALLS → IsSmall book → IsSmall (with_call book i op)
 IsSmall-with_call book i op h room small =

@@ -1,4 +1,7 @@
 pub mod CutLemmas
 pub mod PageLemmas
 pub mod GrowthLemmas
+pub mod ViewLemmas
 pub mod RefusalLemmas
+pub mod ForesightLemmas
+pub mod ReachingLemmas

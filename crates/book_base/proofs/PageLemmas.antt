@@ -7,7 +7,7 @@ use Rattle.std.proofs.lemmas.Option.{slice_get_read}
 use Rattle.book_base.specs.declared.call.Call.{Call}
 use Rattle.book_base.specs.declared.call.Record.{Record}
 use Rattle.book_base.specs.declared.book.Rows.{Rows}
-use Rattle.book_base.specs.Book.{Page, page_of, calls_of, answers_of, operation_of, record_of, with_call, with_answer}
+use Rattle.book_base.specs.Book.{Page, page_of, calls_of, answers_of, operation_of, record_of, with_call, with_operation, with_answer}
 use Rattle.book_base.specs.BookLayout.{page, pages}
 
 abbrev pub empty : Page
@@ -65,6 +65,17 @@ pages-with_call rows book i op r s e h is pushed same =
     let one : page s ≡ record (page_of book i) { operations = (page_of book i).operations ++ op ∷ [] }
     = ap (λ (ops : List ℕ). made ops s.records.items) pushed ∙ (ap (made (r.operations.items ++ op ∷ [])) same ∙ ap (λ (p : Page). made (p.operations ++ op ∷ []) p.records) (sym known)) in
     map-set page rows i s ∙ (ap (λ (b : List Page). set b i (page s)) e ∙ ap (set book i) one)
+
+-- rows with another operation hold the book with it
+pub pages-with_operation : (rows : List Rows) (book : List Page) (call : Call) (op : ℕ) (r s : Rows) → pages rows ≡ book → call.caller < length book → r ≡ get_or rows call.caller r
+    → s.operations.items ≡ set r.operations.items call.number op → s.records.items ≡ r.records.items → pages (set rows call.caller s) ≡ with_operation book call op
+pages-with_operation rows book call op r s e h is put same =
+    let known = page_of-pages rows book call.caller r e h is in
+    let made : List ℕ → List Record → Page = λ ops rs. record { operations = ops; records = rs } in
+    let one : page s ≡ record (page_of book call.caller) { operations = set (page_of book call.caller).operations call.number op }
+    = ap (λ (ops : List ℕ). made ops s.records.items) put
+    ∙ (ap (made (set r.operations.items call.number op)) same ∙ ap (λ (p : Page). made (set p.operations call.number op) p.records) (sym known)) in
+    map-set page rows call.caller s ∙ (ap (λ (b : List Page). set b call.caller (page s)) e ∙ ap (set book call.caller) one)
 
 -- rows with one more record hold the book with one more answer
 pub pages-with_answer : (rows : List Rows) (book : List Page) (i : ℕ) (a : Record) (r s : Rows) → pages rows ≡ book → i < length book → r ≡ get_or rows i r → s.operations.items ≡ r.operations.items → s.records.items ≡ r.records.items ++ a ∷ [] → pages (set rows i s) ≡ with_answer book i a

@@ -1,5 +1,5 @@
 -- Books: what the callers of a concurrent object did, as each of them recorded it.
-use Rattle.std.specs.Prelude.{◌≡◌, ℕ, ◌+◌, ◌<◌, ◌≤◌, ◌⊎◌, ◌++◌, ◌∷◌, [], List, length, map, Option, Some, IsSomeAnd, slice_get, slice_index, slice_index_or, slice_set}
+use Rattle.std.specs.Prelude.{◌≡◌, ℕ, ◌+◌, ◌<◌, ◌≤◌, ◌⊎◌, ◌++◌, ◌∷◌, [], List, length, map, replicate, Option, Some, IsSomeAnd, slice_get, slice_index, slice_index_or, slice_set}
 use Rattle.book_base.specs.declared.call.Call.{Call}
 use Rattle.book_base.specs.declared.call.Record.{Record}
 use Rattle.book_base.specs.declared.TheConstants.{MAX_CALLERS, MAX_CALLS}
@@ -78,6 +78,19 @@ with_call book i op = slice_set book i (record (page_of book i) { operations = (
 -- the book with the answer to a caller's first unanswered call
 abbrev pub with_answer : List Page → ℕ → Record → List Page
 with_answer book i r = slice_set book i (record (page_of book i) { records = (page_of book i).records ++ r ∷ [] })
+
+-- the page of a caller that made so many calls: none is answered, and each has the operation word 0
+abbrev pub unanswered_page : ℕ → Page
+unanswered_page calls = record { operations = replicate calls 0; records = [] }
+
+-- the book in which each caller made so many calls, none answered, each with the operation word 0
+abbrev pub unanswered_book : List ℕ → List Page
+unanswered_book calls = map unanswered_page calls
+
+-- the book with another operation word of a call
+abbrev pub with_operation : List Page → Call → ℕ → List Page
+with_operation book call op =
+    slice_set book call.caller (record (page_of book call.caller) { operations = slice_set (page_of book call.caller).operations call.number op })
 
 -- a caller's first unanswered call, where it has one
 abbrev pub first_unanswered : List Page → ℕ → Call

@@ -1,8 +1,13 @@
+pub mod OperationWord
 pub mod Cut
 pub mod CutLayout
 pub mod State
 pub mod Book
 pub mod BookLayout
+pub mod BookAt
+pub mod Rising
 pub mod Sequential
 pub mod Order
 pub mod Refusal
+pub mod Foresight
+pub mod ForesightLaws

@@ -1,9 +1,12 @@
-ghost use Rattle.std.specs.Prelude.{◌≡◌, ℕ, ◌+◌, ◌<◌, ◌≤◌, ◌⊎◌, ◌↔◌, [], length, replicate, slice_index, IfOk, IfErr, IfSome, IfNone, IsSomeAnd, OnOk, OnErr, IsTrue, IsErrOf};
+ghost use Rattle.std.specs.Prelude.{◌≡◌, ℕ, ◌+◌, ◌<◌, ◌≤◌, ◌⊎◌, ◌↔◌, [], length, replicate, take, slice_index, IfOk, IfErr, IfSome, IfNone, IsSomeAnd, OnOk, OnErr, IsTrue, IsErrOf};
 ghost use Rattle.book_base.specs.declared.call.Call.{Call};
 ghost use Rattle.book_base.specs.declared.call.Record.{Record};
 ghost use Rattle.book_base.specs.declared.fault.BookFault.{BookFault};
 ghost use Rattle.book_base.specs.Cut.{IsWithin, AreComparable};
-ghost use Rattle.book_base.specs.Book.{calls_of, answers_of, announced, operation_of, record_of, IsCall, IsAnswered, IsValid, IsSmall, Precedes, with_call, with_answer};
+ghost use Rattle.book_base.specs.Book.{calls_of, answers_of, announced, answered, operation_of, record_of, IsCall, IsAnswered, IsValid, IsSmall, Precedes, unanswered_page, unanswered_book, with_call, with_operation, with_answer};
+ghost use Rattle.book_base.specs.BookAt.{IsHeldBySomeView, IsBookAt};
+ghost use Rattle.book_base.specs.BookLayout.{page};
+ghost use Rattle.book_base.specs.Rising.{AreViewsWithin};
 ghost use Rattle.book_base.specs.Refusal.{MayAnswer, IsFirstFault};
 ghost use Rattle.book_base.specs.declared.TheConstants.{MAX_CALLERS, MAX_CALLS};
 
@@ -29,6 +32,31 @@ struct Rows {
 #[derive(Debug, Drop)]
 pub struct Book {
     rows: Vec<Rows>,
+}
+
+impl Rows {
+    // So many calls without answers. Room for the answers is taken with them.
+    fn unanswered(alloc: Global, calls: u64) -> Result<Rows, NoMemory>
+        requires { calls ≤ MAX_CALLS }
+        ensures { IfOk result (λ rows. page rows ≡ unanswered_page calls) }
+    {
+        Ok(Rows {
+            operations: vec![in alloc; 0; calls as usize]?,
+            records: Vec::with_capacity(alloc, calls as usize)?,
+        })
+    }
+
+    // The first so many calls and records.
+    fn front(&self, alloc: Global, calls: u64, answers: u64) -> Result<Rows, NoMemory>
+        requires calls { calls ≤ length self.now.operations.items }
+        requires answers { answers ≤ length self.now.records.items }
+        ensures { IfOk result (λ rows. page rows ≡ record { operations = take calls self.now.operations.items; records = take answers self.now.records.items }) }
+    {
+        Ok(Rows {
+            operations: Vec::from_slice(alloc, &self.operations[..calls as usize])?,
+            records: Vec::from_slice(alloc, &self.records[..answers as usize])?,
+        })
+    }
 }
 
 impl Model for Book {
@@ -61,6 +89,19 @@ impl Book {
         Ok(Book { rows })
     }
 
+    /// The book in which each caller made so many calls, none answered. Each call has the operation
+    /// word 0 until [`Book::set_op`] puts in another, and the room for all answers is taken with the calls.
+    pub fn with_calls(alloc: Global, calls: &Cut) -> Result<Book, NoMemory>
+        requires { (i : ℕ) → slice_index calls.now i ≤ MAX_CALLS }
+        ensures { IfOk result (λ book. book ≡ unanswered_book calls.now) }
+    {
+        let mut rows = Vec::new(alloc);
+        for i in 0..calls.n() {
+            rows.push(Rows::unanswered(alloc, calls.get(i))?)?;
+        }
+        Ok(Book { rows })
+    }
+
     /// Adds a call at the end of a caller's calls. A refusal leaves the book as it was.
     pub fn add_call(&mut self, caller: u32, op: OpWord) -> Result<(), BookFault>
         requires { caller < length self.old }
@@ -75,6 +116,14 @@ impl Book {
         }
         operations.push(op)?;
         Ok(())
+    }
+
+    /// Puts in the operation word of a call. All else stays.
+    pub fn set_op(&mut self, call: Call, op: OpWord)
+        requires { IsCall self.old call }
+        ensures { self.new ≡ with_operation self.old call op }
+    {
+        self.rows[call.caller as usize].operations[call.number as usize] = op;
     }
 
     /// Records the answer of a caller's first unanswered call. The first test that the answer fails is
@@ -155,21 +204,109 @@ impl Book {
         None
     }
 
-    // The least call of a caller whose view and this one cross.
+    // The least call of a caller whose view and this one cross. A caller's views rise, so that only the
+    // first of them that isn't within this one may be it: this one is within all later ones where it is
+    // within that one.
     fn first_crossing_of(&self, caller: u32, view: &Cut) -> Option<u64>
+        requires valid { IsValid self.now }
         requires caller { caller < length self.now }
         requires wide { length view.now ≡ length self.now }
         ensures crossing { IfSome result (λ number. IsSomeAnd (record_of self.now (record { caller = caller; number = number })) (λ r. ¬ AreComparable view.now r.view)) }
         ensures least { IfSome result (λ number. (k : ℕ) (r : Record) → k < number → record_of self.now (record { caller = caller; number = k }) ≡ Some r → AreComparable view.now r.view) }
         ensures none { IfNone result ((k : ℕ) (r : Record) → record_of self.now (record { caller = caller; number = k }) ≡ Some r → AreComparable view.now r.view) }
     {
-        for number in 0..self.answers(caller) {
-            let other = self.record(Call { caller, number }).view;
-            if !view.within(&other) && !other.within(view) {
-                return Some(number);
+        let number = self.views_within(caller, view);
+        if number >= self.answers(caller) {
+            return None;
+        }
+        if view.within(self.view(Call { caller, number })) {
+            return None;
+        }
+        Some(number)
+    }
+
+    // How many of a caller's views are within this one: they are its first, since a caller's views rise.
+    fn views_within(&self, caller: u32, view: &Cut) -> u64
+        requires valid { IsValid self.now }
+        requires caller { caller < length self.now }
+        requires wide { length view.now ≡ length self.now }
+        ensures count { AreViewsWithin self.now caller view.now result result }
+    {
+        let mut low = 0;
+        let mut high = self.answers(caller);
+        while low < high {
+            let middle = low + (high - low) / 2;
+            if self.is_within(caller, middle, view) {
+                low = middle + 1;
+            } else {
+                high = middle;
             }
         }
-        None
+        low
+    }
+
+    /// The book at a cut: the first so many records of each caller, and the calls that some of their
+    /// views hold (Castañeda and Rodríguez 2023).
+    pub fn at(&self, alloc: Global, cut: &Cut) -> Result<Book, NoMemory>
+        requires wide { length cut.now ≡ length self.now }
+        requires answered { IsWithin cut.now (answered self.now) }
+        ensures { IfOk result (λ book. IsBookAt self.now cut.now book) }
+    {
+        let mut rows = Vec::new(alloc);
+        for caller in 0..self.callers() {
+            let row = &self.rows[caller as usize];
+            rows.push(row.front(alloc, self.held_calls(cut, caller), cut.get(caller))?)?;
+        }
+        Ok(Book { rows })
+    }
+
+    // How many calls of a caller are held by the views of the records that a cut holds. A caller's views
+    // rise, so that its last one holds the most.
+    fn held_calls(&self, cut: &Cut, caller: u32) -> u64
+        requires wide { length cut.now ≡ length self.now }
+        requires answered { IsWithin cut.now (answered self.now) }
+        requires caller { caller < length self.now }
+        ensures held { (number : ℕ) → number < result ↔ IsHeldBySomeView self.now cut.now (record { caller = caller; number = number }) }
+        ensures few { result ≤ calls_of self.now caller }
+    {
+        let mut held: u64 = 0;
+        for other in 0..self.callers() {
+            held = held.max(self.held_by_last(cut, other, caller));
+        }
+        held
+    }
+
+    // How many calls of a caller are held by the view of another one's last record that a cut holds.
+    fn held_by_last(&self, cut: &Cut, other: u32, caller: u32) -> u64
+        requires valid { IsValid self.now }
+        requires wide { length cut.now ≡ length self.now }
+        requires answered { IsWithin cut.now (answered self.now) }
+        requires other { other < length self.now }
+        requires caller { caller < length self.now }
+        ensures held { (number : ℕ) → number < result → IsHeldBySomeView self.now cut.now (record { caller = caller; number = number }) }
+        ensures most { (number : ℕ) (r : Record) → number < slice_index cut.now other → record_of self.now (record { caller = other; number = number }) ≡ Some r
+            → slice_index r.view caller ≤ result }
+    {
+        let taken = cut.get(other);
+        if taken == 0 {
+            return 0;
+        }
+        let last = Call {
+            caller: other,
+            number: taken - 1,
+        };
+        self.view(last).get(caller)
+    }
+
+    /// An equal book.
+    pub fn copy(&self, alloc: Global) -> Result<Book, NoMemory>
+        ensures { IfOk result (λ book. book ≡ self.now) }
+    {
+        let mut rows = Vec::new(alloc);
+        for row in &self.rows {
+            rows.push(row.front(alloc, row.operations.len() as u64, row.records.len() as u64)?)?;
+        }
+        Ok(Book { rows })
     }
 
     /// The number of callers.
@@ -222,7 +359,25 @@ impl Book {
         ensures { IsTrue result ↔ Precedes self.now a b }
     {
         let earlier = a.caller == b.caller && a.number < b.number;
-        earlier || (self.is_answered(a) && !self.record(a).view.holds(b.caller, b.number))
+        earlier || (self.is_answered(a) && !self.view(a).holds(b.caller, b.number))
+    }
+
+    // Whether the view of a caller's record is within this one.
+    fn is_within(&self, caller: u32, number: u64, view: &Cut) -> bool
+        requires answered { number < answers_of self.now caller }
+        requires wide { length view.now ≡ length self.now }
+        ensures { IsSomeAnd (record_of self.now (record { caller = caller; number = number })) (λ r. IsTrue result ↔ IsWithin r.view view.now) }
+    {
+        self.view(Call { caller, number }).within(view)
+    }
+
+    // The view of an answered call.
+    fn view(&self, call: Call) -> &Cut
+        requires { IsAnswered self.now call }
+        ensures view { IsSomeAnd (record_of self.now call) (λ r. result.now ≡ r.view) }
+        ensures wide { length result.now ≡ length self.now }
+    {
+        &self.rows[call.caller as usize].records[call.number as usize].view
     }
 
     fn is_answered(&self, call: Call) -> bool

@@ -84,6 +84,13 @@ impl Cut {
         self.at[i as usize] = count;
     }
 
+    /// All counts, by caller.
+    pub fn counts(&self) -> &[u64]
+        ensures { result.now ≡ self.now }
+    {
+        &self.at[..self.n as usize]
+    }
+
     /// Whether the cut holds the call with this number of this caller.
     pub fn holds(&self, caller: u32, number: u64) -> bool
         requires { caller < length self.now }

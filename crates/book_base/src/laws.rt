@@ -3,10 +3,43 @@
 ghost use Rattle.std.specs.Prelude.{◌≡◌, ℕ, ◌<◌, ◌↔◌, List, length};
 ghost use Rattle.book_base.specs.declared.call.Record.{Record};
 ghost use Rattle.book_base.specs.Book.{Page, IsValid, with_answer};
+ghost use Rattle.book_base.specs.OperationWord.{WordsAreJoinedAndParted};
 ghost use Rattle.book_base.specs.Refusal.{MayAnswer};
+ghost use Rattle.book_base.specs.Rising.{ViewsRise, PrecedesByItsView};
+ghost use Rattle.book_base.specs.ForesightLaws.{NoPlacesReachTheStart, OneMorePlaceReachesOn, WhatStandsIsNotHopeless, PrecedingComesFirst, LeavingMayBeLeftOut};
 
 /// A book takes exactly those answers that leave it valid.
 pub fn valid_answers_are_taken()
     ensures { (book : List Page) (caller : ℕ) (answer : Record) → IsValid book → caller < length book → length answer.view ≡ length book
         → (IsValid (with_answer book caller answer) ↔ MayAnswer book caller answer.view) }
+{}
+
+/// A caller's views rise, and an answered call's view already gives its precedence over its caller's
+/// later calls.
+pub fn views_of_a_caller_rise()
+    ensures rise { ViewsRise }
+    ensures precedes { PrecedesByItsView }
+{}
+
+/// The low and the high word of an operation word are those that it is joined of.
+pub fn operation_words_are_two_words()
+    ensures { WordsAreJoinedAndParted }
+{}
+
+/// What an order reaches grows place by place.
+pub fn orders_reach_place_by_place()
+    ensures start { NoPlacesReachTheStart }
+    ensures more { OneMorePlaceReachesOn }
+{}
+
+/// A hopeless call stands in no legal order where it is hopeless, and a call that precedes another one
+/// must come first.
+pub fn hopeless_and_first_calls()
+    ensures hopeless { WhatStandsIsNotHopeless }
+    ensures first { PrecedingComesFirst }
+{}
+
+/// An operation that leaves every list may stand in a run or be left out.
+pub fn leaving_operations_may_be_left_out()
+    ensures { LeavingMayBeLeftOut }
 {}

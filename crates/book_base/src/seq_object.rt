@@ -1,8 +1,13 @@
-ghost use Rattle.std.specs.Prelude.{◌≡◌, ℕ, ◌+◌, ◌<◌, ◌≤◌, Bool, false, List, length};
+ghost use Rattle.std.specs.Prelude.{◌≡◌, ℕ, ◌+◌, ◌<◌, ◌≤◌, Bool, false, List, length, IfOk, IsTrue};
 ghost use Rattle.book_base.specs.declared.TheConstants.{BAD};
+ghost use Rattle.book_base.specs.Foresight.{IsForesight, Leaves};
 
 use crate::OpWord;
+use crate::book::Book;
+use crate::fault::NoMemory;
+use crate::foresight::Foresight;
 use crate::state::State;
+use std::alloc::Global;
 
 /// A sequential object: what each operation does to a list of words, and what it replies
 /// (Herlihy and Wing 1990).
@@ -30,6 +35,22 @@ pub trait SeqObject {
         requires { length state.old.words < state.old.room }
         ensures list { state.new ≡ record state.old { words = (next self.now state.old.words op).0 } }
         ensures reply { result ≡ (next self.now state.old.words op).1 };
+
+    /// What the object knows of a book before a search: each call that it forbids next, after a cut and
+    /// at a list, stands so in no legal order. An object that leaves this out forbids nothing.
+    fn foresee(&self, alloc: Global, book: &Book) -> Result<Foresight, NoMemory>
+        ensures { IfOk result (IsForesight (init self.now) (next self.now) book.now) }
+    {
+        Ok(Foresight::none(alloc))
+    }
+
+    /// Whether an operation with this reply is known to leave every list as it is. An object that leaves
+    /// this out knows of none.
+    fn leaves(&self, op: OpWord, reply: u64) -> bool
+        ensures { IsTrue result → Leaves (next self.now) op reply }
+    {
+        false
+    }
 
     /// The list begins with at most one word.
     ghost begins_small: { (object : Self) → length (init object) ≤ 1 };

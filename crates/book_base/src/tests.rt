@@ -14,7 +14,7 @@ fn two(first: u64, second: u64) -> Cut
 
 #[test]
 fn limits_are_as_documented(rt: HostRuntime) {
-    assert_eq!(rt; (MAX_CALLERS, MAX_CALLS, MAX_ROOM), (8, 64, 8192));
+    assert_eq!(rt; (MAX_CALLERS, MAX_CALLS, MAX_ROOM), (16, 256, 8192));
     assert_eq!(rt; BAD, 17_179_869_184);
 }
 

@@ -1,0 +1,96 @@
+-- What orders reach, one place after another, and what must come first.
+use Rattle.std.proofs.Common.{◌≡◌, ℕ, ◌+◌, ◌<◌, ◌≤◌, ◌⊎◌, ◌∙◌, List, [], ◌∷◌, ◌++◌, length, map, set, get_or, inl, inr, refl, sym, ap, subst, arith}
+use Rattle.std.proofs.lemmas.Bool.{cases_eq, cases_lt}
+use Rattle.std.proofs.lemmas.List.{get_or-set_same, get_or-set_other}
+use Rattle.std.proofs.lemmas.Option.{none-some}
+use Rattle.list_laws.proofs.Options.{some_from_is_some_and}
+use Rattle.list_laws.proofs.Places.{slice_get-push_old, slice_get-push_last, slice_get-push_cases, get_or-replicate_default}
+use Rattle.book_base.specs.declared.call.Call.{Call}
+use Rattle.book_base.specs.declared.call.Place.{Place}
+use Rattle.book_base.specs.declared.call.Record.{Record}
+use Rattle.book_base.specs.Cut.{Holds}
+use Rattle.book_base.specs.Book.{Page, record_of}
+use Rattle.book_base.specs.Sequential.{IsRunFrom}
+use Rattle.book_base.specs.Order.{call_at, StandsAt, step_at}
+use Rattle.book_base.specs.Foresight.{list_after_run}
+use Rattle.book_base.specs.ForesightLaws.{NoPlacesReachTheStart, OneMorePlaceReachesOn, PrecedingComesFirst, LeavingMayBeLeftOut, WhatStandsIsNotHopeless}
+use Rattle.book_base.proofs.ViewLemmas.{same_call}
+
+-- the list after one more step
+list_after_run-push : (next : List ℕ → ℕ → List ℕ × ℕ) (book : List Page) (list : List ℕ) (before : List Place) (place : Place)
+    → list_after_run next list (map (step_at book) (before ++ place ∷ [])) ≡ (next (list_after_run next list (map (step_at book) before)) (step_at book place).0).0
+list_after_run-push next book list [] place = refl
+list_after_run-push next book list (first ∷ before) place = list_after_run-push next book (next list (step_at book first).0).0 before place
+
+-- a cut with one more call holds that call, and all that it held
+raised_holds : (cut : List ℕ) (place : Place) (call : Call) → place.caller < length cut → place.number ≡ get_or cut place.caller 0
+    → Holds cut call ⊎ (call_at place ≡ call) → Holds (set cut place.caller (place.number + 1)) call
+raised_holds cut place call inside at (inl held) =
+    elim (cases_eq call.caller place.caller) [
+      | inr apart ↦ omega (arith, held, get_or-set_other cut place.caller call.caller (place.number + 1) 0 apart)
+      | inl same ↦
+          let below : call.number < get_or cut place.caller 0 = subst (λ (i : ℕ). call.number < get_or cut i 0) same held in
+          subst (λ (i : ℕ). call.number < get_or (set cut place.caller (place.number + 1)) i 0) (sym same)
+          (omega (arith, get_or-set_same cut place.caller (place.number + 1) 0 inside))
+    ]
+raised_holds cut place call inside at (inr is) =
+    subst (λ (c : Call). c.number < get_or (set cut place.caller (place.number + 1)) c.caller 0) is (omega (arith, get_or-set_same cut place.caller (place.number + 1) 0 inside))
+
+-- and nothing else
+raised_held : (cut : List ℕ) (place : Place) (call : Call) → place.caller < length cut → place.number ≡ get_or cut place.caller 0
+    → Holds (set cut place.caller (place.number + 1)) call → Holds cut call ⊎ (call_at place ≡ call)
+raised_held cut place call inside at held =
+    elim (cases_eq call.caller place.caller) [
+      | inr apart ↦ inl (omega (arith, held, get_or-set_other cut place.caller call.caller (place.number + 1) 0 apart))
+      | inl same ↦
+          let below : call.number < get_or (set cut place.caller (place.number + 1)) place.caller 0
+          = subst (λ (i : ℕ). call.number < get_or (set cut place.caller (place.number + 1)) i 0) same held in
+          elim (cases_lt call.number place.number) [
+            | inl less ↦ inl (subst (λ (i : ℕ). call.number < get_or cut i 0) (sym same) (omega arith))
+            | inr more ↦ inr (same_call (call_at place) call (sym same) (omega (arith, get_or-set_same cut place.caller (place.number + 1) 0 inside)))
+          ]
+    ]
+
+pub no_places_reach_the_start : NoPlacesReachTheStart
+no_places_reach_the_start init next book n = record {
+  holds = λ k call (place, at, is). absurd (none-some place at);
+  held = λ call held. absurd (omega (arith, held, get_or-replicate_default {X = ℕ} n call.caller 0));
+  reached = refl;
+}
+
+pub one_more_place_reaches_on : OneMorePlaceReachesOn
+one_more_place_reaches_on init next book before cut list place reaches inside at = record {
+  holds = λ k call stands. elim (slice_get-push_cases before place k stands.0 stands.1) [
+    | inl old ↦ raised_holds cut place call inside at (inl (reaches.holds k call (stands.0, old, stands.2)))
+    | inr new ↦ raised_holds cut place call inside at (inr (sym (ap call_at new.1) ∙ stands.2))
+  ];
+  held = λ call held. elim (raised_held cut place call inside at held) [
+    | inl old ↦ let found = reaches.held call old in (found.0, (found.1.0, slice_get-push_old before place found.0 found.1.0 found.1.1, found.1.2))
+    | inr is ↦ (length before, (place, slice_get-push_last before place, is))
+  ];
+  reached = list_after_run-push next book init before place ∙ ap (λ (l : List ℕ). (next l (step_at book place).0).0) reaches.reached;
+}
+
+pub what_stands_is_not_hopeless : WhatStandsIsNotHopeless
+what_stands_is_not_hopeless init next book before rest place cut list legal reaches hopeless = hopeless before rest place.reply reaches legal
+
+pub preceding_comes_first : PrecedingComesFirst
+preceding_comes_first init next book a b precedes order legal q stands =
+    elim precedes [
+      | inl answered ↦
+          let says : Record → Type 0 = λ r. get_or r.view b.caller 0 ≤ b.number in
+          let known = some_from_is_some_and (record_of book a) says answered in
+          let found = legal.answered a known.0 known.1 in
+          let there : StandsAt order found.0 a = (record { caller = a.caller; number = a.number; reply = known.0.reply }, found.1, refl) in
+          (found.0, legal.precedence found.0 q a b there stands (inl answered), there)
+      | inr own ↦
+          let found = legal.earlier q b stands a.number own.1 in
+          (found.0, found.1, subst (λ (i : ℕ). StandsAt order found.0 (record { caller = i; number = a.number })) (sym own.0) found.2)
+    ]
+
+pub leaving_may_be_left_out : LeavingMayBeLeftOut
+leaving_may_be_left_out next op reply list steps leaves gives =
+    let same : (next list op).0 ≡ list = leaves list gives in (
+      λ run. subst (λ (l : List ℕ). IsRunFrom next l steps) same run.1,
+      λ run. (gives, subst (λ (l : List ℕ). IsRunFrom next l steps) (sym same) run),
+    )

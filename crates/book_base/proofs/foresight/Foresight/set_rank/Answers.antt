@@ -1,0 +1,12 @@
+use Rattle.std.proofs.Common.{ap, arith}
+use Rattle.std.proofs.lemmas.Grind.{common_steps}
+use Rattle.book_base.specs.Foresight.{Known}
+use Rattle.book_base.proofs.ForesightLemmas.{ranked_is_right}
+use Rattle.book_base.proofs.foresight.Foresight.set_rank.Goals as goal
+
+pub returns-clause-ranks : goal.returns-clause-ranks
+returns-clause-ranks c = grind (arith, common_steps)
+
+pub returns-clause-right : goal.returns-clause-right
+returns-clause-right c init next book right hopeless =
+    ranked_is_right init next book c.args.self.now _ c.args.word c.args.rank (ap (λ (k : Known). k.bars) c.self.view_is) (returns-clause-ranks c) right hopeless
