@@ -12,3 +12,13 @@ AppendsFront-after old mid new before text whole front = record {
   appended = front.appended ∙ ap (λ m. m ++ front.front) whole
       ∙ append_assoc old before front.front;
 }
+
+-- A front of a text is a front of a longer one.
+pub AppendsFront-longer : (old new text more : List ℕ) → AppendsFront old new text
+    → AppendsFront old new (text ++ more)
+AppendsFront-longer old new text more front = record {
+  front = front.front;
+  rest = front.rest ++ more;
+  split = ap (λ t. t ++ more) front.split ∙ append_assoc front.front front.rest more;
+  appended = front.appended;
+}

@@ -3,3 +3,6 @@ pub mod Tables
 pub mod Fronts
 pub mod ReplyTexts
 pub mod Texts
+pub mod WholeDigits
+pub mod Arguments
+pub mod MapPlaces

@@ -1,12 +1,12 @@
 -- Each kind's table: no two of its entries have one code or one name, and each name is a word that
 -- doesn't begin with '#'.
-use Rattle.std.proofs.Common.{◌≡◌, ℕ, Bool, true, false, not, ◌&&◌, ◌||◌, ◌==◌, nat_lt, List, [], ◌∷◌, bytes_eq, Some, sym, refl, ◌∙◌}
+use Rattle.std.proofs.Common.{◌≡◌, ℕ, Bool, true, false, not, ◌&&◌, ◌==◌, nat_lt, List, [], ◌∷◌, bytes_eq, find, Some, sym, refl, ◌∙◌}
 use Rattle.std.specs.List.{list_all}
 use Rattle.std.proofs.lemmas.Bool.{and_parts, eqb-true, eq-eqb}
 use Rattle.std.proofs.lemmas.Slice.Eq.{bytes_eq-Decides}
 use Rattle.seq_objects.specs.declared.kind.Kind.{Kind}
-use Rattle.seq_objects.specs.declared.kind.Kind.TheVariants.{Queue, Stack, Register, Counter, IntSet, Pqueue}
-use Rattle.seq_objects.specs.Words.{Entry, entries, entry_of, is_operation_of, code_of, argument_of}
+use Rattle.seq_objects.specs.declared.kind.Kind.TheVariants.{Queue, Stack, Register, Counter, IntSet, Pqueue, CasRegister, Map}
+use Rattle.seq_objects.specs.Words.{kind_name, all_kinds, Entry, entries, entry_of, is_operation_of, code_of, has_arguments}
 use Rattle.seq_objects.specs.EntryView.{entry_named}
 use Rattle.list_laws.proofs.Finds.{IsIn, find_inside, find_only, list_all-inside, are_distinct, are_distinct-inside}
 
@@ -34,19 +34,26 @@ abbrev is_table : List Entry → Bool
 is_table es =
     list_all (λ e. is_plain_name e.name) es && (are_distinct same_code es && are_distinct same_name es)
 
-is_table-entries : (kind : Kind) → is_table (entries kind) ≡ true
-unfolding entries
-is_table-entries Queue = refl
-is_table-entries Stack = refl
-is_table-entries Register = refl
-is_table-entries Counter = refl
-is_table-entries IntSet = refl
-is_table-entries Pqueue = refl
+-- What is seen of each kind by computing: its table, and its name, by which it is found.
+abbrev pub IsSound : Kind → Type 0
+IsSound kind =
+    (is_table (entries kind) ≡ true) × (is_plain_name (kind_name kind) ≡ true) × (find (λ k. bytes_eq (kind_name k) (kind_name kind)) all_kinds ≡ Some kind)
+
+pub kinds-sound : (kind : Kind) → IsSound kind
+unfolding entries kind_name
+kinds-sound Queue = (refl, refl, refl)
+kinds-sound Stack = (refl, refl, refl)
+kinds-sound Register = (refl, refl, refl)
+kinds-sound Counter = (refl, refl, refl)
+kinds-sound IntSet = (refl, refl, refl)
+kinds-sound Pqueue = (refl, refl, refl)
+kinds-sound CasRegister = (refl, refl, refl)
+kinds-sound Map = (refl, refl, refl)
 
 table_parts : (kind : Kind)
     → (list_all (λ e. is_plain_name e.name) (entries kind) ≡ true) × (are_distinct same_code (entries kind) ≡ true) × (are_distinct same_name (entries kind) ≡ true)
 table_parts kind =
-    let both = and_parts (list_all (λ e. is_plain_name e.name) (entries kind)) (are_distinct same_code (entries kind) && are_distinct same_name (entries kind)) (is_table-entries kind) in
+    let both = and_parts (list_all (λ e. is_plain_name e.name) (entries kind)) (are_distinct same_code (entries kind) && are_distinct same_name (entries kind)) (kinds-sound kind).0 in
     let distinct = and_parts (are_distinct same_code (entries kind)) (are_distinct same_name (entries kind)) both.1 in
     (both.0, distinct.0, distinct.1)
 
@@ -58,7 +65,7 @@ is_plain_name-entry kind e inside =
 
 code-operation : (word : ℕ) (e : Entry) → is_operation_of word e ≡ true → code_of word ≡ e.code
 code-operation word e operation =
-    eqb-true (code_of word) e.code (and_parts (code_of word == e.code) (e.has_argument || (argument_of word == 0)) operation).0
+    eqb-true (code_of word) e.code (and_parts (code_of word == e.code) (has_arguments e.arity word) operation).0
 
 -- The entry of a word is the one that the word is an operation of.
 pub entry_of-operation : (kind : Kind) (word : ℕ) (e : Entry) → IsIn e (entries kind)

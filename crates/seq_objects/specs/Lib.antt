@@ -1,6 +1,15 @@
 pub mod Words
 pub mod Replies
+pub mod Items
+pub mod QueueSteps
+pub mod StackSteps
+pub mod RegisterSteps
+pub mod CounterSteps
+pub mod IntSetSteps
+pub mod PqueueSteps
+pub mod CasRegisterSteps
+pub mod MapSteps
 pub mod Objects
 pub mod EntryView
 pub mod ReplyView
-pub mod ObjectLaws
+pub mod WorkedSteps

@@ -1,144 +1,20 @@
--- The sequential objects: the list that each begins with, and for every list and every operation
--- word the new list and the reply.
-use Rattle.std.specs.Prelude.{ℕ, ◌+◌, ◌%◌, ◌^◌, List, [], ◌∷◌, ◌++◌, length, take, insert, remove, position, slice_index, Option, Some, None, unwrap_or, is_some, nat_lt, ◌==◌, if◌then◌else◌}
+-- The sequential objects by kind: the list that each begins with, and for every list and every
+-- operation word the new list and the reply. A list begins small, grows by one item at most, and
+-- stays where the word is unknown.
+use Rattle.std.proofs.Common.{◌≡◌, ℕ, ◌+◌, ◌≤◌, false, List, [], ◌∷◌, length}
+use Rattle.book_base.specs.declared.TheConstants.{BAD}
 use Rattle.seq_objects.specs.declared.kind.Kind.{Kind}
 use Rattle.seq_objects.specs.declared.kind.Kind.TheVariants as kinds
-use Rattle.seq_objects.specs.declared.queue.QueueOperation.{QueueOperation}
-use Rattle.seq_objects.specs.declared.queue.QueueOperation.TheVariants.{Enqueue, Dequeue}
-use Rattle.seq_objects.specs.declared.stack.StackOperation.{StackOperation}
-use Rattle.seq_objects.specs.declared.stack.StackOperation.TheVariants.{Push, Pop}
-use Rattle.seq_objects.specs.declared.register.RegisterOperation.{RegisterOperation}
-use Rattle.seq_objects.specs.declared.register.RegisterOperation.TheVariants.{Write, Read}
-use Rattle.seq_objects.specs.declared.counter.CounterOperation.{CounterOperation}
-use Rattle.seq_objects.specs.declared.counter.CounterOperation.TheVariants.{Increment}
-use Rattle.seq_objects.specs.declared.int_set.IntSetOperation.{IntSetOperation}
-use Rattle.seq_objects.specs.declared.int_set.IntSetOperation.TheVariants.{Add, Remove, Has}
-use Rattle.seq_objects.specs.declared.pqueue.PqueueOperation.{PqueueOperation}
-use Rattle.seq_objects.specs.declared.pqueue.PqueueOperation.TheVariants.{Insert, Min}
-use Rattle.seq_objects.specs.Words as words
-use Rattle.seq_objects.specs.Words.{is_operation_of, argument_of}
-use Rattle.seq_objects.specs.Replies.{reply_done, reply_none, reply_value, reply_no, reply_yes, reply_bad}
-
--- The first item of a list, or 0 where there is none.
-abbrev pub first_or_zero : List ℕ → ℕ
-first_or_zero [] = 0
-first_or_zero (x ∷ rest) = x
-
--- The list without its first item, and that item as the reply.
-abbrev pub first_taken : List ℕ → List ℕ × ℕ
-first_taken [] = ([], reply_none)
-first_taken (x ∷ rest) = (rest, reply_value x)
-
--- The list without its last item, and that item as the reply.
-abbrev pub last_taken : List ℕ → List ℕ × ℕ
-last_taken [] = ([], reply_none)
-last_taken (x ∷ rest) =
-    (take (length rest) (x ∷ rest), reply_value (slice_index (x ∷ rest) (length rest)))
-
--- Where a value stands in a list for the first time, if it does.
-abbrev pub place_of : List ℕ → ℕ → Option ℕ
-place_of list value = position (λ x. x == value) list
-
--- Where the first item greater than a value stands, or the end of the list where none is greater.
-abbrev pub place_for : List ℕ → ℕ → ℕ
-place_for list value = unwrap_or (position (λ x. nat_lt value x) list) (length list)
-
--- The list with a value before the first greater item, or at the end where none is greater.
-abbrev pub inserted : List ℕ → ℕ → List ℕ
-inserted list value = insert list (place_for list value) value
-
--- The list with a value that isn't in it inserted, and whether it was.
-abbrev pub added : List ℕ → ℕ → List ℕ × ℕ
-added list value =
-    if is_some (place_of list value) then (list, reply_no) else (inserted list value, reply_yes)
-
--- The list without the item at a place, and whether there is one.
-abbrev pub taken_out : List ℕ → Option ℕ → List ℕ × ℕ
-taken_out list (Some place) = (remove list place, reply_yes)
-taken_out list None = (list, reply_no)
-
--- The list without a value at its first place, and whether it was there.
-abbrev pub removed : List ℕ → ℕ → List ℕ × ℕ
-removed list value = taken_out list (place_of list value)
-
--- What an operation word asks of a queue, where the queue knows it.
-abbrev pub queue_operation : ℕ → Option QueueOperation
-queue_operation word =
-    if is_operation_of word words.enq then Some (Enqueue (argument_of word))
-    else if is_operation_of word words.deq then Some Dequeue
-    else None
-
--- A queue: items come in at the end, and leave at the front.
-abbrev pub queue_after : List ℕ → Option QueueOperation → List ℕ × ℕ
-queue_after list (Some (Enqueue value)) = (list ++ value ∷ [], reply_done)
-queue_after list (Some Dequeue) = first_taken list
-queue_after list None = (list, reply_bad)
-
--- What an operation word asks of a stack, where the stack knows it.
-abbrev pub stack_operation : ℕ → Option StackOperation
-stack_operation word =
-    if is_operation_of word words.push then Some (Push (argument_of word))
-    else if is_operation_of word words.pop then Some Pop
-    else None
-
--- A stack: items come in at the end, and leave at the end.
-abbrev pub stack_after : List ℕ → Option StackOperation → List ℕ × ℕ
-stack_after list (Some (Push value)) = (list ++ value ∷ [], reply_done)
-stack_after list (Some Pop) = last_taken list
-stack_after list None = (list, reply_bad)
-
--- What an operation word asks of a register, where the register knows it.
-abbrev pub register_operation : ℕ → Option RegisterOperation
-register_operation word =
-    if is_operation_of word words.write then Some (Write (argument_of word))
-    else if is_operation_of word words.read then Some Read
-    else None
-
--- A register: one value, which is 0 at first. A list without an item reads as 0.
-abbrev pub register_after : List ℕ → Option RegisterOperation → List ℕ × ℕ
-register_after list (Some (Write value)) = (value ∷ [], reply_done)
-register_after list (Some Read) = (list, reply_value (first_or_zero list))
-register_after list None = (list, reply_bad)
-
--- What an operation word asks of a counter, where the counter knows it.
-abbrev pub counter_operation : ℕ → Option CounterOperation
-counter_operation word = if is_operation_of word words.inc then Some Increment else None
-
--- A counter modulo 2 ^ 32, which is 0 at first: the reply is the count before the increment.
-abbrev pub counter_after : List ℕ → Option CounterOperation → List ℕ × ℕ
-counter_after list (Some Increment) =
-    ((first_or_zero list + 1) % 2 ^ 32 ∷ [], reply_value (first_or_zero list))
-counter_after list None = (list, reply_bad)
-
--- What an operation word asks of a set, where the set knows it.
-abbrev pub set_operation : ℕ → Option IntSetOperation
-set_operation word =
-    if is_operation_of word words.add then Some (Add (argument_of word))
-    else if is_operation_of word words.remove then Some (Remove (argument_of word))
-    else if is_operation_of word words.has then Some (Has (argument_of word))
-    else None
-
--- A set of numbers: a value is inserted where it isn't in the list, and the first of its places is
--- taken out.
-abbrev pub set_after : List ℕ → Option IntSetOperation → List ℕ × ℕ
-set_after list (Some (Add value)) = added list value
-set_after list (Some (Remove value)) = removed list value
-set_after list (Some (Has value)) =
-    (list, if is_some (place_of list value) then reply_yes else reply_no)
-set_after list None = (list, reply_bad)
-
--- What an operation word asks of a priority queue, where it knows the word.
-abbrev pub pqueue_operation : ℕ → Option PqueueOperation
-pqueue_operation word =
-    if is_operation_of word words.insert then Some (Insert (argument_of word))
-    else if is_operation_of word words.min then Some Min
-    else None
-
--- A priority queue: a value is inserted before the first greater item, and the first item leaves.
-abbrev pub pqueue_after : List ℕ → Option PqueueOperation → List ℕ × ℕ
-pqueue_after list (Some (Insert value)) = (inserted list value, reply_done)
-pqueue_after list (Some Min) = first_taken list
-pqueue_after list None = (list, reply_bad)
+use Rattle.seq_objects.specs.Words.{is_known_word}
+use Rattle.seq_objects.specs.Items.{length-none, length-one}
+use Rattle.seq_objects.specs.QueueSteps.{queue_operation, queue_after, length-queue_after, queue_after-unknown}
+use Rattle.seq_objects.specs.StackSteps.{stack_operation, stack_after, length-stack_after, stack_after-unknown}
+use Rattle.seq_objects.specs.RegisterSteps.{register_operation, register_after, length-register_after, register_after-unknown}
+use Rattle.seq_objects.specs.CounterSteps.{counter_operation, counter_after, length-counter_after, counter_after-unknown}
+use Rattle.seq_objects.specs.IntSetSteps.{set_operation, set_after, length-set_after, set_after-unknown}
+use Rattle.seq_objects.specs.PqueueSteps.{pqueue_operation, pqueue_after, length-pqueue_after, pqueue_after-unknown}
+use Rattle.seq_objects.specs.CasRegisterSteps.{cas_register_operation, cas_register_after, length-cas_register_after, cas_register_after-unknown}
+use Rattle.seq_objects.specs.MapSteps.{map_operation, map_after, length-map_after, map_after-unknown}
 
 -- The list that an object of a kind begins with.
 abbrev pub kind_init : Kind → List ℕ
@@ -148,6 +24,8 @@ kind_init kinds.Register = 0 ∷ []
 kind_init kinds.Counter = 0 ∷ []
 kind_init kinds.IntSet = []
 kind_init kinds.Pqueue = []
+kind_init kinds.CasRegister = 0 ∷ []
+kind_init kinds.Map = []
 
 -- What an operation word makes of a list, and the reply to it, by the kind.
 unfoldable pub kind_next : Kind → List ℕ → ℕ → List ℕ × ℕ
@@ -157,3 +35,39 @@ kind_next kinds.Register list word = register_after list (register_operation wor
 kind_next kinds.Counter list word = counter_after list (counter_operation word)
 kind_next kinds.IntSet list word = set_after list (set_operation word)
 kind_next kinds.Pqueue list word = pqueue_after list (pqueue_operation word)
+kind_next kinds.CasRegister list word = cas_register_after list (cas_register_operation word)
+kind_next kinds.Map list word = map_after list (map_operation word)
+
+pub length-kind_init : (kind : Kind) → length (kind_init kind) ≤ 1
+length-kind_init kinds.Queue = length-none
+length-kind_init kinds.Stack = length-none
+length-kind_init kinds.Register = length-one
+length-kind_init kinds.Counter = length-one
+length-kind_init kinds.IntSet = length-none
+length-kind_init kinds.Pqueue = length-none
+length-kind_init kinds.CasRegister = length-one
+length-kind_init kinds.Map = length-none
+
+pub length-kind_next : (kind : Kind) (list : List ℕ) (word : ℕ)
+    → length (kind_next kind list word).0 ≤ length list + 1
+unfolding kind_next
+length-kind_next kinds.Queue list word = length-queue_after list (queue_operation word)
+length-kind_next kinds.Stack list word = length-stack_after list (stack_operation word)
+length-kind_next kinds.Register list word = length-register_after list (register_operation word)
+length-kind_next kinds.Counter list word = length-counter_after list (counter_operation word)
+length-kind_next kinds.IntSet list word = length-set_after list (set_operation word)
+length-kind_next kinds.Pqueue list word = length-pqueue_after list (pqueue_operation word)
+length-kind_next kinds.CasRegister list word = length-cas_register_after list (cas_register_operation word)
+length-kind_next kinds.Map list word = length-map_after list (map_operation word)
+
+pub kind_next-unknown : (kind : Kind) (list : List ℕ) (word : ℕ) → is_known_word kind word ≡ false
+    → kind_next kind list word ≡ (list, BAD)
+unfolding kind_next
+kind_next-unknown kinds.Queue list word unknown = queue_after-unknown list word unknown
+kind_next-unknown kinds.Stack list word unknown = stack_after-unknown list word unknown
+kind_next-unknown kinds.Register list word unknown = register_after-unknown list word unknown
+kind_next-unknown kinds.Counter list word unknown = counter_after-unknown list word unknown
+kind_next-unknown kinds.IntSet list word unknown = set_after-unknown list word unknown
+kind_next-unknown kinds.Pqueue list word unknown = pqueue_after-unknown list word unknown
+kind_next-unknown kinds.CasRegister list word unknown = cas_register_after-unknown list word unknown
+kind_next-unknown kinds.Map list word unknown = map_after-unknown list word unknown

@@ -1,8 +1,11 @@
 -- The words of operations: which words a kind knows, and the one text of each word.
-use Rattle.std.specs.Prelude.{◌≡◌, ℕ, ◌/◌, ◌%◌, ◌^◌, ◌<◌, Bool, true, false, ◌&&◌, ◌||◌, ◌==◌, List, [], ◌∷◌, ◌++◌, length, All, find, codes, decimal, Option, Some, None, is_some, MatchOption}
+use Rattle.std.specs.Prelude.{◌≡◌, ℕ, ◌+◌, ◌*◌, ◌/◌, ◌%◌, ◌^◌, ◌<◌, Bool, true, false, ◌&&◌, ◌==◌, nat_lt, List, [], ◌∷◌, ◌++◌, length, All, find, codes, decimal, Option, Some, None, is_some, if◌then◌else◌}
 use Rattle.std.specs.List.{join_with_byte}
+use Rattle.book_base.specs.OperationWord.{low_of, high_of, joined}
+use Rattle.seq_objects.specs.declared.entry.Arity.{Arity}
+use Rattle.seq_objects.specs.declared.entry.Arity.TheVariants.{Nullary, Unary, Binary}
 use Rattle.seq_objects.specs.declared.kind.Kind.{Kind}
-use Rattle.seq_objects.specs.declared.kind.Kind.TheVariants.{Queue, Stack, Register, Counter, IntSet, Pqueue}
+use Rattle.seq_objects.specs.declared.kind.Kind.TheVariants.{Queue, Stack, Register, Counter, IntSet, Pqueue, CasRegister, Map}
 
 -- The name of a kind in texts.
 unfoldable pub kind_name : Kind → List ℕ
@@ -12,21 +15,42 @@ kind_name Register = codes "register"
 kind_name Counter = codes "counter"
 kind_name IntSet = codes "set"
 kind_name Pqueue = codes "pqueue"
+kind_name CasRegister = codes "casreg"
+kind_name Map = codes "map"
 
--- An entry of a kind's table: the name of an operation, its code, and whether a number follows the
+-- All kinds.
+abbrev pub all_kinds : List Kind
+all_kinds = Queue ∷ Stack ∷ Register ∷ Counter ∷ IntSet ∷ Pqueue ∷ CasRegister ∷ Map ∷ []
+
+-- Whether a kind is one of the first six, which are all that texts of version 1 know.
+abbrev pub is_first_kind : Kind → Bool
+is_first_kind Queue = true
+is_first_kind Stack = true
+is_first_kind Register = true
+is_first_kind Counter = true
+is_first_kind IntSet = true
+is_first_kind Pqueue = true
+is_first_kind CasRegister = false
+is_first_kind Map = false
+
+-- An entry of a kind's table: the name of an operation, its code, and how many numbers follow the
 -- name.
 pub record Entry : Type 0 where
   pub name : List ℕ
   pub code : ℕ
-  pub has_argument : Bool
+  pub arity : Arity
 
--- The entry of an operation that a number follows.
+-- The entry of an operation that one number follows.
 abbrev pub with_argument : List ℕ → ℕ → Entry
-with_argument name code = record { name = name; code = code; has_argument = true }
+with_argument name code = record { name = name; code = code; arity = Unary }
+
+-- The entry of an operation that two numbers follow.
+abbrev pub with_extra : List ℕ → ℕ → Entry
+with_extra name code = record { name = name; code = code; arity = Binary }
 
 -- The entry of an operation that is its name alone.
 abbrev pub name_alone : List ℕ → ℕ → Entry
-name_alone name code = record { name = name; code = code; has_argument = false }
+name_alone name code = record { name = name; code = code; arity = Nullary }
 
 -- The entries, each named as in texts.
 abbrev pub enq : Entry
@@ -65,6 +89,18 @@ insert = with_argument (codes "insert") 1
 abbrev pub min : Entry
 min = name_alone (codes "min") 2
 
+abbrev pub cas : Entry
+cas = with_extra (codes "cas") 3
+
+abbrev pub put : Entry
+put = with_extra (codes "put") 1
+
+abbrev pub get : Entry
+get = with_argument (codes "get") 2
+
+abbrev pub del : Entry
+del = with_argument (codes "del") 3
+
 -- The table of operations: the entries that a kind knows.
 unfoldable pub entries : Kind → List Entry
 entries Queue = enq ∷ deq ∷ []
@@ -73,20 +109,35 @@ entries Register = write ∷ read ∷ []
 entries Counter = inc ∷ []
 entries IntSet = add ∷ remove ∷ has ∷ []
 entries Pqueue = insert ∷ min ∷ []
+entries CasRegister = write ∷ read ∷ cas ∷ []
+entries Map = put ∷ get ∷ del ∷ []
 
--- The code of an operation word: the part above its low 32 bits.
+-- The code of an operation word: the part of its low word above 32 bits.
 abbrev pub code_of : ℕ → ℕ
-code_of word = word / 2 ^ 32
+code_of word = low_of word / 2 ^ 32
 
--- The argument of an operation word: its low 32 bits.
+-- The argument of an operation word: the low 32 bits of its low word.
 abbrev pub argument_of : ℕ → ℕ
-argument_of word = word % 2 ^ 32
+argument_of word = low_of word % 2 ^ 32
 
--- Whether a word is an operation of this entry: it has the entry's code, and an argument only where
--- the entry has one.
+-- The extra of an operation word, its second argument: its high word.
+abbrev pub extra_of : ℕ → ℕ
+extra_of word = high_of word
+
+-- The operation word of a code, an argument and an extra.
+abbrev pub word_of : ℕ → ℕ → ℕ → ℕ
+word_of code argument extra = joined (code * 2 ^ 32 + argument) extra
+
+-- Whether a word has the arguments of an arity: one that the arity leaves out is 0, and each that
+-- it has is below 2 ^ 32.
+abbrev pub has_arguments : Arity → ℕ → Bool
+has_arguments Nullary word = (argument_of word == 0) && (extra_of word == 0)
+has_arguments Unary word = extra_of word == 0
+has_arguments Binary word = nat_lt (extra_of word) (2 ^ 32)
+
+-- Whether a word is an operation of this entry: it has the entry's code, and the entry's arguments.
 abbrev pub is_operation_of : ℕ → Entry → Bool
-is_operation_of word entry =
-    (code_of word == entry.code) && (entry.has_argument || (argument_of word == 0))
+is_operation_of word entry = (code_of word == entry.code) && has_arguments entry.arity word
 
 -- The entry of a word, where the kind knows the word.
 unfoldable pub entry_of : Kind → ℕ → Option Entry
@@ -96,16 +147,24 @@ entry_of kind word = find (is_operation_of word) (entries kind)
 unfoldable pub is_known_word : Kind → ℕ → Bool
 is_known_word kind word = is_some (entry_of kind word)
 
--- The argument of a word as words of a text.
-abbrev pub argument_words : Bool → ℕ → List (List ℕ)
-argument_words true word = decimal (argument_of word) ∷ []
-argument_words false word = []
+-- The arguments of a word as words of a text.
+abbrev pub argument_words : Arity → ℕ → List (List ℕ)
+argument_words Nullary word = []
+argument_words Unary word = decimal (argument_of word) ∷ []
+argument_words Binary word = decimal (argument_of word) ∷ decimal (extra_of word) ∷ []
 
--- The words of a text that stand for an operation word: the name and the argument, or '#' and the
--- whole number where no entry has the word.
+-- A whole operation word in digits: its low word, and behind a colon its high word where this
+-- isn't 0.
+abbrev pub whole_digits : ℕ → List ℕ
+whole_digits word =
+    if high_of word == 0 then decimal (low_of word)
+    else decimal (low_of word) ++ (codes ":" ++ decimal (high_of word))
+
+-- The words of a text that stand for an operation word: the name and the arguments, or '#' and the
+-- whole word in digits where no entry has the word.
 abbrev pub words_by_entry : Option Entry → ℕ → List (List ℕ)
-words_by_entry (Some entry) word = entry.name ∷ argument_words entry.has_argument word
-words_by_entry None word = (codes "#" ++ decimal word) ∷ []
+words_by_entry (Some entry) word = entry.name ∷ argument_words entry.arity word
+words_by_entry None word = (codes "#" ++ whole_digits word) ∷ []
 
 -- The words of a text that stand for an operation word of a kind.
 unfoldable pub operation_words : Kind → ℕ → List (List ℕ)
@@ -115,11 +174,17 @@ operation_words kind word = words_by_entry (entry_of kind word) word
 unfoldable pub operation_text : Kind → ℕ → List ℕ
 operation_text kind word = join_with_byte 32 (operation_words kind word)
 
--- The first word, and the second where it is used, are the words of an operation.
-abbrev pub Spells : Kind → List ℕ → Option (List ℕ) → ℕ → Bool → Type 0
-Spells kind first second word true =
-    MatchOption second ⊥ (λ argument. operation_words kind word ≡ first ∷ argument ∷ [])
-Spells kind first second word false = operation_words kind word ≡ first ∷ []
+-- The words behind a first one, as far as they are there.
+abbrev pub further : Option (List ℕ) → Option (List ℕ) → List (List ℕ)
+further None third = []
+further (Some second) None = second ∷ []
+further (Some second) (Some third) = second ∷ third ∷ []
+
+-- Words begin with those of an operation: a first one, and so many further ones.
+pub record Spells (kind : Kind) (words : List (List ℕ)) (op used : ℕ) : Type 0 where
+  pub behind : List (List ℕ)
+  pub whole : words ≡ operation_words kind op ++ behind
+  pub count : length (operation_words kind op) ≡ used + 1
 
 -- A printed character of ASCII, so no space and no line feed.
 abbrev pub IsPrinted : ℕ → Type 0

@@ -1,8 +1,8 @@
 ghost use Rattle.std.specs.Prelude.{[], ◌∷◌, ◌≡◌};
 ghost use Rattle.seq_objects.specs.declared.kind.Kind.TheVariants as kinds;
 ghost use Rattle.seq_objects.specs.Words.{is_known_word};
-ghost use Rattle.seq_objects.specs.Objects.{counter_operation, counter_after};
-ghost use Rattle.seq_objects.specs.ObjectLaws.{length-one, length-counter_after, counter_after-unknown};
+ghost use Rattle.seq_objects.specs.Items.{length-one};
+ghost use Rattle.seq_objects.specs.CounterSteps.{counter_operation, counter_after, length-counter_after, counter_after-unknown};
 
 use crate::entry::INC;
 use crate::items::{first_or_zero, set_only};

@@ -1,94 +1,126 @@
-ghost use Rattle.std.specs.Prelude.{◌≡◌, ◌∷◌, ◌++◌, map, IfSome, IfNone, OnOk, OnErr, option_map, option_copied};
+ghost use Rattle.std.specs.Prelude.{◌≡◌, ◌^◌, ◌<◌, ◌∷◌, ◌++◌, map, IfSome, IfNone, OnOk, OnErr, option_map, option_copied};
 ghost use Rattle.seq_objects.specs.Words as words;
-ghost use Rattle.seq_objects.specs.Words.{AppendsFront};
-ghost use Rattle.seq_objects.specs.EntryView.{shown, entry_named, text_of, IsWrittenWith, LacksArgument};
+ghost use Rattle.seq_objects.specs.Words.{further, AppendsFront};
+ghost use Rattle.seq_objects.specs.EntryView.{shown, entry_named, text_of, spaced_arguments, IsWrittenWith, LacksArguments};
 
 use crate::digits::{argument, put_marked};
 use crate::kind::Kind;
-use book_base::{NoMemory, OpWord};
+use book_base::{NoMemory, OpWord, high, join, low};
 
 /// How many arguments there are: an argument is below this number.
-const ARGUMENTS: OpWord = 1 << 32;
+const ARGUMENTS: u64 = 1 << 32;
 
-/// An entry of a kind's table: the name of an operation, its code, and whether a number follows
-/// the name.
+/// How many numbers follow an operation's name.
+#[derive(Clone, Copy)]
+pub enum Arity {
+    Nullary,
+    Unary,
+    Binary,
+}
+
+/// An entry of a kind's table: the name of an operation, its code, and how many numbers follow the
+/// name.
 #[derive(Clone, Copy)]
 pub struct Entry {
     pub name: &'static str,
     pub code: u32,
-    pub has_argument: bool,
+    pub arity: Arity,
 }
 
 pub const ENQ: Entry = Entry {
     name: "enq",
     code: 1,
-    has_argument: true,
+    arity: Arity::Unary,
 };
 
 pub const DEQ: Entry = Entry {
     name: "deq",
     code: 2,
-    has_argument: false,
+    arity: Arity::Nullary,
 };
 
 pub const PUSH: Entry = Entry {
     name: "push",
     code: 1,
-    has_argument: true,
+    arity: Arity::Unary,
 };
 
 pub const POP: Entry = Entry {
     name: "pop",
     code: 2,
-    has_argument: false,
+    arity: Arity::Nullary,
 };
 
 pub const WRITE: Entry = Entry {
     name: "write",
     code: 1,
-    has_argument: true,
+    arity: Arity::Unary,
 };
 
 pub const READ: Entry = Entry {
     name: "read",
     code: 2,
-    has_argument: false,
+    arity: Arity::Nullary,
 };
 
 pub const INC: Entry = Entry {
     name: "inc",
     code: 1,
-    has_argument: false,
+    arity: Arity::Nullary,
 };
 
 pub const ADD: Entry = Entry {
     name: "add",
     code: 1,
-    has_argument: true,
+    arity: Arity::Unary,
 };
 
 pub const REMOVE: Entry = Entry {
     name: "remove",
     code: 2,
-    has_argument: true,
+    arity: Arity::Unary,
 };
 
 pub const HAS: Entry = Entry {
     name: "has",
     code: 3,
-    has_argument: true,
+    arity: Arity::Unary,
 };
 
 pub const INSERT: Entry = Entry {
     name: "insert",
     code: 1,
-    has_argument: true,
+    arity: Arity::Unary,
 };
 
 pub const MIN: Entry = Entry {
     name: "min",
     code: 2,
-    has_argument: false,
+    arity: Arity::Nullary,
+};
+
+pub const CAS: Entry = Entry {
+    name: "cas",
+    code: 3,
+    arity: Arity::Binary,
+};
+
+pub const PUT: Entry = Entry {
+    name: "put",
+    code: 1,
+    arity: Arity::Binary,
+};
+
+pub const GET: Entry = Entry {
+    name: "get",
+    code: 2,
+    arity: Arity::Unary,
+};
+
+pub const DEL: Entry = Entry {
+    name: "del",
+    code: 3,
+    arity: Arity::Unary,
 };
 
 /// The table of operations that a kind knows.
@@ -103,21 +135,52 @@ pub fn entries(kind: Kind) -> &'static [Entry]
         Kind::Counter => &[INC],
         Kind::IntSet => &[ADD, REMOVE, HAS],
         Kind::Pqueue => &[INSERT, MIN],
+        Kind::CasRegister => &[WRITE, READ, CAS],
+        Kind::Map => &[PUT, GET, DEL],
     }
 }
 
 /// The code of an operation word.
-pub fn code_of(word: OpWord) -> OpWord
+fn code_of(word: OpWord) -> u64
     ensures { result ≡ words.code_of word }
 {
-    word / ARGUMENTS
+    low(word) / ARGUMENTS
 }
 
 /// The argument of an operation word.
 pub fn argument_of(word: OpWord) -> u32
     ensures { result ≡ words.argument_of word }
 {
-    (word % ARGUMENTS) as u32
+    (low(word) % ARGUMENTS) as u32
+}
+
+/// The extra of an operation word, where it is below 2^32.
+pub fn extra_of(word: OpWord) -> u32
+    requires { words.extra_of word < 2 ^ 32 }
+    ensures { result ≡ words.extra_of word }
+{
+    high(word) as u32
+}
+
+/// The operation word of a code, an argument and an extra.
+fn word_of(code: u32, argument: u32, extra: u32) -> OpWord
+    ensures { result ≡ words.word_of code argument extra }
+{
+    let low = u64::from(code) * ARGUMENTS + u64::from(argument);
+    join(low, u64::from(extra))
+}
+
+impl Arity {
+    /// Whether a word has the arguments of this arity.
+    fn fits(self, word: OpWord) -> bool
+        ensures { result ≡ words.has_arguments self word }
+    {
+        match self {
+            Arity::Nullary => argument_of(word) == 0 && high(word) == 0,
+            Arity::Unary => high(word) == 0,
+            Arity::Binary => high(word) < ARGUMENTS,
+        }
+    }
 }
 
 impl Entry {
@@ -125,22 +188,27 @@ impl Entry {
     pub fn has(&self, word: OpWord) -> bool
         ensures { result ≡ words.is_operation_of word (shown self.now) }
     {
-        code_of(word) == OpWord::from(self.code) && (self.has_argument || argument_of(word) == 0)
+        code_of(word) == u64::from(self.code) && self.arity.fits(word)
     }
 
-    /// The word of this entry with the argument that the second word spells, where the entry has
-    /// one, and whether the second word is used.
-    pub fn operation(&self, second: Option<&[u8]>) -> Option<(OpWord, bool)>
+    /// The word of this entry with the arguments that the further words spell, and how many of
+    /// these words are used.
+    pub fn operation(&self, second: Option<&[u8]>, third: Option<&[u8]>) -> Option<(OpWord, u32)>
         ensures found { IfSome result (λ (word, used).
-            IsWrittenWith (shown self.now) (option_copied second.entry) word used) }
-        ensures none { IfNone result (LacksArgument (shown self.now) (option_copied second.entry)) }
+            let words_left = further (option_copied second.entry) (option_copied third.entry) in
+            IsWrittenWith (shown self.now) words_left word used) }
+        ensures none { IfNone result
+            (let words_left = further (option_copied second.entry) (option_copied third.entry) in
+            LacksArguments (shown self.now) words_left) }
     {
-        let first_word = OpWord::from(self.code) * ARGUMENTS;
-        if !self.has_argument {
-            return Some((first_word, false));
+        match self.arity {
+            Arity::Nullary => Some((word_of(self.code, 0, 0), 0)),
+            Arity::Unary => Some((word_of(self.code, argument(second?)?, 0), 1)),
+            Arity::Binary => {
+                let word = word_of(self.code, argument(second?)?, argument(third?)?);
+                Some((word, 2))
+            }
         }
-        let argument = argument(second?)?;
-        Some((first_word + OpWord::from(argument), true))
     }
 
     /// Appends the text of a word of this entry.
@@ -150,10 +218,23 @@ impl Entry {
             (AppendsFront out.old.items out.new.items (text_of (shown self.now) word)) }
     {
         out.extend_from_slice(self.name.as_bytes())?;
-        if self.has_argument {
+        put_arguments(out, self.arity, word)
+    }
+}
+
+/// Appends the arguments of a word, each behind a space.
+fn put_arguments(out: &mut Vec<u8>, arity: Arity, word: OpWord) -> Result<(), NoMemory>
+    ensures ok { OnOk result (out.new.items ≡ out.old.items ++ spaced_arguments arity word) }
+    ensures err { OnErr result
+        (AppendsFront out.old.items out.new.items (spaced_arguments arity word)) }
+{
+    match arity {
+        Arity::Nullary => Ok(()),
+        Arity::Unary => put_marked(out, b' ', u64::from(argument_of(word))),
+        Arity::Binary => {
             put_marked(out, b' ', u64::from(argument_of(word)))?;
+            put_marked(out, b' ', high(word))
         }
-        Ok(())
     }
 }
 

@@ -1,8 +1,8 @@
 ghost use Rattle.std.specs.Prelude.{◌≡◌, ◌<◌, [], length};
 ghost use Rattle.seq_objects.specs.declared.kind.Kind.TheVariants as kinds;
 ghost use Rattle.seq_objects.specs.Words.{is_known_word};
-ghost use Rattle.seq_objects.specs.Objects.{set_operation, set_after, added, removed};
-ghost use Rattle.seq_objects.specs.ObjectLaws.{length-none, length-set_after, set_after-unknown};
+ghost use Rattle.seq_objects.specs.Items.{length-none};
+ghost use Rattle.seq_objects.specs.IntSetSteps.{set_operation, set_after, added, removed, length-set_after, set_after-unknown};
 
 use crate::entry::{ADD, HAS, REMOVE, argument_of};
 use crate::items::{insert_in_order, place_of};

@@ -1,6 +1,6 @@
 ghost use Rattle.std.specs.Prelude.{◌≡◌, ◌<◌, [], ◌∷◌, length};
 ghost use Rattle.book_base.specs.State.{Contents};
-ghost use Rattle.seq_objects.specs.Objects as objects;
+ghost use Rattle.seq_objects.specs.Items as items;
 
 use crate::reply::{NONE, value_reply};
 use book_base::State;
@@ -8,8 +8,8 @@ use book_base::State;
 /// Takes out the first item: the reply gives it, or says that there is none.
 pub fn take_first(state: &mut State) -> u64
     ensures list { state.new ≡
-        record state.old { words = (objects.first_taken state.old.words).0 } }
-    ensures reply { result ≡ (objects.first_taken state.old.words).1 }
+        record state.old { words = (items.first_taken state.old.words).0 } }
+    ensures reply { result ≡ (items.first_taken state.old.words).1 }
 {
     if state.is_empty() {
         return NONE;
@@ -20,8 +20,8 @@ pub fn take_first(state: &mut State) -> u64
 /// Takes out the last item: the reply gives it, or says that there is none.
 pub fn take_last(state: &mut State) -> u64
     ensures list { state.new ≡
-        record state.old { words = (objects.last_taken state.old.words).0 } }
-    ensures reply { result ≡ (objects.last_taken state.old.words).1 }
+        record state.old { words = (items.last_taken state.old.words).0 } }
+    ensures reply { result ≡ (items.last_taken state.old.words).1 }
 {
     if state.is_empty() {
         return NONE;
@@ -32,7 +32,7 @@ pub fn take_last(state: &mut State) -> u64
 
 /// The first item, or 0 where there is none.
 pub fn first_or_zero(state: &State) -> u64
-    ensures { result ≡ objects.first_or_zero state.now.words }
+    ensures { result ≡ items.first_or_zero state.now.words }
 {
     if state.is_empty() { 0 } else { state.get(0) }
 }
@@ -48,14 +48,14 @@ pub fn set_only(state: &mut State, item: u64)
 
 /// Where a value stands in a list for the first time, if it does.
 pub fn place_of(words: &[u64], value: u64) -> Option<usize>
-    ensures { result ≡ objects.place_of words.now value }
+    ensures { result ≡ items.place_of words.now value }
 {
     words.iter().position(|&item| item == value)
 }
 
 /// Where the first item greater than a value stands, or the length of the list where none is.
 pub fn place_for(words: &[u64], value: u64) -> usize
-    ensures { result ≡ objects.place_for words.now value }
+    ensures { result ≡ items.place_for words.now value }
 {
     words
         .iter()
@@ -66,7 +66,7 @@ pub fn place_for(words: &[u64], value: u64) -> usize
 /// Puts a value before the first greater item, or at the end where none is greater.
 pub fn insert_in_order(state: &mut State, value: u64)
     requires { length state.old.words < state.old.room }
-    ensures { state.new ≡ record state.old { words = objects.inserted state.old.words value } }
+    ensures { state.new ≡ record state.old { words = items.inserted state.old.words value } }
 {
     let place = place_for(state.words(), value);
     state.insert(place as u64, value);

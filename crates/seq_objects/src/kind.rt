@@ -1,17 +1,20 @@
-ghost use Rattle.std.specs.Prelude.{◌≡◌, ◌≢◌, ℕ, ◌^◌, ◌<◌, ◌++◌, Bool, true, false, IfSome, IfNone, OnOk, OnErr, decimal, option_copied};
+ghost use Rattle.std.specs.Prelude.{◌≡◌, ◌≢◌, ℕ, ◌∷◌, ◌++◌, true, false, IfSome, IfNone, OnOk, OnErr, option_copied};
+ghost use Rattle.book_base.specs.OperationWord.{IsOperationWord};
 ghost use Rattle.seq_objects.specs.declared.kind.Kind.{Kind};
-ghost use Rattle.seq_objects.specs.Objects.{kind_init, kind_next};
-ghost use Rattle.seq_objects.specs.ObjectLaws.{length-kind_init, length-kind_next, kind_next-unknown};
-ghost use Rattle.seq_objects.specs.Words.{kind_name, is_known_word, operation_text, Spells, AppendsFront};
+ghost use Rattle.seq_objects.specs.Objects.{kind_init, kind_next, length-kind_init, length-kind_next, kind_next-unknown};
+ghost use Rattle.seq_objects.specs.Words.{kind_name, is_first_kind, is_known_word, operation_text, whole_digits, further, Spells, AppendsFront};
 
+use crate::cas_register::CasRegister;
 use crate::counter::Counter;
-use crate::digits::{behind, number, put_marked};
+use crate::digits::behind;
 use crate::entry::{entry_named, entry_of};
 use crate::int_set::IntSet;
+use crate::map::Map;
 use crate::pqueue::Pqueue;
 use crate::queue::Queue;
 use crate::register::Register;
 use crate::stack::Stack;
+use crate::whole::{put_whole, whole};
 use book_base::{NoMemory, OpWord, SeqObject, State};
 
 /// A kind of sequential object.
@@ -23,6 +26,8 @@ pub enum Kind {
     Counter,
     IntSet,
     Pqueue,
+    CasRegister,
+    Map,
 }
 
 impl Kind {
@@ -39,6 +44,8 @@ impl Kind {
             b"counter" => Some(Kind::Counter),
             b"set" => Some(Kind::IntSet),
             b"pqueue" => Some(Kind::Pqueue),
+            b"casreg" => Some(Kind::CasRegister),
+            b"map" => Some(Kind::Map),
             _ => None,
         }
     }
@@ -55,31 +62,47 @@ impl Kind {
             Kind::Counter => "counter",
             Kind::IntSet => "set",
             Kind::Pqueue => "pqueue",
+            Kind::CasRegister => "casreg",
+            Kind::Map => "map",
         }
+    }
+
+    /// Whether the kind is one of the six that texts of version 1 know.
+    pub fn is_first(self) -> bool
+        ensures { result ≡ is_first_kind self }
+    {
+        !matches!(self, Kind::CasRegister | Kind::Map)
     }
 
     /// The word that the kind doesn't know and that these digits spell.
     fn unknown_word(self, digits: &[u8]) -> Option<OpWord>
         ensures found { IfSome result (λ word.
-            (decimal word ≡ digits.now) × (is_known_word self word ≡ false)) }
-        ensures none { IfNone result ((word : ℕ) → word < 2 ^ 64
-            → decimal word ≡ digits.now → is_known_word self word ≡ true) }
+            (whole_digits word ≡ digits.now) × (is_known_word self word ≡ false)) }
+        ensures none { IfNone result ((word : ℕ) → IsOperationWord word
+            → whole_digits word ≡ digits.now → is_known_word self word ≡ true) }
     {
-        let word = number(digits)?;
+        let word = whole(digits)?;
         if self.known(word) { None } else { Some(word) }
     }
 
-    /// The operation word that the first word spells, or the first and the second, and whether the
-    /// second is used.
-    pub fn op_from_words(self, first: &[u8], second: Option<&[u8]>) -> Option<(OpWord, bool)>
+    /// The operation word that the first word spells with none, one or both of the further words,
+    /// and how many of these are used.
+    pub fn op_from_words(
+        self,
+        first: &[u8],
+        second: Option<&[u8]>,
+        third: Option<&[u8]>,
+    ) -> Option<(OpWord, u32)>
         ensures found { IfSome result (λ (op, used).
-            Spells self first.now (option_copied second.entry) op used) }
-        ensures none { IfNone result ((op : ℕ) (used : Bool) → op < 2 ^ 64
-            → ¬ (Spells self first.now (option_copied second.entry) op used)) }
+            let others = further (option_copied second.entry) (option_copied third.entry) in
+            Spells self (first.now ∷ others) op used) }
+        ensures none { IfNone result ((op used : ℕ) → IsOperationWord op →
+            let others = further (option_copied second.entry) (option_copied third.entry) in
+            ¬ (Spells self (first.now ∷ others) op used)) }
     {
         match behind(b'#', first) {
-            Some(digits) => Some((self.unknown_word(digits)?, false)),
-            None => entry_named(self, first)?.operation(second),
+            Some(digits) => Some((self.unknown_word(digits)?, 0)),
+            None => entry_named(self, first)?.operation(second, third),
         }
     }
 
@@ -91,7 +114,7 @@ impl Kind {
     {
         match entry_of(self, op) {
             Some(entry) => entry.put(out, op),
-            None => put_marked(out, b'#', op),
+            None => put_whole(out, b'#', op),
         }
     }
 }
@@ -122,6 +145,8 @@ impl SeqObject for Kind {
             Kind::Counter => Counter.reset(state),
             Kind::IntSet => IntSet.reset(state),
             Kind::Pqueue => Pqueue.reset(state),
+            Kind::CasRegister => CasRegister.reset(state),
+            Kind::Map => Map.reset(state),
         }
     }
 
@@ -134,6 +159,8 @@ impl SeqObject for Kind {
             Kind::Counter => Counter.step(state, op),
             Kind::IntSet => IntSet.step(state, op),
             Kind::Pqueue => Pqueue.step(state, op),
+            Kind::CasRegister => CasRegister.step(state, op),
+            Kind::Map => Map.step(state, op),
         }
     }
 }

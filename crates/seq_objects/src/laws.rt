@@ -1,4 +1,5 @@
-ghost use Rattle.std.specs.Prelude.{◌≡◌, ℕ, ◌^◌, ◌<◌, Bool, List, Option, All};
+ghost use Rattle.std.specs.Prelude.{◌≡◌, ℕ, ◌^◌, ◌<◌, List, All};
+ghost use Rattle.book_base.specs.OperationWord.{IsOperationWord};
 ghost use Rattle.seq_objects.specs.declared.kind.Kind.{Kind};
 ghost use Rattle.seq_objects.specs.Words.{kind_name, operation_words, operation_text, Spells, IsWord};
 ghost use Rattle.seq_objects.specs.Replies.{reply_word};
@@ -12,13 +13,14 @@ pub fn one_name_per_kind()
 /// Each operation word has one text per kind: no two words of a kind share a text, words are read
 /// as one operation at most, and a text is words with one space between two.
 pub fn one_text_per_operation()
-    ensures text { (kind : Kind) (a b : ℕ) → a < 2 ^ 64 → b < 2 ^ 64
+    ensures text { (kind : Kind) (a b : ℕ) → IsOperationWord a → IsOperationWord b
         → operation_text kind a ≡ operation_text kind b → a ≡ b }
-    ensures reading { (kind : Kind) (first : List ℕ) (second : Option (List ℕ))
-        (a b : ℕ) (a_used b_used : Bool) → a < 2 ^ 64 → b < 2 ^ 64
-        → Spells kind first second a a_used → Spells kind first second b b_used
+    ensures reading { (kind : Kind) (words : List (List ℕ)) (a b a_used b_used : ℕ)
+        → IsOperationWord a → IsOperationWord b
+        → Spells kind words a a_used → Spells kind words b b_used
         → (a ≡ b) × (a_used ≡ b_used) }
-    ensures words { (kind : Kind) (op : ℕ) → op < 2 ^ 64 → All IsWord (operation_words kind op) }
+    ensures words { (kind : Kind) (op : ℕ) → IsOperationWord op
+        → All IsWord (operation_words kind op) }
 {}
 
 /// Each reply word has one text: no two share a text, and a text is a word.

@@ -1,8 +1,8 @@
 ghost use Rattle.std.specs.Prelude.{[], ◌≡◌};
 ghost use Rattle.seq_objects.specs.declared.kind.Kind.TheVariants as kinds;
 ghost use Rattle.seq_objects.specs.Words.{is_known_word};
-ghost use Rattle.seq_objects.specs.Objects.{pqueue_operation, pqueue_after};
-ghost use Rattle.seq_objects.specs.ObjectLaws.{length-none, length-pqueue_after, pqueue_after-unknown};
+ghost use Rattle.seq_objects.specs.Items.{length-none};
+ghost use Rattle.seq_objects.specs.PqueueSteps.{pqueue_operation, pqueue_after, length-pqueue_after, pqueue_after-unknown};
 
 use crate::entry::{INSERT, MIN, argument_of};
 use crate::items::{insert_in_order, take_first};

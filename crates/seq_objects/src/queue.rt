@@ -1,8 +1,8 @@
 ghost use Rattle.std.specs.Prelude.{[], ◌≡◌};
 ghost use Rattle.seq_objects.specs.declared.kind.Kind.TheVariants as kinds;
 ghost use Rattle.seq_objects.specs.Words.{is_known_word};
-ghost use Rattle.seq_objects.specs.Objects.{queue_operation, queue_after};
-ghost use Rattle.seq_objects.specs.ObjectLaws.{length-none, length-queue_after, queue_after-unknown};
+ghost use Rattle.seq_objects.specs.Items.{length-none};
+ghost use Rattle.seq_objects.specs.QueueSteps.{queue_operation, queue_after, length-queue_after, queue_after-unknown};
 
 use crate::entry::{DEQ, ENQ, argument_of};
 use crate::items::take_first;

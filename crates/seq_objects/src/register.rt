@@ -1,8 +1,8 @@
 ghost use Rattle.std.specs.Prelude.{[], ◌∷◌, ◌≡◌};
 ghost use Rattle.seq_objects.specs.declared.kind.Kind.TheVariants as kinds;
 ghost use Rattle.seq_objects.specs.Words.{is_known_word};
-ghost use Rattle.seq_objects.specs.Objects.{register_operation, register_after};
-ghost use Rattle.seq_objects.specs.ObjectLaws.{length-one, length-register_after, register_after-unknown};
+ghost use Rattle.seq_objects.specs.Items.{length-one};
+ghost use Rattle.seq_objects.specs.RegisterSteps.{register_operation, register_after, length-register_after, register_after-unknown};
 
 use crate::entry::{READ, WRITE, argument_of};
 use crate::items::{first_or_zero, set_only};

@@ -1,8 +1,8 @@
 ghost use Rattle.std.specs.Prelude.{[], ◌≡◌};
 ghost use Rattle.seq_objects.specs.declared.kind.Kind.TheVariants as kinds;
 ghost use Rattle.seq_objects.specs.Words.{is_known_word};
-ghost use Rattle.seq_objects.specs.Objects.{stack_operation, stack_after};
-ghost use Rattle.seq_objects.specs.ObjectLaws.{length-none, length-stack_after, stack_after-unknown};
+ghost use Rattle.seq_objects.specs.Items.{length-none};
+ghost use Rattle.seq_objects.specs.StackSteps.{stack_operation, stack_after, length-stack_after, stack_after-unknown};
 
 use crate::entry::{POP, PUSH, argument_of};
 use crate::items::take_last;

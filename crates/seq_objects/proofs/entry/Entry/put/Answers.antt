@@ -1,12 +1,17 @@
-use Rattle.std.proofs.Common.{◌≡◌, ◌++◌, ◌∷◌, decimal, ap, ◌∙◌}
-use Rattle.seq_objects.specs.Words.{argument_of, AppendsFront}
-use Rattle.list_laws.proofs.Results.{OnErr-holds}
+use Rattle.std.proofs.Common.{◌≡◌, ℕ, List, ◌++◌, ap, subst, sym, ◌∙◌}
+use Rattle.seq_objects.specs.Words.{AppendsFront}
+use Rattle.seq_objects.specs.EntryView.{shown, spaced_arguments}
+use Rattle.list_laws.proofs.Results.{OnErr_then}
 use Rattle.seq_objects.proofs.Fronts.{AppendsFront-after}
+use Rattle.seq_objects.proofs.Arguments.{text_of-spaced}
 use Rattle.seq_objects.proofs.entry.Entry.put.Goals as goal
 
-pub returns-in_err-put_marked-clause-err : goal.returns-in_err-put_marked-clause-err
-returns-in_err-put_marked-clause-err c =
-    let name : c.extend_from_slice.new.self.items ≡ c.args.out.now.items ++ c.args.self.now.name.now = c.in_ok-extend_from_slice.ensures.items ∙ ap (λ t. c.args.out.now.items ++ t) c.as_bytes.ensures.value in
-    let argument : c.from.result ≡ argument_of c.args.word = c.from.ensures ∙ c.argument_of.ensures in
-    let front : AppendsFront c.extend_from_slice.new.self.items c.put_marked.new.out.items (32 ∷ decimal (argument_of c.args.word)) = rw argument at c.in_err-put_marked.ensures.err in
-    rw c.if-self.true (OnErr-holds c.from_residual-in_err-put_marked.result (AppendsFront-after c.args.out.now.items c.extend_from_slice.new.self.items c.put_marked.new.out.items c.args.self.now.name.now (32 ∷ decimal (argument_of c.args.word)) name front))
+pub returns-clause-err : goal.returns-clause-err
+returns-clause-err c =
+    let old : List ℕ = c.args.out.now.items in
+    let mid : List ℕ = c.extend_from_slice.new.self.items in
+    let new : List ℕ = c.put_arguments.new.out.items in
+    let name : List ℕ = c.args.self.now.name.now in
+    let arguments : List ℕ = spaced_arguments c.args.self.now.arity c.args.word in
+    let whole : mid ≡ old ++ name = c.in_ok-extend_from_slice.ensures.items ∙ ap (λ t. old ++ t) c.as_bytes.ensures.value in
+    OnErr_then c.put_arguments.result c.put_arguments.ensures.err (λ front. subst (AppendsFront old new) (sym (text_of-spaced (shown c.args.self.now) c.args.word)) (AppendsFront-after old mid new name arguments whole front))

@@ -13,8 +13,8 @@ returns-in-Some-clause-err c =
 
 pub returns-in-None-clause-ok : goal.returns-in-None-clause-ok
 returns-in-None-clause-ok c =
-    rw (operation_text-unknown c.args.self c.args.op (sym c.in-None.ensures)) c.put_marked.ensures.ok
+    rw (operation_text-unknown c.args.self c.args.op (sym c.in-None.ensures)) c.put_whole.ensures.ok
 
 pub returns-in-None-clause-err : goal.returns-in-None-clause-err
 returns-in-None-clause-err c =
-    rw (operation_text-unknown c.args.self c.args.op (sym c.in-None.ensures)) c.put_marked.ensures.err
+    rw (operation_text-unknown c.args.self c.args.op (sym c.in-None.ensures)) c.put_whole.ensures.err

@@ -1,0 +1,38 @@
+-- A counter: what an operation makes of its list, and the reply.
+use Rattle.std.proofs.Common.{◌≡◌, ℕ, ◌+◌, ◌%◌, ◌^◌, ◌≤◌, false, List, [], ◌∷◌, length, Option, Some, None, if◌then◌else◌, ap, arith}
+use Rattle.std.proofs.lemmas.Bool.{cond-false}
+use Rattle.book_base.specs.declared.TheConstants.{BAD}
+use Rattle.seq_objects.specs.declared.kind.Kind.TheVariants as kinds
+use Rattle.seq_objects.specs.declared.counter.CounterOperation.{CounterOperation}
+use Rattle.seq_objects.specs.declared.counter.CounterOperation.TheVariants.{Increment}
+use Rattle.seq_objects.specs.Words as words
+use Rattle.seq_objects.specs.Words.{entries, entry_of, is_operation_of, is_known_word}
+use Rattle.seq_objects.specs.Replies.{reply_value, reply_bad}
+use Rattle.seq_objects.specs.Items.{first_or_zero, not-found}
+
+-- What an operation word asks of a counter, where the counter knows it.
+abbrev pub counter_operation : ℕ → Option CounterOperation
+counter_operation word = if is_operation_of word words.inc then Some Increment else None
+
+-- A counter modulo 2 ^ 32, which is 0 at first: the reply is the count before the increment.
+abbrev pub counter_after : List ℕ → Option CounterOperation → List ℕ × ℕ
+counter_after list (Some Increment) =
+    ((first_or_zero list + 1) % 2 ^ 32 ∷ [], reply_value (first_or_zero list))
+counter_after list None = (list, reply_bad)
+
+pub length-counter_after : (list : List ℕ) (operation : Option CounterOperation)
+    → length (counter_after list operation).0 ≤ length list + 1
+length-counter_after list (Some Increment) = omega arith
+length-counter_after list None = omega arith
+
+counter_operation-unknown : (word : ℕ) → is_known_word kinds.Counter word ≡ false
+    → counter_operation word ≡ None
+unfolding is_known_word entry_of entries
+counter_operation-unknown word unknown =
+    let not_inc = not-found (is_operation_of word) words.inc [] unknown in
+    cond-false (is_operation_of word words.inc) _ _ not_inc.0
+
+pub counter_after-unknown : (list : List ℕ) (word : ℕ) → is_known_word kinds.Counter word ≡ false
+    → counter_after list (counter_operation word) ≡ (list, BAD)
+counter_after-unknown list word unknown =
+    ap (counter_after list) (counter_operation-unknown word unknown)

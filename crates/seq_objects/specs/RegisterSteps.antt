@@ -1,0 +1,44 @@
+-- A register: what an operation makes of its list, and the reply.
+use Rattle.std.proofs.Common.{◌≡◌, ℕ, ◌+◌, ◌≤◌, false, List, [], ◌∷◌, length, Option, Some, None, if◌then◌else◌, ap, ◌∙◌, arith}
+use Rattle.std.proofs.lemmas.Bool.{cond-false}
+use Rattle.book_base.specs.declared.TheConstants.{BAD}
+use Rattle.seq_objects.specs.declared.kind.Kind.TheVariants as kinds
+use Rattle.seq_objects.specs.declared.register.RegisterOperation.{RegisterOperation}
+use Rattle.seq_objects.specs.declared.register.RegisterOperation.TheVariants.{Write, Read}
+use Rattle.seq_objects.specs.Words as words
+use Rattle.seq_objects.specs.Words.{entries, entry_of, is_operation_of, is_known_word, argument_of}
+use Rattle.seq_objects.specs.Replies.{reply_done, reply_value, reply_bad}
+use Rattle.seq_objects.specs.Items.{first_or_zero, not-found}
+
+-- What an operation word asks of a register, where the register knows it.
+abbrev pub register_operation : ℕ → Option RegisterOperation
+register_operation word =
+    if is_operation_of word words.write then Some (Write (argument_of word))
+    else if is_operation_of word words.read then Some Read
+    else None
+
+-- A register: one value, which is 0 at first. A list without an item reads as 0.
+abbrev pub register_after : List ℕ → Option RegisterOperation → List ℕ × ℕ
+register_after list (Some (Write value)) = (value ∷ [], reply_done)
+register_after list (Some Read) = (list, reply_value (first_or_zero list))
+register_after list None = (list, reply_bad)
+
+pub length-register_after : (list : List ℕ) (operation : Option RegisterOperation)
+    → length (register_after list operation).0 ≤ length list + 1
+length-register_after list (Some (Write value)) = omega arith
+length-register_after list (Some Read) = omega arith
+length-register_after list None = omega arith
+
+register_operation-unknown : (word : ℕ) → is_known_word kinds.Register word ≡ false
+    → register_operation word ≡ None
+unfolding is_known_word entry_of entries
+register_operation-unknown word unknown =
+    let not_write = not-found (is_operation_of word) words.write (words.read ∷ []) unknown in
+    let not_read = not-found (is_operation_of word) words.read [] not_write.1 in
+    cond-false (is_operation_of word words.write) _ _ not_write.0
+    ∙ cond-false (is_operation_of word words.read) _ _ not_read.0
+
+pub register_after-unknown : (list : List ℕ) (word : ℕ) → is_known_word kinds.Register word ≡ false
+    → register_after list (register_operation word) ≡ (list, BAD)
+register_after-unknown list word unknown =
+    ap (register_after list) (register_operation-unknown word unknown)

@@ -1,0 +1,95 @@
+ghost use Rattle.std.specs.Prelude.{◌≡◌, ◌<◌, [], ◌∷◌, length};
+ghost use Rattle.seq_objects.specs.declared.kind.Kind.TheVariants as kinds;
+ghost use Rattle.seq_objects.specs.Words.{is_known_word};
+ghost use Rattle.seq_objects.specs.Items.{length-one};
+ghost use Rattle.seq_objects.specs.CasRegisterSteps.{compared_and_set, cas_register_operation, cas_register_after, length-cas_register_after, cas_register_after-unknown};
+
+use crate::entry::{CAS, READ, WRITE, argument_of, extra_of};
+use crate::items::{first_or_zero, set_only};
+use crate::kind::Kind;
+use crate::reply::{DONE, NO, YES, value_reply};
+use book_base::{BAD, OpWord, SeqObject, State};
+
+/// How many values there are.
+const VALUES: u64 = 1 << 32;
+
+/// A register with compare-and-set, which is 0 at first.
+#[derive(Clone, Copy, Debug)]
+pub struct CasRegister;
+
+/// What an operation asks of a register with compare-and-set.
+#[derive(Clone, Copy)]
+enum CasRegisterOperation {
+    Write(u32),
+    Read,
+    CompareAndSet(u32, u32),
+}
+
+impl CasRegisterOperation {
+    /// What an operation word asks of the register, where it knows the word.
+    fn from_word(word: OpWord) -> Option<CasRegisterOperation>
+        ensures { result ≡ cas_register_operation word }
+    {
+        if WRITE.has(word) {
+            Some(CasRegisterOperation::Write(argument_of(word)))
+        } else if READ.has(word) {
+            Some(CasRegisterOperation::Read)
+        } else if CAS.has(word) {
+            let (expected, new) = (argument_of(word), extra_of(word));
+            Some(CasRegisterOperation::CompareAndSet(expected, new))
+        } else {
+            None
+        }
+    }
+}
+
+/// Sets the register where it holds the value that is expected.
+fn compare_and_set(state: &mut State, expected: u32, new: u32) -> u64
+    requires { length state.old.words < state.old.room }
+    ensures list { state.new ≡
+        record state.old { words = (compared_and_set state.old.words expected new).0 } }
+    ensures reply { result ≡ (compared_and_set state.old.words expected new).1 }
+{
+    if first_or_zero(state) % VALUES != u64::from(expected) {
+        return NO;
+    }
+    set_only(state, u64::from(new));
+    YES
+}
+
+impl SeqObject for CasRegister {
+    ghost is_known = { λ _. is_known_word kinds.CasRegister };
+
+    ghost init = { λ _. 0 ∷ [] };
+
+    ghost next = { λ _ list op. cas_register_after list (cas_register_operation op) };
+
+    ghost begins_small = { λ _. length-one };
+
+    ghost grows_by_one = { λ _ list op. length-cas_register_after list (cas_register_operation op) };
+
+    ghost unknown_is_bad = { λ _ list op. cas_register_after-unknown list op };
+
+    fn known(&self, op: OpWord) -> bool {
+        Kind::CasRegister.known(op)
+    }
+
+    fn reset(&self, state: &mut State) {
+        state.clear();
+        state.push(0);
+    }
+
+    fn step(&self, state: &mut State, op: OpWord) -> u64 {
+        match CasRegisterOperation::from_word(op) {
+            Some(CasRegisterOperation::Write(value)) => {
+                set_only(state, u64::from(value));
+                DONE
+            }
+            Some(CasRegisterOperation::Read) => value_reply(first_or_zero(state)),
+            Some(CasRegisterOperation::CompareAndSet(expected, new)) => {
+                compare_and_set(state, expected, new)
+            }
+            None => BAD,
+        }
+    }
+}

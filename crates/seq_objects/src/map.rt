@@ -1,0 +1,130 @@
+ghost use Rattle.std.specs.Prelude.{◌≡◌, ◌<◌, [], length};
+ghost use Rattle.seq_objects.specs.declared.kind.Kind.TheVariants as kinds;
+ghost use Rattle.seq_objects.specs.Words.{is_known_word};
+ghost use Rattle.seq_objects.specs.Items.{length-none};
+ghost use Rattle.seq_objects.specs.MapSteps as steps;
+ghost use Rattle.seq_objects.specs.MapSteps.{map_operation, map_after, length-map_after, map_after-unknown, put_in, value_at, without, place_of_key};
+
+use crate::entry::{DEL, GET, PUT, argument_of, extra_of};
+use crate::items::insert_in_order;
+use crate::kind::Kind;
+use crate::reply::{NONE, value_reply};
+use book_base::{BAD, OpWord, SeqObject, State};
+
+/// How many values a key can have.
+const VALUES: u64 = 1 << 32;
+
+/// A map of keys to values, both below 2^32.
+#[derive(Clone, Copy, Debug)]
+pub struct Map;
+
+/// What an operation asks of a map.
+#[derive(Clone, Copy)]
+enum MapOperation {
+    Put(u32, u32),
+    Get(u32),
+    Delete(u32),
+}
+
+impl MapOperation {
+    /// What an operation word asks of a map, where it knows the word.
+    fn from_word(word: OpWord) -> Option<MapOperation>
+        ensures { result ≡ map_operation word }
+    {
+        if PUT.has(word) {
+            let (key, value) = (argument_of(word), extra_of(word));
+            Some(MapOperation::Put(key, value))
+        } else if GET.has(word) {
+            Some(MapOperation::Get(argument_of(word)))
+        } else if DEL.has(word) {
+            Some(MapOperation::Delete(argument_of(word)))
+        } else {
+            None
+        }
+    }
+}
+
+/// The item of a key and its value.
+fn item_of(key: u32, value: u32) -> u64
+    ensures { result ≡ steps.item_of key value }
+{
+    u64::from(key) * VALUES + u64::from(value)
+}
+
+/// Where the first item with a key stands, if there is one.
+fn place_of_key(words: &[u64], key: u32) -> Option<usize>
+    ensures { result ≡ place_of_key words.now key }
+{
+    words
+        .iter()
+        .position(|&item| item / VALUES == u64::from(key))
+}
+
+/// Gives a key a value: the reply gives the value that the key had, or says that it had none.
+fn put(state: &mut State, key: u32, value: u32) -> u64
+    requires { length state.old.words < state.old.room }
+    ensures list { state.new ≡ record state.old { words = (put_in state.old.words key value).0 } }
+    ensures reply { result ≡ (put_in state.old.words key value).1 }
+{
+    let item = item_of(key, value);
+    let Some(place) = place_of_key(state.words(), key) else {
+        insert_in_order(state, item);
+        return NONE;
+    };
+    let old = state.remove(place as u64);
+    state.insert(place as u64, item);
+    value_reply(old)
+}
+
+/// The reply with the value of a key, or that it has none.
+fn get(state: &State, key: u32) -> u64
+    ensures { result ≡ value_at state.now.words (place_of_key state.now.words key) }
+{
+    match place_of_key(state.words(), key) {
+        Some(place) => value_reply(state.get(place as u64)),
+        None => NONE,
+    }
+}
+
+/// Takes the first item with a key out, where there is one: the reply gives its value.
+fn delete(state: &mut State, key: u32) -> u64
+    ensures list { state.new ≡
+        record state.old { words = without state.old.words (place_of_key state.old.words key) } }
+    ensures reply { result ≡ value_at state.old.words (place_of_key state.old.words key) }
+{
+    match place_of_key(state.words(), key) {
+        Some(place) => value_reply(state.remove(place as u64)),
+        None => NONE,
+    }
+}
+
+impl SeqObject for Map {
+    ghost is_known = { λ _. is_known_word kinds.Map };
+
+    ghost init = { λ _. [] };
+
+    ghost next = { λ _ list op. map_after list (map_operation op) };
+
+    ghost begins_small = { λ _. length-none };
+
+    ghost grows_by_one = { λ _ list op. length-map_after list (map_operation op) };
+
+    ghost unknown_is_bad = { λ _ list op. map_after-unknown list op };
+
+    fn known(&self, op: OpWord) -> bool {
+        Kind::Map.known(op)
+    }
+
+    fn reset(&self, state: &mut State) {
+        state.clear();
+    }
+
+    fn step(&self, state: &mut State, op: OpWord) -> u64 {
+        match MapOperation::from_word(op) {
+            Some(MapOperation::Put(key, value)) => put(state, key, value),
+            Some(MapOperation::Get(key)) => get(state, key),
+            Some(MapOperation::Delete(key)) => delete(state, key),
+            None => BAD,
+        }
+    }
+}
