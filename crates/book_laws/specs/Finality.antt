@@ -1,0 +1,23 @@
+-- An error is final: what has no legal order at a cut has none at a larger one.
+use Rattle.std.specs.Prelude.{ℕ, List, take}
+use Rattle.book_base.specs.declared.call.Place.{Place}
+use Rattle.book_base.specs.Cut.{IsWithin}
+use Rattle.book_base.specs.Book.{Page, IsValid}
+use Rattle.book_base.specs.BookAt.{book_at}
+use Rattle.book_base.specs.Order.{IsLegalOrder, HasLegalOrder}
+
+-- Some front of each legal order of the book at a cut is a legal order of the book at a smaller cut.
+abbrev pub SomeFrontIsLegal : Type 0
+SomeFrontIsLegal = (init : List ℕ) (next : List ℕ → ℕ → List ℕ × ℕ) (book : List Page) (smaller larger : List ℕ) (order : List Place)
+    → IsValid book → IsWithin smaller larger → IsLegalOrder init next (book_at larger book) order
+    → (n : ℕ) × IsLegalOrder init next (book_at smaller book) (take n order)
+
+-- Where the book at a cut has a legal order, the book at each smaller cut has one.
+abbrev pub SmallerHasOne : Type 0
+SmallerHasOne = (init : List ℕ) (next : List ℕ → ℕ → List ℕ × ℕ) (book : List Page) (smaller larger : List ℕ)
+    → IsValid book → IsWithin smaller larger → HasLegalOrder init next (book_at larger book) → HasLegalOrder init next (book_at smaller book)
+
+-- Where the book at a cut has none, the book at each larger cut has none.
+abbrev pub LargerHasNone : Type 0
+LargerHasNone = (init : List ℕ) (next : List ℕ → ℕ → List ℕ × ℕ) (book : List Page) (smaller larger : List ℕ)
+    → IsValid book → IsWithin smaller larger → ¬ HasLegalOrder init next (book_at smaller book) → ¬ HasLegalOrder init next (book_at larger book)

@@ -1,0 +1,5 @@
+pub mod Next
+pub mod BooksAtCuts
+pub mod Finality
+pub mod Greatest
+pub mod Cases

@@ -1,0 +1,38 @@
+//! Worked cases: what the definitions and the laws say of small books that are written out.
+
+ghost use Rattle.std.specs.Prelude.{◌≡◌, [], ◌∷◌, take};
+ghost use Rattle.book_base.specs.Book.{IsValid};
+ghost use Rattle.book_base.specs.BookAt.{book_at};
+ghost use Rattle.book_base.specs.Order.{IsLegalOrder, HasLegalOrder};
+ghost use Rattle.book_laws.specs.Greatest.{greatest_counts};
+ghost use Rattle.book_laws.specs.Cases.{line_next, caller_page, overtaken, overtaken_seen, overtaken_early, overtaking, tenfold_next, mistaken};
+
+/// The books at three cuts of one book: a call stands there where a view of the cut holds it, whoever's
+/// view that is, and whether or not it is answered there.
+pub fn books_at_cuts()
+    ensures valid { IsValid overtaken }
+    ensures all { book_at (2 ∷ 1 ∷ []) overtaken ≡ overtaken_seen }
+    ensures early { book_at (1 ∷ 0 ∷ []) overtaken ≡ overtaken_early }
+    ensures none { book_at (0 ∷ 0 ∷ []) overtaken ≡ caller_page [] [] ∷ caller_page [] [] ∷ [] }
+{}
+
+/// An order that has to end early: what is legal for the book at all its records isn't for the book at the
+/// earlier cut, whose call of caller 1 is unanswered and stands, and which lacks the last call.
+pub fn an_order_ends_early()
+    ensures whole { IsLegalOrder [] line_next overtaken_seen overtaking }
+    ensures too_long { ¬ IsLegalOrder [] line_next overtaken_early overtaking }
+    ensures front { IsLegalOrder [] line_next overtaken_early (take 2 overtaking) }
+    ensures too_short { ¬ IsLegalOrder [] line_next overtaken_early (take 1 overtaking) }
+{}
+
+/// A wrong reply is an error at the cut of its record alone, and so at the larger cut.
+pub fn an_error_stays()
+    ensures first { ¬ HasLegalOrder [] tenfold_next (book_at (1 ∷ 0 ∷ []) mistaken) }
+    ensures later { ¬ HasLegalOrder [] tenfold_next (book_at (1 ∷ 1 ∷ []) mistaken) }
+{}
+
+/// The greatest counts of three cuts are those of the second, and those of no cut are zeros.
+pub fn greatest_of_three()
+    ensures three { greatest_counts 2 ((1 ∷ 0 ∷ []) ∷ (2 ∷ 1 ∷ []) ∷ (1 ∷ 1 ∷ []) ∷ []) ≡ 2 ∷ 1 ∷ [] }
+    ensures none { greatest_counts 2 [] ≡ 0 ∷ 0 ∷ [] }
+{}
