@@ -1,0 +1,60 @@
+-- Sketches, one event after another.
+use Rattle.std.specs.Prelude.{◌≡◌, ℕ, ◌+◌, ◌-◌, ◌<◌, ◌≤◌, ◌⊎◌, ◌↔◌, List, length, sum, Some, slice_get, slice_index}
+use Rattle.book_base.specs.declared.call.Call.{Call}
+use Rattle.book_base.specs.declared.call.Record.{Record}
+use Rattle.book_base.specs.Cut.{Holds, IsWithin}
+use Rattle.book_base.specs.Book.{Page, calls_of, answers_of, announced, answered, record_of}
+use Rattle.book_laws.specs.Next.{raised}
+use Rattle.sketch.specs.declared.event.Event.{Event}
+use Rattle.sketch.specs.declared.event.Event.TheVariants.{Invoke, Return}
+use Rattle.sketch.specs.declared.drawn.Drawn.{Drawn}
+use Rattle.sketch.specs.Sketch.{IsEventOf, ComesBefore, StandsIn}
+
+-- The event is drawn: its call is among those that were invoked, or that returned, so far.
+abbrev pub IsDrawn : Drawn → Event → Type 0
+IsDrawn drawn (Invoke call) = Holds drawn.invoked call
+IsDrawn drawn (Return call) = Holds drawn.returned call
+
+-- What is drawn is part of a sketch of the book.
+pub record IsPartOf (book : List Page) (drawn : Drawn) : Type 0 where
+  -- it counts the callers of the book
+  pub wide_invoked : length drawn.invoked ≡ length book
+  pub wide_returned : length drawn.returned ≡ length book
+  -- no more calls than were made and answered
+  pub made : (i : ℕ) → slice_index drawn.invoked i ≤ calls_of book i
+  pub answered : (i : ℕ) → slice_index drawn.returned i ≤ answers_of book i
+  -- and what a returned call saw is invoked
+  pub seen : (call : Call) (r : Record) → record_of book call ≡ Some r → Holds drawn.returned call → IsWithin r.view drawn.invoked
+
+-- the call is the next one of its caller after the calls of a cut
+abbrev pub IsNextOf : List ℕ → Call → Type 0
+IsNextOf cut call = call.number ≡ slice_index cut call.caller
+
+-- the event's call is the next one of its caller to be invoked, or to return
+abbrev pub FollowsOn : Drawn → Event → Type 0
+FollowsOn drawn (Invoke call) = IsNextOf drawn.invoked call
+FollowsOn drawn (Return call) = IsNextOf drawn.returned call
+
+-- The event comes next: it is one of the book that isn't drawn, and comes before each other such event.
+pub record IsNext (book : List Page) (drawn : Drawn) (event : Event) : Type 0 where
+  pub is_event : IsEventOf book event
+  pub follows : FollowsOn drawn event
+  pub first : (other : Event) → IsEventOf book other → (IsDrawn drawn other → ⊥) → (other ≡ event) ⊎ ComesBefore book event other
+
+-- what is drawn with one more event
+abbrev pub with_event : Drawn → Event → Drawn
+with_event drawn (Invoke call) = record drawn { invoked = raised drawn.invoked call.caller }
+with_event drawn (Return call) = record drawn { returned = raised drawn.returned call.caller }
+
+-- how many events of the book aren't drawn
+abbrev pub left_to_draw : List Page → Drawn → ℕ
+left_to_draw book drawn = (sum (announced book) - sum drawn.invoked) + (sum (answered book) - sum drawn.returned)
+
+-- A list of events is the sketch of a book as far as it is drawn.
+pub record IsDrawnSketch (book : List Page) (drawn : Drawn) (events : List Event) : Type 0 where
+  -- it has the drawn events, and no others
+  pub whole : (event : Event) → StandsIn events event ↔ IsDrawn drawn event
+  -- each stands after all that come before it
+  pub ordered : (j k : ℕ) (e f : Event) → slice_get events j ≡ Some e → slice_get events k ≡ Some f → j < k → ComesBefore book e f
+  -- and comes before all events of the book that aren't drawn
+  pub before : (e f : Event) → IsDrawn drawn e → IsEventOf book f → (IsDrawn drawn f → ⊥) → ComesBefore book e f

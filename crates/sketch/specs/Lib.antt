@@ -1,0 +1,3 @@
+pub mod Sketch
+pub mod Drawing
+pub mod Laws

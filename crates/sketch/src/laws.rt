@@ -1,0 +1,28 @@
+//! Laws of sketches. Each is the contract of a function with nothing in it.
+
+ghost use Rattle.sketch.specs.Laws.{BooksHaveOneSketch, EventsStandOnce, CallsReturnAfterTheyAreInvoked, ViewsHoldWhatWasInvoked, ReturnsComeBeforeUnseenCalls};
+
+/// A book has one sketch.
+#[tactic(auto, using(crate::proofs::Orderly::books_have_one_sketch))]
+pub fn books_have_one_sketch()
+    ensures { BooksHaveOneSketch }
+{}
+
+/// Each call of a book is invoked once, and each answered call returns once, after its invocation.
+#[tactic(auto, using(crate::proofs::Orderly::events_stand_once, crate::proofs::Orderly::calls_return_after_they_are_invoked))]
+pub fn calls_are_invoked_and_return_once()
+    ensures once { EventsStandOnce }
+    ensures after { CallsReturnAfterTheyAreInvoked }
+{}
+
+/// The calls that are invoked before the return of a call are exactly those that its view holds.
+#[tactic(auto, using(crate::proofs::Orderly::views_hold_what_was_invoked))]
+pub fn views_hold_what_was_invoked()
+    ensures { ViewsHoldWhatWasInvoked }
+{}
+
+/// The return of a call stands before the invocation of another exactly where its view doesn't hold it.
+#[tactic(auto, using(crate::proofs::Orderly::returns_come_before_unseen_calls))]
+pub fn returns_come_before_unseen_calls()
+    ensures { ReturnsComeBeforeUnseenCalls }
+{}

@@ -1,0 +1,13 @@
+//! The sketch of a book: the history of invocations and returns that its views tell.
+#![tactic(auto)]
+
+mod drawn;
+mod event;
+mod history;
+pub mod laws;
+
+pub use event::Event;
+pub use history::sketch;
+
+#[cfg(test)]
+mod tests;
