@@ -1,0 +1,12 @@
+pub mod Counting
+pub mod Runs
+pub mod Ranks
+pub mod QueueRuns
+pub mod Orders
+pub mod ContainerRules
+pub mod MoreTaken
+pub mod QueueRules
+pub mod StackRules
+pub mod Exchange
+pub mod RegisterRules
+pub mod SmallObjects

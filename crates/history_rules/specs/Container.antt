@@ -1,0 +1,77 @@
+-- Objects that hold values: what is put in is held until it is taken out. What an object does is read through parameters, so that
+-- each rule here is one for every object that can be read so.
+use Rattle.std.specs.Prelude.{◌≡◌, ℕ, ◌+◌, ◌≤◌, ◌==◌, Bool, true, false, IsTrue, List, [], ◌∷◌, ◌++◌, Option, Some, None}
+
+-- what an operation does to what is held: it puts a value in, it takes one out, or neither
+pub data Deed : Type 0 where
+  Puts : ℕ → Deed
+  Takes : Deed
+  Neither : Deed
+
+-- How an object is read: what each operation word does, what the reply to a take shows (a value, or that nothing was there), and
+-- which values a list of the object's words holds.
+pub record Reading : Type 0 where
+  pub deed : ℕ → Deed
+  pub shown : ℕ → Option ℕ
+  pub values : List ℕ → List ℕ
+
+-- the value that a deed puts in, and the one that it takes out by what its reply shows
+abbrev pub value_put : Deed → Option ℕ
+value_put (Puts v) = Some v
+value_put Takes = None
+value_put Neither = None
+
+abbrev pub value_taken : Deed → Option ℕ → Option ℕ
+value_taken (Puts v) shown = None
+value_taken Takes shown = shown
+value_taken Neither shown = None
+
+-- the same of an operation and its reply
+abbrev pub put_by : Reading → ℕ × ℕ → Option ℕ
+put_by reading step = value_put (reading.deed step.0)
+
+abbrev pub taken_by : Reading → ℕ × ℕ → Option ℕ
+taken_by reading step = value_taken (reading.deed step.0) (reading.shown step.1)
+
+abbrev pub one_if : Bool → ℕ
+one_if true = 1
+one_if false = 0
+
+-- how often a value is in a list
+abbrev pub times : ℕ → List ℕ → ℕ
+times v [] = 0
+times v (x ∷ xs) = one_if (x == v) + times v xs
+
+-- A take gives out one of the values held, or shows that nothing is held.
+abbrev pub GivesOne : List ℕ → Option ℕ → List ℕ → Type 0
+GivesOne before None after = (before ≡ []) × (after ≡ [])
+GivesOne before (Some v) after = (w : ℕ) → times w before ≡ times w (v ∷ after)
+
+-- A take gives out the first of the values held, or shows that nothing is held.
+abbrev pub GivesFirst : List ℕ → Option ℕ → List ℕ → Type 0
+GivesFirst before None after = (before ≡ []) × (after ≡ [])
+GivesFirst before (Some v) after = before ≡ v ∷ after
+
+-- A container: a put adds its value, a take gives one out, and nothing else changes what is held.
+pub record IsContainer (reading : Reading) (next : List ℕ → ℕ → List ℕ × ℕ) : Type 0 where
+  pub put : (list : List ℕ) (op v : ℕ) → reading.deed op ≡ Puts v → (w : ℕ) → times w (reading.values (next list op).0) ≡ times w (v ∷ reading.values list)
+  pub take : (list : List ℕ) (op : ℕ) → reading.deed op ≡ Takes → GivesOne (reading.values list) (reading.shown (next list op).1) (reading.values (next list op).0)
+  pub neither : (list : List ℕ) (op : ℕ) → reading.deed op ≡ Neither → reading.values (next list op).0 ≡ reading.values list
+
+-- A queue: a put adds its value at the end, and a take gives out the first.
+pub record IsQueue (reading : Reading) (next : List ℕ → ℕ → List ℕ × ℕ) : Type 0 where
+  pub put : (list : List ℕ) (op v : ℕ) → reading.deed op ≡ Puts v → reading.values (next list op).0 ≡ reading.values list ++ v ∷ []
+  pub take : (list : List ℕ) (op : ℕ) → reading.deed op ≡ Takes → GivesFirst (reading.values list) (reading.shown (next list op).1) (reading.values (next list op).0)
+  pub neither : (list : List ℕ) (op : ℕ) → reading.deed op ≡ Neither → reading.values (next list op).0 ≡ reading.values list
+
+-- A stack: a put adds its value in front, and a take gives out the first.
+pub record IsStack (reading : Reading) (next : List ℕ → ℕ → List ℕ × ℕ) : Type 0 where
+  pub put : (list : List ℕ) (op v : ℕ) → reading.deed op ≡ Puts v → reading.values (next list op).0 ≡ v ∷ reading.values list
+  pub take : (list : List ℕ) (op : ℕ) → reading.deed op ≡ Takes → GivesFirst (reading.values list) (reading.shown (next list op).1) (reading.values (next list op).0)
+  pub neither : (list : List ℕ) (op : ℕ) → reading.deed op ≡ Neither → reading.values (next list op).0 ≡ reading.values list
+
+-- A priority queue: a container of which a take gives out a least value, at each list that it may come to (the test says which).
+pub record IsPriorityQueue (reading : Reading) (next : List ℕ → ℕ → List ℕ × ℕ) (kept : List ℕ → Bool) : Type 0 where
+  pub container : IsContainer reading next
+  pub keeps : (list : List ℕ) (op : ℕ) → IsTrue (kept list) → IsTrue (kept (next list op).0)
+  pub least : (list : List ℕ) (op v w : ℕ) → IsTrue (kept list) → reading.deed op ≡ Takes → reading.shown (next list op).1 ≡ Some v → 1 ≤ times w (reading.values list) → v ≤ w

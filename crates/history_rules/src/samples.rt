@@ -1,0 +1,22 @@
+//! Worked cases: small objects that the rules speak of, and a book that a rule decides.
+
+ghost use Rattle.std.specs.Prelude.{[], ◌∷◌};
+ghost use Rattle.history_rules.specs.Container.{IsQueue, IsStack, IsPriorityQueue};
+ghost use Rattle.book_base.specs.Foresight.{IsHopeless, MustComeFirst};
+ghost use Rattle.history_rules.specs.Register.{IsRegister};
+ghost use Rattle.history_rules.specs.SmallObjects.{sample, queue_next, stack_next, least_next, is_rising, register, register_next, call_of, six_first};
+
+/// The small queue, stack, priority queue and register are what the rules ask for.
+pub fn small_objects_are_read_so()
+    ensures queue { IsQueue sample queue_next }
+    ensures stack { IsStack sample stack_next }
+    ensures least { IsPriorityQueue sample least_next is_rising }
+    ensures register { IsRegister register register_next }
+{}
+
+/// Both values were put in at once, and 6 was taken first: in every legal order 6 is put in first, so that
+/// the put of 5 is hopeless at the start.
+pub fn six_is_put_first()
+    ensures order { MustComeFirst [] queue_next six_first (call_of 1 0) (call_of 0 0) }
+    ensures hopeless { IsHopeless [] queue_next six_first (0 ∷ 0 ∷ []) [] (call_of 0 0) }
+{}
