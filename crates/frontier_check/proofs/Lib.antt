@@ -1,4 +1,5 @@
-pub mod LegalOrder
-pub mod Precedence
-pub mod Orders
-pub mod Layers
+pub mod Pairs
+pub mod Choosing
+pub mod Leading
+pub mod Weighing
+pub mod Walking

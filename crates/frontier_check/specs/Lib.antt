@@ -1,4 +1,3 @@
-pub mod Next
-pub mod TrailLayout
-pub mod Layer
+pub mod Search
+pub mod Memo
 pub mod Verdict

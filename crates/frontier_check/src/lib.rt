@@ -1,15 +1,17 @@
 //! The search for a legal order of a book: `check` finds one, or says that there is none.
 #![tactic(auto)]
 
-mod frontier;
-mod next;
-mod pair;
+mod choice;
+mod guide;
+mod memo;
+mod plan;
 mod search;
-mod trail;
 mod verdict;
+mod walk;
 
 pub use book_base::Place;
-pub use verdict::{Verdict, check};
+pub use guide::Guide;
+pub use verdict::{Verdict, check, check_from};
 
 #[cfg(test)]
 mod tests;

@@ -1,29 +1,25 @@
-ghost use Rattle.std.specs.Prelude.{◌≡◌, ◌≢◌, ◌+◌, ◌<◌, ◌≤◌, ◌⊎◌, ◌↔◌, List, [], ◌∷◌, ◌++◌, length, sum, slice_index, slice_index_or, IfOk, IfSome, IfNone, IsTrue, Some};
+ghost use Rattle.std.specs.Prelude.{◌≡◌, ℕ, ◌+◌, ◌<◌, ◌≤◌, ◌↔◌, ◌∷◌, [], List, length, slice_index, IfOk, IfSome, IfNone, IsTrue, Some, OnOk};
 ghost use Rattle.book_base.specs.declared.call.Place.{Place};
 ghost use Rattle.book_base.specs.declared.call.Record.{Record};
-ghost use Rattle.book_base.specs.Book.{IsSmall, IsCall, record_of};
+ghost use Rattle.book_base.specs.Book.{IsValid, IsSmall, IsCall, IsAnswered, record_of};
 ghost use Rattle.book_base.specs.Order.{IsLegalOrder, HasLegalOrder};
-ghost use Rattle.frontier_check.specs.Next.{HoldsAnswered, Continues};
-ghost use Rattle.frontier_check.specs.Layer.{no_counts, IsReached, IsFrontier, IsFound, GrowsTo, CanEnd, SomeCanEnd, length_of};
+ghost use Rattle.book_laws.specs.Next.{next_call, raised, list_after, HoldsAnswered, MayComeNext};
+ghost use Rattle.frontier_check.specs.Search.{IsLeast, ViewsAreWithin, places_of, AreChosen, IsOpen, IsWalk, IsRightOutcome, Fits, weigh, weight};
 
-use crate::frontier::Frontier;
-use crate::next::{holds_answered, may_come_next, next_call, raised};
-use crate::pair::Pair;
-use crate::trail::Trail;
-use book_base::{Book, Call, MAX_CALLERS, MAX_CALLS, NoMemory, Place, SeqObject, State};
+use crate::choice::Choice;
+use crate::memo::Memo;
+use crate::plan::Plan;
+use crate::walk::{Level, Outcome, ROOM, Walk, load, places, set_count};
+use book_base::{Book, Call, Cut, MAX_CALLERS, NoMemory, Place, SeqObject, State};
 use std::alloc::Global;
-use std::collections::BTreeMap;
 use std::mem;
-
-/// Room for as many words as a book has calls, and one more.
-pub const ROOM: u64 = MAX_CALLERS as u64 * MAX_CALLS + 1;
 
 /// A search for a legal order of a book of a sequential object.
 pub struct Search<'a, S> {
     pub alloc: Global,
     pub object: &'a S,
     pub book: &'a Book,
-    pub callers: u32,
+    pub plan: &'a Plan,
 }
 
 impl<S> Drop for Search<'_, S> {
@@ -32,159 +28,283 @@ impl<S> Drop for Search<'_, S> {
             alloc: _,
             object: _,
             book: _,
-            callers: _,
+            plan: _,
         } = self;
     }
 }
 
 impl<S: SeqObject> Search<'_, S> {
-    /// The frontier with the pair that the order without places reaches.
-    pub fn start(&self, state: &mut State) -> Result<Frontier, NoMemory>
-        requires small { IsSmall self.now.book.now }
-        requires room { state.old.room ≡ ROOM }
-        requires answered { HoldsAnswered self.now.book.now no_counts → ⊥ }
-        ensures room { state.new.room ≡ ROOM }
-        ensures frontier { IfOk result (λ frontier. IsFrontier self.now.book.now (S.init self.now.object.now) (S.next self.now.object.now) (length_of frontier.layer.entries) frontier) }
-        ensures complete { IfOk result (λ frontier. HasLegalOrder (S.init self.now.object.now) (S.next self.now.object.now) self.now.book.now
-            → SomeCanEnd self.now.book.now (S.next self.now.object.now) frontier.layer.entries) }
+    /// Finds the places of a legal order, if there is one.
+    pub fn run(&self) -> Result<Option<Vec<Place>>, NoMemory>
+        ensures found { IfOk result (λ found. IfSome found (λ order. IsLegalOrder (S.init self.now.object.now) (S.next self.now.object.now) self.now.book.now order.items)) }
+        ensures none { IfOk result (λ found. IfNone found (HasLegalOrder (S.init self.now.object.now) (S.next self.now.object.now) self.now.book.now → ⊥)) }
     {
-        self.object.reset(state);
-        let pair = Pair {
-            counts: [0; MAX_CALLERS],
-            words: Vec::from_slice(self.alloc, state.words())?,
+        let callers = self.book.callers() as usize;
+        let counts = vec![in self.alloc; 0; callers]?;
+        let Some(first) = self.least_open(&counts) else {
+            return Ok(Some(Vec::new(self.alloc)));
         };
-        let mut layer = BTreeMap::new(self.alloc);
-        layer.insert(pair, 0)?;
-        Ok(Frontier {
-            trail: Trail::new(self.alloc),
-            layer,
-        })
+        let mut here = State::with_room(self.alloc, ROOM)?;
+        let mut spare = State::with_room(self.alloc, ROOM)?;
+        self.object.reset(&mut here);
+        let choices = self.choices(&counts, &here, &mut spare, first)?;
+        let mut walk = Walk {
+            levels: Vec::new(self.alloc),
+            counts,
+            here,
+            choices,
+            memo: Memo::new(self.alloc, callers),
+        };
+        self.go_on(&mut walk, &mut spare)
     }
 
-    /// Puts the pairs that one more place reaches in place of those of the frontier, or finds the index
-    /// of a legal order.
-    pub fn next_layer(
-        &self,
-        state: &mut State,
-        frontier: &mut Frontier,
-    ) -> Result<Option<usize>, NoMemory>
+    // Goes on with a walk until it has found a legal order, or all is tried.
+    fn go_on(&self, walk: &mut Walk, spare: &mut State) -> Result<Option<Vec<Place>>, NoMemory>
+        requires valid { IsValid self.now.book.now }
         requires small { IsSmall self.now.book.now }
-        requires callers { self.now.callers ≡ length self.now.book.now }
-        requires room { state.old.room ≡ ROOM }
-        requires frontier { IsFrontier self.now.book.now (S.init self.now.object.now) (S.next self.now.object.now) (length_of frontier.old.layer.entries) frontier.old }
-        ensures room { state.new.room ≡ ROOM }
-        ensures found { IfOk result (λ found. IfSome found (IsFound self.now.book.now (S.init self.now.object.now) (S.next self.now.object.now) frontier.new.trail)) }
-        ensures next { IfOk result (λ found. IfNone found (GrowsTo self.now.book.now (S.init self.now.object.now) (S.next self.now.object.now) (length_of frontier.old.layer.entries + 1) frontier.old frontier.new)) }
+        requires walk { IsWalk self.now.book.now (S.init self.now.object.now) (S.next self.now.object.now) walk.old (places_of walk.old.choices.items) }
+        requires room { spare.old.room ≡ ROOM }
+        ensures found { IfOk result (λ found. IfSome found (λ order. IsLegalOrder (S.init self.now.object.now) (S.next self.now.object.now) self.now.book.now order.items)) }
+        ensures none { IfOk result (λ found. IfNone found (HasLegalOrder (S.init self.now.object.now) (S.next self.now.object.now) self.now.book.now → ⊥)) }
     {
-        let mut layer = mem::replace(&mut frontier.layer, BTreeMap::new(self.alloc));
-        while let Some((pair, index)) = layer.pop_first() {
-            if let Some(found) = self.take_all(&pair, index, state, frontier)? {
-                return Ok(Some(found));
+        'steps: loop {
+            match self.advance(walk, spare)? {
+                Outcome::Found => return Ok(Some(places(self.alloc, &walk.levels)?)),
+                Outcome::NoneLeft => return Ok(None),
+                Outcome::GoesOn => {}
             }
         }
-        Ok(None)
     }
 
-    // Adds the pairs that one more place reaches after a pair, or finds the index of a legal order.
-    fn take_all(
-        &self,
-        from: &Pair,
-        index: usize,
-        state: &mut State,
-        frontier: &mut Frontier,
-    ) -> Result<Option<usize>, NoMemory>
+    // Tries the best choice that is left, or leaves a dead end.
+    fn advance(&self, walk: &mut Walk, spare: &mut State) -> Result<Outcome, NoMemory>
+        requires valid { IsValid self.now.book.now }
         requires small { IsSmall self.now.book.now }
-        requires callers { self.now.callers ≡ length self.now.book.now }
-        requires room { state.old.room ≡ ROOM }
-        requires from { IsReached self.now.book.now (S.init self.now.object.now) (S.next self.now.object.now) frontier.old.trail (from.now, index) }
-        requires frontier { IsFrontier self.now.book.now (S.init self.now.object.now) (S.next self.now.object.now) (sum from.now.counts + 1) frontier.old }
-        ensures room { state.new.room ≡ ROOM }
-        ensures found { IfOk result (λ found. IfSome found (IsFound self.now.book.now (S.init self.now.object.now) (S.next self.now.object.now) frontier.new.trail)) }
-        ensures grows { IfOk result (λ found. IfNone found (GrowsTo self.now.book.now (S.init self.now.object.now) (S.next self.now.object.now) (sum from.now.counts + 1) frontier.old frontier.new)) }
-        ensures taken { IfOk result (λ found. IfNone found ((place : Place) (rest : List Place)
-            → Continues self.now.book.now (S.next self.now.object.now) from.now.counts from.now.words.items (place ∷ rest)
-            → SomeCanEnd self.now.book.now (S.next self.now.object.now) frontier.new.layer.entries)) }
+        requires walk { IsWalk self.now.book.now (S.init self.now.object.now) (S.next self.now.object.now) walk.old (places_of walk.old.choices.items) }
+        requires room { spare.old.room ≡ ROOM }
+        ensures room { spare.new.room ≡ ROOM }
+        ensures outcome { IfOk result (IsRightOutcome self.now.book.now (S.init self.now.object.now) (S.next self.now.object.now) (weight walk.old) walk.new) }
     {
-        for caller in 0..self.callers {
-            if let Some(found) = self.take(from, index, caller, state, frontier)? {
-                return Ok(Some(found));
+        match walk.choices.pop() {
+            Some(choice) => self.enter(walk, spare, choice.place),
+            None => {
+                walk.memo
+                    .remember(self.alloc, &walk.counts, walk.here.words())?;
+                Ok(self.retreat(walk))
             }
         }
-        Ok(None)
     }
 
-    // Adds the pair that the next call of a caller reaches after a pair, if the call may come next and
-    // the object's reply is the recorded one, or finds the index of a legal order.
-    fn take(
+    // Puts a place next, unless that leads to a remembered dead end.
+    fn enter(&self, walk: &mut Walk, spare: &mut State, place: Place) -> Result<Outcome, NoMemory>
+        requires valid { IsValid self.now.book.now }
+        requires small { IsSmall self.now.book.now }
+        requires walk { IsWalk self.now.book.now (S.init self.now.object.now) (S.next self.now.object.now) walk.old (place ∷ places_of walk.old.choices.items) }
+        requires room { spare.old.room ≡ ROOM }
+        ensures room { spare.new.room ≡ ROOM }
+        ensures outcome { IfOk result (IsRightOutcome self.now.book.now (S.init self.now.object.now) (S.next self.now.object.now)
+            (weigh ROOM walk.old.levels.items (length walk.old.choices.items + 1)) walk.new) }
+    {
+        self.step(walk, spare, place);
+        if walk.memo.remembers(&walk.counts, walk.here.words()) {
+            set_count(&mut walk.counts, place.caller, place.number);
+            walk.here.copy_from(spare);
+            return Ok(Outcome::GoesOn);
+        }
+        let words = Vec::from_slice(self.alloc, spare.words())?;
+        match self.least_open(&walk.counts) {
+            None => {
+                let choices = mem::replace(&mut walk.choices, Vec::new(self.alloc));
+                walk.levels.push(Level {
+                    place,
+                    words,
+                    choices,
+                })?;
+                Ok(Outcome::Found)
+            }
+            Some(first) => {
+                let fresh = self.choices(&walk.counts, &walk.here, spare, first)?;
+                let choices = mem::replace(&mut walk.choices, fresh);
+                walk.levels.push(Level {
+                    place,
+                    words,
+                    choices,
+                })?;
+                Ok(Outcome::GoesOn)
+            }
+        }
+    }
+
+    // Makes the step of a place that may stand next. The list before it is kept in the spare state.
+    fn step(&self, walk: &mut Walk, spare: &mut State, place: Place)
+        requires small { IsSmall self.now.book.now }
+        requires walk { IsWalk self.now.book.now (S.init self.now.object.now) (S.next self.now.object.now) walk.old (place ∷ places_of walk.old.choices.items) }
+        requires room { spare.old.room ≡ ROOM }
+        ensures spare { spare.new ≡ record spare.old { words = walk.old.here.words } }
+        ensures here { walk.new.here ≡ record walk.old.here { words = list_after self.now.book.now (S.next self.now.object.now) walk.old.here.words place } }
+        ensures counts { walk.new.counts.items ≡ raised walk.old.counts.items place.caller }
+        ensures levels { walk.new.levels ≡ walk.old.levels }
+        ensures choices { walk.new.choices ≡ walk.old.choices }
+        ensures memo { walk.new.memo ≡ walk.old.memo }
+    {
+        let op = self.book.op(Call {
+            caller: place.caller,
+            number: place.number,
+        });
+        spare.copy_from(&walk.here);
+        let _reply = self.object.step(&mut walk.here, op);
+        set_count(&mut walk.counts, place.caller, place.number + 1);
+    }
+
+    // Leaves a dead end: goes back by one level.
+    fn retreat(&self, walk: &mut Walk) -> Outcome
+        requires small { IsSmall self.now.book.now }
+        requires walk { IsWalk self.now.book.now (S.init self.now.object.now) (S.next self.now.object.now) walk.old [] }
+        ensures { IsRightOutcome self.now.book.now (S.init self.now.object.now) (S.next self.now.object.now) (weigh ROOM walk.old.levels.items 0) walk.new result }
+    {
+        let Some(level) = walk.levels.pop() else {
+            return Outcome::NoneLeft;
+        };
+        let Level {
+            place,
+            words,
+            choices,
+        } = level;
+        set_count(&mut walk.counts, place.caller, place.number);
+        load(&mut walk.here, &words);
+        walk.choices = choices;
+        Outcome::GoesOn
+    }
+
+    // What may be tried after the calls of a cut, at a list of the object: each place that may stand next,
+    // the best one last. The caller's first call outside the cut has the least view of all such calls, so
+    // that a call may come next exactly where this view holds it.
+    fn choices(
         &self,
-        from: &Pair,
-        index: usize,
+        counts: &[u16],
+        here: &State,
+        spare: &mut State,
+        first: u32,
+    ) -> Result<Vec<Choice>, NoMemory>
+        requires small { IsSmall self.now.book.now }
+        requires wide { length counts.now ≡ length self.now.book.now }
+        requires first { IsLeast self.now.book.now counts.now (length self.now.book.now) first }
+        requires fits { Fits counts.now here.now.words }
+        requires room { spare.old.room ≡ ROOM }
+        ensures room { spare.new.room ≡ ROOM }
+        ensures open { IfOk result (λ choices. IsOpen self.now.book.now (S.next self.now.object.now) counts.now here.now.words (places_of choices.items)) }
+        ensures few { IfOk result (λ choices. length choices.items ≤ length self.now.book.now) }
+    {
+        let number = u64::from(counts[first as usize]);
+        let view = self
+            .book
+            .record(Call {
+                caller: first,
+                number,
+            })
+            .view;
+        let mut choices = Vec::new(self.alloc);
+        for caller in 0..self.book.callers() {
+            if u64::from(counts[caller as usize]) < view.get(caller) {
+                self.consider(counts, caller, here, spare, &mut choices)?;
+            }
+        }
+        Ok(choices)
+    }
+
+    // Adds the place of a caller's next call, which may come next, if the object gives the recorded reply.
+    fn consider(
+        &self,
+        counts: &[u16],
         caller: u32,
-        state: &mut State,
-        frontier: &mut Frontier,
-    ) -> Result<Option<usize>, NoMemory>
-        requires small { IsSmall self.now.book.now }
-        requires caller { caller < length self.now.book.now }
-        requires room { state.old.room ≡ ROOM }
-        requires from { IsReached self.now.book.now (S.init self.now.object.now) (S.next self.now.object.now) frontier.old.trail (from.now, index) }
-        requires frontier { IsFrontier self.now.book.now (S.init self.now.object.now) (S.next self.now.object.now) (sum from.now.counts + 1) frontier.old }
-        ensures room { state.new.room ≡ ROOM }
-        ensures found { IfOk result (λ found. IfSome found (IsFound self.now.book.now (S.init self.now.object.now) (S.next self.now.object.now) frontier.new.trail)) }
-        ensures grows { IfOk result (λ found. IfNone found (GrowsTo self.now.book.now (S.init self.now.object.now) (S.next self.now.object.now) (sum from.now.counts + 1) frontier.old frontier.new)) }
-        ensures taken { IfOk result (λ found. IfNone found ((place : Place) (rest : List Place) → place.caller ≡ caller
-            → Continues self.now.book.now (S.next self.now.object.now) from.now.counts from.now.words.items (place ∷ rest)
-            → SomeCanEnd self.now.book.now (S.next self.now.object.now) frontier.new.layer.entries)) }
+        here: &State,
+        spare: &mut State,
+        choices: &mut Vec<Choice>,
+    ) -> Result<(), NoMemory>
+        requires caller { caller < length counts.now }
+        requires may { MayComeNext self.now.book.now counts.now (next_call counts.now caller) }
+        requires fits { Fits counts.now here.now.words }
+        requires room { spare.old.room ≡ ROOM }
+        requires chosen { AreChosen self.now.book.now (S.next self.now.object.now) counts.now here.now.words caller (places_of choices.old.items) }
+        ensures room { spare.new.room ≡ ROOM }
+        ensures chosen { OnOk result (AreChosen self.now.book.now (S.next self.now.object.now) counts.now here.now.words (caller + 1) (places_of choices.new.items)) }
+        ensures few { length choices.new.items ≤ length choices.old.items + 1 }
     {
-        if !may_come_next(self.book, &from.counts, caller) {
-            return Ok(None);
-        }
-        let call = next_call(&from.counts, caller);
-        load(state, &from.words);
-        let reply = self.object.step(state, self.book.op(call));
+        let number = u64::from(counts[caller as usize]);
+        let call = Call { caller, number };
+        spare.copy_from(here);
+        let reply = self.object.step(spare, self.book.op(call));
         if !is_recorded(self.book, call, reply) {
-            return Ok(None);
+            return Ok(());
         }
-        let pair = Pair {
-            counts: raised(&from.counts, caller),
-            words: Vec::from_slice(self.alloc, state.words())?,
-        };
+        let stays = number < self.book.answers(caller) && spare.words() == here.words();
+        let turn = self.plan.turn(caller, number, stays);
         let place = Place {
             caller,
-            number: call.number,
+            number,
             reply,
         };
-        self.add(pair, index, place, frontier)
+        choices.insert(slot_of(choices, turn), Choice { turn, place })?;
+        Ok(())
     }
 
-    // Adds a pair, which a place after the order at an index reaches, if it isn't in the layer. Where its
-    // cut holds all answered calls, its order is found.
-    fn add(
-        &self,
-        pair: Pair,
-        before: usize,
-        place: Place,
-        frontier: &mut Frontier,
-    ) -> Result<Option<usize>, NoMemory>
-        requires small { IsSmall self.now.book.now }
-        requires before { before < length frontier.old.trail }
-        requires pair { IsReached self.now.book.now (S.init self.now.object.now) (S.next self.now.object.now)
-            (frontier.old.trail ++ (slice_index_or frontier.old.trail before [] ++ place ∷ []) ∷ []) (pair, length frontier.old.trail) }
-        requires frontier { IsFrontier self.now.book.now (S.init self.now.object.now) (S.next self.now.object.now) (sum pair.counts) frontier.old }
-        ensures found { IfOk result (λ found. IfSome found (IsFound self.now.book.now (S.init self.now.object.now) (S.next self.now.object.now) frontier.new.trail)) }
-        ensures grows { IfOk result (λ found. IfNone found (GrowsTo self.now.book.now (S.init self.now.object.now) (S.next self.now.object.now) (sum pair.counts) frontier.old frontier.new)) }
-        ensures added { IfOk result (λ found. IfNone found (CanEnd self.now.book.now (S.next self.now.object.now) pair
-            → SomeCanEnd self.now.book.now (S.next self.now.object.now) frontier.new.layer.entries)) }
+    // Of the callers with an answered call outside a cut the one whose first such call has the least view;
+    // there is none where the cut holds all answered calls.
+    fn least_open(&self, counts: &[u16]) -> Option<u32>
+        requires { length counts.now ≡ length self.now.book.now }
+        ensures least { IfSome result (IsLeast self.now.book.now counts.now (length self.now.book.now)) }
+        ensures none { IfNone result (HoldsAnswered self.now.book.now counts.now) }
     {
-        if frontier.layer.contains_key(&pair) {
-            return Ok(None);
+        let mut least = None;
+        for caller in 0..self.book.callers() {
+            if u64::from(counts[caller as usize]) < self.book.answers(caller)
+                && self.is_before(counts, caller, least)
+            {
+                least = Some(caller);
+            }
         }
-        let index = frontier.trail.add(before, place)?;
-        if holds_answered(self.book, &pair.counts) {
-            return Ok(Some(index));
-        }
-        frontier.layer.insert(pair, index)?;
-        Ok(None)
+        least
     }
+
+    // Whether the view of a caller's first call outside a cut is within that of another's, where there is
+    // another.
+    fn is_before(&self, counts: &[u16], caller: u32, other: Option<u32>) -> bool
+        requires wide { length counts.now ≡ length self.now.book.now }
+        requires answered { IsAnswered self.now.book.now (next_call counts.now caller) }
+        requires other { IfSome other (λ o. IsAnswered self.now.book.now (next_call counts.now o)) }
+        ensures { IsTrue result ↔ IfSome other (λ o. ViewsAreWithin self.now.book.now (next_call counts.now caller) (next_call counts.now o)) }
+    {
+        match other {
+            None => true,
+            Some(other) => {
+                let view = self.first_view(counts, caller);
+                view.within(&self.first_view(counts, other))
+            }
+        }
+    }
+
+    // The view of a caller's first call outside a cut.
+    fn first_view(&self, counts: &[u16], caller: u32) -> Cut
+        requires wide { length counts.now ≡ length self.now.book.now }
+        requires answered { IsAnswered self.now.book.now (next_call counts.now caller) }
+        ensures view { (r : Record) → record_of self.now.book.now (next_call counts.now caller) ≡ Some r → r.view ≡ result }
+        ensures wide { length result ≡ length self.now.book.now }
+    {
+        let number = u64::from(counts[caller as usize]);
+        self.book.record(Call { caller, number }).view
+    }
+}
+
+// Where a choice with this turn goes among others, the least turn last.
+fn slot_of(choices: &[Choice], turn: u64) -> usize
+    ensures { result ≤ length choices.now }
+{
+    for (index, choice) in choices.iter().enumerate() {
+        if choice.turn < turn {
+            return index;
+        }
+    }
+    choices.len()
 }
 
 // Whether a reply is the recorded one, where the call is answered.
@@ -193,15 +313,4 @@ fn is_recorded(book: &Book, call: Call, reply: u64) -> bool
     ensures { IsTrue result ↔ ((r : Record) → record_of book.now call ≡ Some r → r.reply ≡ reply) }
 {
     call.number >= book.answers(call.caller) || book.record(call).reply == reply
-}
-
-// Makes the list of a state these words. The room stays.
-fn load(state: &mut State, words: &[u64])
-    requires { length words.now ≤ state.old.room }
-    ensures { state.new ≡ record state.old { words = words.now } }
-{
-    state.clear();
-    for word in words {
-        state.push(*word);
-    }
 }

@@ -1,9 +1,10 @@
-ghost use Rattle.std.specs.Prelude.{IfOk};
-ghost use Rattle.frontier_check.specs.Verdict.{IsRight};
+ghost use Rattle.std.specs.Prelude.{◌≡◌, IfOk};
+ghost use Rattle.frontier_check.specs.Verdict.{IsRight, IsKept};
 
-use crate::next::holds_answered;
-use crate::search::{ROOM, Search};
-use book_base::{Book, MAX_CALLERS, NoMemory, Place, SeqObject, State};
+use crate::guide::Guide;
+use crate::plan::Plan;
+use crate::search::Search;
+use book_base::{Book, NoMemory, Place, SeqObject};
 use std::alloc::Global;
 
 /// Whether a book has a legal order.
@@ -17,26 +18,40 @@ pub enum Verdict {
 
 /// Looks for a legal order of a book: `Legal` carries one, and `Illegal` comes where there is none.
 ///
-/// The search goes through all pairs of a cut and a state that orders of one length reach, each pair
-/// once, one length after another (after Wing and Gong 1993, and Lowe 2017).
+/// The search goes depth first through the pairs of a cut and a state, and remembers those that it has
+/// left (after Wing and Gong 1993, and Lowe 2017).
 pub fn check<S: SeqObject>(alloc: Global, object: &S, book: &Book) -> Result<Verdict, NoMemory>
     ensures verdict { IfOk result (λ verdict. IsRight (S.init object.now) (S.next object.now) book.now verdict) }
 {
-    if holds_answered(book, &[0; MAX_CALLERS]) {
-        return Ok(Verdict::Legal(Vec::new(alloc)));
-    }
+    let mut guide = Guide::new(alloc)?;
+    check_from(alloc, object, book, &mut guide)
+}
+
+/// Looks for a legal order as `check` does, and tries the guide's places first.
+///
+/// The guide keeps the order that is found, for the next book: a book with a few more calls than the
+/// last one mostly has an order that begins like the last one's.
+pub fn check_from<S: SeqObject>(
+    alloc: Global,
+    object: &S,
+    book: &Book,
+    guide: &mut Guide,
+) -> Result<Verdict, NoMemory>
+    ensures verdict { IfOk result (λ verdict. IsRight (S.init object.now) (S.next object.now) book.now verdict) }
+    ensures guide { IfOk result (IsKept guide.old guide.new) }
+{
+    let plan = Plan::new(alloc, book, guide.places())?;
     let search = Search {
         alloc,
         object,
         book,
-        callers: book.callers(),
+        plan: &plan,
     };
-    let mut state = State::with_room(alloc, ROOM)?;
-    let mut frontier = search.start(&mut state)?;
-    while !frontier.layer.is_empty() {
-        if let Some(index) = search.next_layer(&mut state, &mut frontier)? {
-            return Ok(Verdict::Legal(frontier.trail.order(alloc, index)?));
+    match search.run()? {
+        None => Ok(Verdict::Illegal),
+        Some(order) => {
+            guide.keep(alloc, &order)?;
+            Ok(Verdict::Legal(order))
         }
     }
-    Ok(Verdict::Illegal)
 }

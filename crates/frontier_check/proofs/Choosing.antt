@@ -1,0 +1,351 @@
+-- What may be tried after the calls of a cut, and that nothing else goes on from there.
+use Rattle.std.proofs.Common.{◌≡◌, ℕ, zero, suc, ◌+◌, ◌<◌, ◌≤◌, ◌∙◌, ◌↔◌, Bool, IsTrue, List, [], ◌∷◌, ◌++◌, length, get_or, Option, None, Some, unwrap_or, refl, sym, ap, subst, inl, inr, arith}
+use Rattle.std.specs.List.{AllByRecursion, insert}
+use Rattle.std.specs.Option.{IsSomeAnd, IfSome, IfNone}
+use Rattle.std.proofs.lemmas.Bool.{cases_lt}
+use Rattle.std.proofs.lemmas.Option.{same_Some, slice_get_within}
+use Rattle.list_laws.proofs.Options.{some_from_is_some_and}
+use Rattle.book_base.specs.declared.call.Call.{Call}
+use Rattle.book_base.specs.declared.call.Place.{Place}
+use Rattle.book_base.specs.declared.call.Record.{Record}
+use Rattle.book_base.specs.Cut.{Holds, IsWithin}
+use Rattle.book_base.specs.Book.{Page, IsValid, IsCall, IsAnswered, operation_of, record_of, Precedes}
+use Rattle.book_base.specs.Order.{call_at, step_at}
+use Rattle.book_base.proofs.PageLemmas.{caller_from_call, caller_from_answer}
+use Rattle.book_base.proofs.GrowthLemmas.{below_calls}
+use Rattle.book_laws.specs.Next.{next_call, raised, list_after, HoldsAnswered, MayComeNext, MayStandNext, Continues}
+use Rattle.book_laws.proofs.LegalOrder.{same_call, answer_stands}
+use Rattle.book_laws.proofs.Precedence.{may_come_next-from_first}
+use Rattle.frontier_check.specs.declared.choice.Choice.{Choice}
+use Rattle.frontier_check.specs.Search.{ViewsAreWithin, IsLeast, IsAmong, places_of, AreChosen, IsOpen, IsDeadEnd}
+
+-- a place among the places of choices, with one more choice
+
+among-insert_old : (choices : List Choice) (i : ℕ) (new : Choice) (place : Place) → IsAmong place (places_of choices) → IsAmong place (places_of (insert choices i new))
+among-insert_old [] i new place h = absurd h
+among-insert_old (first ∷ choices) zero new place h = inr h
+among-insert_old (first ∷ choices) (suc i) new place h = elim h [ inl here ↦ inl here | inr there ↦ inr (among-insert_old choices i new place there) ]
+
+among-insert_new : (choices : List Choice) (i : ℕ) (new : Choice) → IsAmong new.place (places_of (insert choices i new))
+among-insert_new [] zero new = inl refl
+among-insert_new [] (suc i) new = inl refl
+among-insert_new (first ∷ choices) zero new = inl refl
+among-insert_new (first ∷ choices) (suc i) new = inr (among-insert_new choices i new)
+
+all-insert : (P : Place → Type 0) (choices : List Choice) (i : ℕ) (new : Choice) → P new.place → AllByRecursion P (places_of choices) → AllByRecursion P (places_of (insert choices i new))
+all-insert P [] zero new p all = (p, all)
+all-insert P [] (suc i) new p all = (p, all)
+all-insert P (first ∷ choices) zero new p all = (p, all)
+all-insert P (first ∷ choices) (suc i) new p all = (all.0, all-insert P choices i new p all.1)
+
+-- the last choice comes first
+
+among-last : (choices : List Choice) (last : Choice) (place : Place) → IsAmong place (places_of (choices ++ last ∷ [])) → IsAmong place (last.place ∷ places_of choices)
+among-last [] last place h = h
+among-last (first ∷ choices) last place h = elim h [
+  | inl here ↦ inr (inl here)
+  | inr there ↦ elim (among-last choices last place there) [ inl it ↦ inl it | inr later ↦ inr (inr later) ]
+]
+
+all-last : (P : Place → Type 0) (choices : List Choice) (last : Choice) → AllByRecursion P (places_of (choices ++ last ∷ [])) → AllByRecursion P (last.place ∷ places_of choices)
+all-last P [] last all = all
+all-last P (first ∷ choices) last all = let rest = all-last P choices last all.1 in (rest.0, (all.0, rest.1))
+
+pub open-last : (book : List Page) (next : List ℕ → ℕ → List ℕ × ℕ) (cut list : List ℕ) (choices : List Choice) (last : Choice)
+    → IsOpen book next cut list (places_of (choices ++ last ∷ [])) → IsOpen book next cut list (last.place ∷ places_of choices)
+open-last book next cut list choices last h = record {
+  unended = h.unended;
+  sound = all-last (MayStandNext book next cut list) choices last h.sound;
+  covered = λ place rest goes. among-last choices last place (h.covered place rest goes);
+}
+
+-- places with the same call and reply are one
+same_place : (a b : Place) → a.caller ≡ b.caller → a.number ≡ b.number → a.reply ≡ b.reply → a ≡ b
+same_place a b caller number reply =
+    let made : ℕ → ℕ → ℕ → Place = λ i n r. record { caller = i; number = n; reply = r } in
+    ap (λ (i : ℕ). made i a.number a.reply) caller ∙ (ap (λ (n : ℕ). made b.caller n a.reply) number ∙ ap (made b.caller b.number) reply)
+
+-- Of each caller one place may stand next.
+pub same_next : (book : List Page) (next : List ℕ → ℕ → List ℕ × ℕ) (cut list : List ℕ) (a b : Place) → MayStandNext book next cut list a → MayStandNext book next cut list b
+    → a.caller ≡ b.caller → a ≡ b
+same_next book next cut list a b ha hb caller =
+    let number : a.number ≡ b.number = ha.may_come.next ∙ (ap (λ (i : ℕ). get_or cut i 0) caller ∙ sym hb.may_come.next) in
+    let call : call_at a ≡ call_at b = same_call (call_at a) (call_at b) caller number in
+    same_place a b caller number (sym ha.reply ∙ (ap (λ (c : Call). (next list (unwrap_or (operation_of book c) 0)).1) call ∙ hb.reply))
+
+-- What may be tried, once a place leads to a dead end.
+pub open-rest : (book : List Page) (next : List ℕ → ℕ → List ℕ × ℕ) (cut list : List ℕ) (place : Place) (places : List Place)
+    → IsDeadEnd book next (raised cut place.caller) (list_after book next list place) → IsOpen book next cut list (place ∷ places) → IsOpen book next cut list places
+open-rest book next cut list place places dead h = record {
+  unended = h.unended;
+  sound = h.sound.1;
+  covered = λ (other : Place) (rest : List Place) (goes : Continues book next cut list (other ∷ rest)). elim (h.covered other rest goes) [
+    | inl same ↦ absurd (dead rest (subst (λ (p : Place). Continues book next (raised cut p.caller) (list_after book next list p) rest) same goes.1))
+    | inr there ↦ there
+  ];
+}
+
+-- Where nothing is left to be tried, there is a dead end.
+pub dead_end : (book : List Page) (next : List ℕ → ℕ → List ℕ × ℕ) (cut list : List ℕ) → IsOpen book next cut list [] → IsDeadEnd book next cut list
+dead_end book next cut list h [] goes = absurd (h.unended goes)
+dead_end book next cut list h (place ∷ rest) goes = absurd (h.covered place rest goes)
+
+-- one caller after another
+
+pub chosen-more : (book : List Page) (next : List ℕ → ℕ → List ℕ × ℕ) (cut list : List ℕ) (caller : ℕ) (places : List Place) → AreChosen book next cut list caller places
+    → ((place : Place) → place.caller ≡ caller → MayStandNext book next cut list place → ⊥) → AreChosen book next cut list (caller + 1) places
+chosen-more book next cut list caller places h none = record {
+  sound = h.sound;
+  covered = λ (place : Place) (rest : List Place) (below : place.caller < caller + 1) (goes : Continues book next cut list (place ∷ rest)). elim (cases_lt place.caller caller) [
+    | inl early ↦ h.covered place rest early goes
+    | inr here ↦ absurd (none place (omega arith) goes.0)
+  ];
+}
+
+pub chosen-insert : (book : List Page) (next : List ℕ → ℕ → List ℕ × ℕ) (cut list : List ℕ) (caller : ℕ) (choices : List Choice) (i : ℕ) (new : Choice)
+    → AreChosen book next cut list caller (places_of choices) → new.place.caller ≡ caller → MayStandNext book next cut list new.place
+    → AreChosen book next cut list (caller + 1) (places_of (insert choices i new))
+chosen-insert book next cut list caller choices i new h is may = record {
+  sound = all-insert (MayStandNext book next cut list) choices i new may h.sound;
+  covered = λ (place : Place) (rest : List Place) (below : place.caller < caller + 1) (goes : Continues book next cut list (place ∷ rest)). elim (cases_lt place.caller caller) [
+    | inl early ↦ among-insert_old choices i new place (h.covered place rest early goes)
+    | inr here ↦
+        let at : place.caller ≡ caller = omega arith in
+        let same : place ≡ new.place = same_next book next cut list place new.place goes.0 may (at ∙ sym is) in
+        subst (λ (p : Place). IsAmong p (places_of (insert choices i new))) (sym same) (among-insert_new choices i new)
+  ];
+}
+
+-- The step that the search makes: what may stand next.
+pub may_stand-from_step : (book : List Page) (next : List ℕ → ℕ → List ℕ × ℕ) (cut list : List ℕ) (place : Place) (op : ℕ) → MayComeNext book cut (call_at place)
+    → operation_of book (call_at place) ≡ Some op → ((r : Record) → record_of book (call_at place) ≡ Some r → r.reply ≡ place.reply) → place.reply ≡ (next list op).1
+    → MayStandNext book next cut list place
+may_stand-from_step book next cut list place op may known recorded gives = record {
+  may_come = may;
+  recorded = recorded;
+  reply = ap (λ (o : Option ℕ). (next list (unwrap_or o 0)).1) known ∙ sym gives;
+}
+
+-- Where the object doesn't give the recorded reply, no place of the caller may stand next.
+pub recorded-from_may : (book : List Page) (next : List ℕ → ℕ → List ℕ × ℕ) (cut list : List ℕ) (caller op reply : ℕ) (place : Place)
+    → operation_of book (next_call cut caller) ≡ Some op → reply ≡ (next list op).1 → place.caller ≡ caller → MayStandNext book next cut list place
+    → (r : Record) → record_of book (next_call cut caller) ≡ Some r → r.reply ≡ reply
+recorded-from_may book next cut list caller op reply place known gives by may r there =
+    let same : call_at place ≡ next_call cut caller = same_call (call_at place) (next_call cut caller) by (may.may_come.next ∙ ap (λ (i : ℕ). get_or cut i 0) by) in
+    let asked : (next list (step_at book place).0).1 ≡ (next list op).1 = ap (λ (o : Option ℕ). (next list (unwrap_or o 0)).1) (ap (operation_of book) same ∙ known) in
+    may.recorded r (ap (record_of book) same ∙ there) ∙ (sym may.reply ∙ (asked ∙ sym gives))
+
+-- the least view
+
+-- A call may come next where the least view holds it,
+pub may_come-from_least : (book : List Page) (cut : List ℕ) (first caller : ℕ) (view : List ℕ) → IsValid book → IsLeast book cut (length book) first
+    → ((r : Record) → record_of book (next_call cut first) ≡ Some r → r.view ≡ view) → get_or cut caller 0 < get_or view caller 0
+    → MayComeNext book cut (next_call cut caller)
+may_come-from_least book cut first caller view valid h is held =
+    let there = answer_stands book (next_call cut first) h.answered in
+    let r : Record = there.0 in
+    let same : r.view ≡ view = is r there.1 in
+    let above : get_or r.view caller 0 ≡ get_or view caller 0 = ap (λ (v : List ℕ). get_or v caller 0) same in
+    let call : Call = next_call cut caller in
+    let made : IsCall book call = omega (arith, above, below_calls book r.view (valid.within (next_call cut first) r there.1) caller) in
+    may_come_next-from_first book cut call valid made refl (λ (other : ℕ) (answered : IsAnswered book (next_call cut other)) (p : Precedes book (next_call cut other) call). elim p [
+      | inl early ↦
+          let says : Record → Type 0 = λ s. get_or s.view caller 0 ≤ get_or cut caller 0 in
+          let known = some_from_is_some_and (record_of book (next_call cut other)) says early in
+          let says_so : IsSomeAnd (Some known.0) says = subst (λ o. IsSomeAnd o says) known.1 early in
+          let within : IsWithin r.view known.0.view = h.least other (caller_from_answer book other (get_or cut other 0) answered) r known.0 there.1 known.1 in
+          absurd (omega (arith, within caller, says_so, above))
+      | inr own ↦ absurd (omega (arith, own.1, ap (λ (i : ℕ). get_or cut i 0) own.0))
+    ])
+
+-- and nowhere else.
+pub may_not_come-from_least : (book : List Page) (cut : List ℕ) (first : ℕ) (view : List ℕ) (below : ℕ) (call : Call) → IsLeast book cut below first
+    → ((r : Record) → record_of book (next_call cut first) ≡ Some r → r.view ≡ view) → get_or view call.caller 0 ≤ get_or cut call.caller 0 → MayComeNext book cut call → ⊥
+may_not_come-from_least book cut first view below call h is past may =
+    let there = answer_stands book (next_call cut first) h.answered in
+    let says : Record → Type 0 = λ s. get_or s.view call.caller 0 ≤ call.number in
+    let same : get_or there.0.view call.caller 0 ≡ get_or view call.caller 0 = ap (λ (v : List ℕ). get_or v call.caller 0) (is there.0 there.1) in
+    let late : says there.0 = omega (arith, same, may.next) in
+    let before : Precedes book (next_call cut first) call = inl (subst (λ o. IsSomeAnd o says) (sym there.1) late) in
+    let held : get_or cut first 0 < get_or cut first 0 = may.preceded (next_call cut first) before in
+    absurd (omega arith)
+
+-- Once all callers are looked at, what is chosen is all that may be tried.
+pub open-from_chosen : (book : List Page) (next : List ℕ → ℕ → List ℕ × ℕ) (cut list : List ℕ) (first : ℕ) (places : List Place) → IsLeast book cut (length book) first
+    → AreChosen book next cut list (length book) places → IsOpen book next cut list places
+open-from_chosen book next cut list first places least h = record {
+  unended = λ (all : HoldsAnswered book cut). let held : get_or cut first 0 < get_or cut first 0 = all (next_call cut first) least.answered in absurd (omega arith);
+  sound = h.sound;
+  covered = λ (place : Place) (rest : List Place) (goes : Continues book next cut list (place ∷ rest)).
+      h.covered place rest (caller_from_call book place.caller place.number goes.0.may_come.is_call) goes;
+}
+
+-- one more caller for the least view
+
+-- of two answered calls the view of one is within that of the other
+pub views_comparable : (book : List Page) (a b : Call) → IsValid book → (ViewsAreWithin book a b → ⊥) → ViewsAreWithin book b a
+views_comparable book a b valid not s r st rt =
+    elim (valid.comparable a b r s rt st) [
+      | inl within ↦ absurd (not (λ (x y : Record) xt yt.
+          let e : x ≡ r = same_Some x r (sym xt ∙ rt) in
+          let f : y ≡ s = same_Some y s (sym yt ∙ st) in
+          subst (λ (v : Record). IsWithin v.view y.view) (sym e) (subst (λ (w : Record). IsWithin r.view w.view) (sym f) within)))
+      | inr within ↦ within
+    ]
+
+-- the views of two answered calls say whether one call's is within the other's
+views-within : (book : List Page) (a b : Call) (v w : List ℕ) → IsAnswered book a → IsAnswered book b → ((r : Record) → record_of book a ≡ Some r → r.view ≡ v)
+    → ((r : Record) → record_of book b ≡ Some r → r.view ≡ w) → IsWithin v w ↔ ViewsAreWithin book a b
+views-within book a b v w ha hb av bw = (
+  λ (within : IsWithin v w) (r s : Record) rt st (i : ℕ). omega (arith, within i, ap (λ (x : List ℕ). get_or x i 0) (av r rt), ap (λ (x : List ℕ). get_or x i 0) (bw s st)),
+  λ (h : ViewsAreWithin book a b) (i : ℕ).
+      let r = answer_stands book a ha in
+      let s = answer_stands book b hb in
+      omega (arith, h r.0 s.0 r.1 s.1 i, ap (λ (x : List ℕ). get_or x i 0) (av r.0 r.1), ap (λ (x : List ℕ). get_or x i 0) (bw s.0 s.1)),
+)
+
+pub within-some : (book : List Page) (cut : List ℕ) (caller other : ℕ) (least : Option ℕ) (v w : List ℕ) (answer : Bool) → least ≡ Some other → IsAnswered book (next_call cut caller)
+    → IfSome least (λ o. IsAnswered book (next_call cut o)) → ((r : Record) → record_of book (next_call cut caller) ≡ Some r → r.view ≡ v)
+    → ((r : Record) → record_of book (next_call cut other) ≡ Some r → r.view ≡ w) → IsTrue answer ↔ IsWithin v w
+    → IsTrue answer ↔ IfSome least (λ o. ViewsAreWithin book (next_call cut caller) (next_call cut o))
+within-some book cut caller other least v w answer is answered others av bw within =
+    let there : IsAnswered book (next_call cut other) = subst (λ (l : Option ℕ). IfSome l (λ o. IsAnswered book (next_call cut o))) is others in
+    let both = views-within book (next_call cut caller) (next_call cut other) v w answered there av bw in
+    let some : IsTrue answer ↔ IfSome (Some other) (λ o. ViewsAreWithin book (next_call cut caller) (next_call cut o)) = (λ y. both.0 (within.0 y), λ h. within.1 (both.1 h)) in
+    subst (λ (l : Option ℕ). IsTrue answer ↔ IfSome l (λ o. ViewsAreWithin book (next_call cut caller) (next_call cut o))) (sym is) some
+
+-- the new caller's view is the least
+pub least-new : (book : List Page) (cut : List ℕ) (caller old : ℕ) → IsLeast book cut caller old → IsAnswered book (next_call cut caller)
+    → ViewsAreWithin book (next_call cut caller) (next_call cut old) → IsLeast book cut (caller + 1) caller
+least-new book cut caller old h answered within = record {
+  answered = answered;
+  least = λ (other : ℕ) (below : other < caller + 1) (r s : Record) rt st. elim (cases_lt other caller) [
+    | inl early ↦
+        let there = answer_stands book (next_call cut old) h.answered in
+        let a : IsWithin r.view there.0.view = within r there.0 rt there.1 in
+        let b : IsWithin there.0.view s.view = h.least other early there.0 s there.1 st in
+        λ (i : ℕ). omega (arith, a i, b i)
+    | inr here ↦
+        let at : other ≡ caller = omega arith in
+        let same : s ≡ r = same_Some s r (sym st ∙ (ap (λ (i : ℕ). record_of book (next_call cut i)) at ∙ rt)) in
+        λ (i : ℕ). omega (arith, ap (λ (x : Record). get_or x.view i 0) same)
+  ];
+}
+
+-- the first such caller's view is the least
+pub least-first : (book : List Page) (cut : List ℕ) (caller : ℕ) → ((call : Call) → call.caller < caller → IsAnswered book call → Holds cut call)
+    → IsAnswered book (next_call cut caller) → IsLeast book cut (caller + 1) caller
+least-first book cut caller none answered = record {
+  answered = answered;
+  least = λ (other : ℕ) (below : other < caller + 1) (r s : Record) rt st. elim (cases_lt other caller) [
+    | inl early ↦ let held : get_or cut other 0 < get_or cut other 0 = none (next_call cut other) early (slice_get_within _ (get_or cut other 0) s st) in absurd (omega arith)
+    | inr here ↦
+        let at : other ≡ caller = omega arith in
+        let same : s ≡ r = same_Some s r (sym st ∙ (ap (λ (i : ℕ). record_of book (next_call cut i)) at ∙ rt)) in
+        λ (i : ℕ). omega (arith, ap (λ (x : Record). get_or x.view i 0) same)
+  ];
+}
+
+-- the old caller's view still is
+pub least-old : (book : List Page) (cut : List ℕ) (caller old : ℕ) → IsLeast book cut caller old → ViewsAreWithin book (next_call cut old) (next_call cut caller) → IsLeast book cut (caller + 1) old
+least-old book cut caller old h within = record {
+  answered = h.answered;
+  least = λ (other : ℕ) (below : other < caller + 1). elim (cases_lt other caller) [
+    | inl early ↦ h.least other early
+    | inr here ↦ let at : caller ≡ other = omega arith in subst (λ (i : ℕ). ViewsAreWithin book (next_call cut old) (next_call cut i)) at within
+  ];
+}
+
+-- a caller without an answered call outside the cut
+pub no_view : (book : List Page) (cut : List ℕ) (a : Call) (caller : ℕ) → (IsAnswered book (next_call cut caller) → ⊥) → ViewsAreWithin book a (next_call cut caller)
+no_view book cut a caller not r s rt st = absurd (not (slice_get_within _ (get_or cut caller 0) s st))
+
+pub held-more : (book : List Page) (cut : List ℕ) (caller : ℕ) → (IsAnswered book (next_call cut caller) → ⊥) → ((call : Call) → call.caller < caller → IsAnswered book call → Holds cut call)
+    → (call : Call) → call.caller < caller + 1 → IsAnswered book call → Holds cut call
+held-more book cut caller not h call below answered =
+    elim (cases_lt call.caller caller) [
+      | inl early ↦ h call early answered
+      | inr here ↦
+          let at : call.caller ≡ caller = omega arith in
+          elim (cases_lt call.number (get_or cut call.caller 0)) [
+            | inl held ↦ held
+            | inr out ↦
+                let first : IsAnswered book (next_call cut call.caller) = omega arith in
+                absurd (not (subst (λ (i : ℕ). IsAnswered book (next_call cut i)) at first))
+          ]
+    ]
+
+-- What is known of the least view, once the callers below a number are looked at.
+pub record LeastSoFar (book : List Page) (cut : List ℕ) (below : ℕ) (least : Option ℕ) : Type 0 where
+  pub some : IfSome least (IsLeast book cut below)
+  pub none : IfNone least ((call : Call) → call.caller < below → IsAnswered book call → Holds cut call)
+
+pub so_far-start : (book : List Page) (cut : List ℕ) → LeastSoFar book cut 0 None
+so_far-start book cut = record { some = tt; none = λ (call : Call) (below : call.caller < 0) (answered : IsAnswered book call). absurd (omega arith) }
+
+pub so_far-new : (book : List Page) (cut : List ℕ) (caller : ℕ) (least : Option ℕ) → LeastSoFar book cut caller least → IsAnswered book (next_call cut caller)
+    → IfSome least (λ o. ViewsAreWithin book (next_call cut caller) (next_call cut o)) → LeastSoFar book cut (caller + 1) (Some caller)
+so_far-new book cut caller None h answered before = record { some = least-first book cut caller h.none answered; none = tt }
+so_far-new book cut caller (Some old) h answered before = record { some = least-new book cut caller old h.some answered before; none = tt }
+
+pub so_far-not_before : (book : List Page) (cut : List ℕ) (caller : ℕ) (least : Option ℕ) → IsValid book → LeastSoFar book cut caller least
+    → (IfSome least (λ o. ViewsAreWithin book (next_call cut caller) (next_call cut o)) → ⊥) → LeastSoFar book cut (caller + 1) least
+so_far-not_before book cut caller None valid h not = absurd (not tt)
+so_far-not_before book cut caller (Some old) valid h not =
+    record { some = least-old book cut caller old h.some (views_comparable book (next_call cut caller) (next_call cut old) valid not); none = tt }
+
+pub so_far-not_open : (book : List Page) (cut : List ℕ) (caller : ℕ) (least : Option ℕ) → LeastSoFar book cut caller least → (IsAnswered book (next_call cut caller) → ⊥)
+    → LeastSoFar book cut (caller + 1) least
+so_far-not_open book cut caller None h not = record { some = tt; none = held-more book cut caller not h.none }
+so_far-not_open book cut caller (Some old) h not = record { some = least-old book cut caller old h.some (no_view book cut (next_call cut old) caller not); none = tt }
+
+pub so_far-answered : (book : List Page) (cut : List ℕ) (below : ℕ) (least : Option ℕ) → LeastSoFar book cut below least → IfSome least (λ o. IsAnswered book (next_call cut o))
+so_far-answered book cut below None h = tt
+so_far-answered book cut below (Some old) h = h.some.answered
+
+pub so_far-some : (book : List Page) (cut : List ℕ) (below : ℕ) (least : Option ℕ) → below ≡ length book → LeastSoFar book cut below least → IfSome least (IsLeast book cut (length book))
+so_far-some book cut below least e h = subst (λ (n : ℕ). IfSome least (IsLeast book cut n)) e h.some
+
+pub so_far-none : (book : List Page) (cut : List ℕ) (below : ℕ) (least : Option ℕ) → below ≡ length book → LeastSoFar book cut below least → IfNone least (HoldsAnswered book cut)
+so_far-none book cut below None e h = λ (call : Call) (answered : IsAnswered book call).
+    let there : call.caller < length book = caller_from_answer book call.caller call.number answered in
+    h.none call (omega arith) answered
+so_far-none book cut below (Some old) e h = tt
+
+-- The next call of a caller is tried: its place is chosen where the reply is the recorded one,
+pub considered-insert : (book : List Page) (next : List ℕ → ℕ → List ℕ × ℕ) (cut list : List ℕ) (choices items : List Choice) (i : ℕ) (new : Choice) (op : ℕ)
+    → AreChosen book next cut list new.place.caller (places_of choices) → new.place.number ≡ get_or cut new.place.caller 0 → MayComeNext book cut (next_call cut new.place.caller)
+    → operation_of book (call_at new.place) ≡ Some op → ((r : Record) → record_of book (call_at new.place) ≡ Some r → r.reply ≡ new.place.reply) → new.place.reply ≡ (next list op).1
+    → items ≡ insert choices i new → AreChosen book next cut list (new.place.caller + 1) (places_of items)
+considered-insert book next cut list choices items i new op h number may known recorded gives are =
+    let same : call_at new.place ≡ next_call cut new.place.caller = same_call (call_at new.place) (next_call cut new.place.caller) refl number in
+    let comes : MayComeNext book cut (call_at new.place) = subst (λ (c : Call). MayComeNext book cut c) (sym same) may in
+    subst (λ (cs : List Choice). AreChosen book next cut list (new.place.caller + 1) (places_of cs)) (sym are)
+    (chosen-insert book next cut list new.place.caller choices i new h refl (may_stand-from_step book next cut list new.place op comes known recorded gives))
+
+-- and nothing is chosen where it isn't.
+pub considered-skip : (book : List Page) (next : List ℕ → ℕ → List ℕ × ℕ) (cut list : List ℕ) (places : List Place) (call : Call) (op reply : ℕ)
+    → AreChosen book next cut list call.caller places → call.number ≡ get_or cut call.caller 0
+    → operation_of book call ≡ Some op → reply ≡ (next list op).1 → (((r : Record) → record_of book call ≡ Some r → r.reply ≡ reply) → ⊥)
+    → AreChosen book next cut list (call.caller + 1) places
+considered-skip book next cut list places call op reply h number known gives not =
+    let same : call ≡ next_call cut call.caller = same_call call (next_call cut call.caller) refl number in
+    chosen-more book next cut list call.caller places h (λ (place : Place) (by : place.caller ≡ call.caller) (may : MayStandNext book next cut list place).
+    not (λ (r : Record) (there : record_of book call ≡ Some r).
+    recorded-from_may book next cut list call.caller op reply place (sym (ap (operation_of book) same) ∙ known) gives by may r (sym (ap (record_of book) same) ∙ there)))
+
+-- A caller whose next call the least view doesn't hold has none that may come next.
+pub outside-skip : (book : List Page) (next : List ℕ → ℕ → List ℕ × ℕ) (cut list : List ℕ) (places : List Place) (first caller : ℕ) (view : List ℕ) → IsLeast book cut (length book) first
+    → ((r : Record) → record_of book (next_call cut first) ≡ Some r → r.view ≡ view) → AreChosen book next cut list caller places → get_or view caller 0 ≤ get_or cut caller 0
+    → AreChosen book next cut list (caller + 1) places
+outside-skip book next cut list places first caller view least is h past =
+    chosen-more book next cut list caller places h (λ (place : Place) (by : place.caller ≡ caller) (may : MayStandNext book next cut list place).
+    let late : get_or view place.caller 0 ≤ get_or cut place.caller 0 = subst (λ (i : ℕ). get_or view i 0 ≤ get_or cut i 0) (sym by) past in
+    may_not_come-from_least book cut first view (length book) (call_at place) least is late may.may_come)
+
+-- the view of the record of a caller's first call outside a cut
+pub view-of : (book : List Page) (cut : List ℕ) (first number : ℕ) (found : Record) → number ≡ get_or cut first 0 → record_of book (record { caller = first; number = number }) ≡ Some found
+    → (r : Record) → record_of book (next_call cut first) ≡ Some r → r.view ≡ found.view
+view-of book cut first number found is at r there =
+    let made : ℕ → Call = λ n. record { caller = first; number = n } in
+    ap (λ (x : Record). x.view) (same_Some r found (sym there ∙ (sym (ap (λ (n : ℕ). record_of book (made n)) is) ∙ at)))

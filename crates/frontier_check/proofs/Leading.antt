@@ -1,0 +1,174 @@
+-- The levels of a walk: one more, one fewer, and the order that they make.
+use Rattle.std.proofs.Common.{◌≡◌, ℕ, ◌+◌, ◌*◌, ◌<◌, ◌≤◌, ◌∙◌, List, [], ◌∷◌, ◌++◌, length, get_or, set, sum, replicate, refl, sym, ap, subst, inl, inr, arith}
+use Rattle.std.specs.List.{All}
+use Rattle.std.proofs.lemmas.Bool.{cases_eq}
+use Rattle.std.proofs.lemmas.List.{length-set, length-replicate, set-set, set-get_or}
+use Rattle.std.proofs.lemmas.List.Sums.{sum_by-set, sum_by-le}
+use Rattle.std.proofs.lemmas.List.Elements.{All-from_get_or}
+use Rattle.list_laws.proofs.Places.{get_or-replicate_default}
+use Rattle.book_base.specs.declared.call.Call.{Call}
+use Rattle.book_base.specs.declared.call.Place.{Place}
+use Rattle.book_base.specs.declared.TheConstants.{MAX_CALLERS, MAX_CALLS}
+use Rattle.book_base.specs.Book.{Page, calls_of, IsSmall}
+use Rattle.book_base.specs.Order.{call_at, step_at, IsLegalOrder, HasLegalOrder}
+use Rattle.book_base.proofs.PageLemmas.{caller_from_call}
+use Rattle.book_laws.specs.Next.{raised, list_after, HoldsAnswered, MayComeNext, Continues}
+use Rattle.book_laws.proofs.LegalOrder.{raised_same, raised_other, legal_order_from_continues, continues_from_legal_order}
+use Rattle.frontier_check.specs.declared.walk.Level.{Level}
+use Rattle.frontier_check.specs.declared.walk.TheConstants.{ROOM}
+use Rattle.frontier_check.specs.Search.{no_calls, places_of, IsOpen, IsDeadEnd, Leads, Fits, order_of}
+
+-- one level more
+pub leads-push : (book : List Page) (next : List ℕ → ℕ → List ℕ × ℕ) (cut list : List ℕ) (levels : List Level) (to_cut to_list : List ℕ) (level : Level)
+    → Leads book next cut list levels to_cut to_list → level.words.items ≡ to_list → IsOpen book next to_cut to_list (level.place ∷ places_of level.choices.items)
+    → Leads book next cut list (levels ++ level ∷ []) (raised to_cut level.place.caller) (list_after book next to_list level.place)
+leads-push book next cut list [] to_cut to_list level (same_cut, same_list) words here = (
+  words ∙ sym same_list,
+  subst (λ (c : List ℕ). IsOpen book next c list (level.place ∷ places_of level.choices.items)) (sym same_cut)
+      (subst (λ (l : List ℕ). IsOpen book next to_cut l (level.place ∷ places_of level.choices.items)) (sym same_list) here),
+  (ap (λ (c : List ℕ). raised c level.place.caller) same_cut, ap (λ (l : List ℕ). list_after book next l level.place) same_list),
+)
+leads-push book next cut list (first ∷ levels) to_cut to_list level (at, way, later) words here =
+    (at, way, leads-push book next (raised cut first.place.caller) (list_after book next list first.place) levels to_cut to_list level later words here)
+
+-- where a walk stood before its last level
+pub record Back (book : List Page) (next : List ℕ → ℕ → List ℕ × ℕ) (cut list : List ℕ) (levels : List Level) (level : Level) (to_cut to_list : List ℕ) : Type 0 where
+  pub from : List ℕ
+  pub leads : Leads book next cut list levels from level.words.items
+  pub here : IsOpen book next from level.words.items (level.place ∷ places_of level.choices.items)
+  pub to_cut_is : to_cut ≡ raised from level.place.caller
+  pub to_list_is : to_list ≡ list_after book next level.words.items level.place
+
+-- one level fewer
+pub leads-pop : (book : List Page) (next : List ℕ → ℕ → List ℕ × ℕ) (cut list : List ℕ) (levels : List Level) (level : Level) (to_cut to_list : List ℕ)
+    → Leads book next cut list (levels ++ level ∷ []) to_cut to_list → Back book next cut list levels level to_cut to_list
+leads-pop book next cut list [] level to_cut to_list (words, here, (cut_is, list_is)) = record {
+  from = cut;
+  leads = (refl, sym words);
+  here = subst (λ (l : List ℕ). IsOpen book next cut l (level.place ∷ places_of level.choices.items)) (sym words) here;
+  to_cut_is = sym cut_is;
+  to_list_is = sym list_is ∙ ap (λ (l : List ℕ). list_after book next l level.place) (sym words);
+}
+leads-pop book next cut list (first ∷ levels) level to_cut to_list (words, here, later) =
+    let back = leads-pop book next (raised cut first.place.caller) (list_after book next list first.place) levels level to_cut to_list later in
+    record { from = back.from; leads = (words, here, back.leads); here = back.here; to_cut_is = back.to_cut_is; to_list_is = back.to_list_is }
+
+-- what the levels lead to goes on from where they begin
+leads-continues : (book : List Page) (next : List ℕ → ℕ → List ℕ × ℕ) (cut list : List ℕ) (levels : List Level) (to_cut to_list : List ℕ)
+    → Leads book next cut list levels to_cut to_list → HoldsAnswered book to_cut → Continues book next cut list (order_of levels)
+leads-continues book next cut list [] to_cut to_list (same_cut, same_list) all = subst (λ (c : List ℕ). HoldsAnswered book c) (sym same_cut) all
+leads-continues book next cut list (first ∷ levels) to_cut to_list (words, here, later) all =
+    (here.sound.0, leads-continues book next (raised cut first.place.caller) (list_after book next list first.place) levels to_cut to_list later all)
+
+-- a raised cut holds one call more
+pub sum_raised : (cut : List ℕ) (i : ℕ) → i < length cut → sum (raised cut i) ≡ sum cut + 1
+sum_raised cut i h = omega (arith, sum_by-set (λ (n : ℕ). n) cut i (get_or cut i 0 + 1) 0 h)
+
+-- counts within those of the book still are with one more call that may come next
+raised_within : (book : List Page) (cut : List ℕ) (call : Call) → call.caller < length cut → MayComeNext book cut call → ((i : ℕ) → get_or cut i 0 ≤ calls_of book i)
+    → (i : ℕ) → get_or (raised cut call.caller) i 0 ≤ calls_of book i
+raised_within book cut call inside may within i =
+    elim (cases_eq i call.caller) [
+      | inl same ↦
+          omega (arith, raised_same cut call.caller inside, ap (λ (j : ℕ). get_or (raised cut call.caller) j 0) same, may.is_call, may.next, ap (calls_of book) same)
+      | inr other ↦ omega (arith, raised_other cut call.caller i other, within i)
+    ]
+
+-- how far levels lead
+pub record Reach (book : List Page) (cut list : List ℕ) (levels : List Level) (to_cut to_list : List ℕ) : Type 0 where
+  pub wide : length to_cut ≡ length cut
+  pub calls : sum to_cut ≡ sum cut + length levels
+  pub words : length to_list ≤ length list + length levels
+  pub within : (i : ℕ) → get_or to_cut i 0 ≤ calls_of book i
+
+leads-reach : (book : List Page) (next : List ℕ → ℕ → List ℕ × ℕ) (cut list : List ℕ) (levels : List Level) (to_cut to_list : List ℕ)
+    → ((list : List ℕ) (op : ℕ) → length (next list op).0 ≤ length list + 1) → length book ≤ length cut → ((i : ℕ) → get_or cut i 0 ≤ calls_of book i)
+    → Leads book next cut list levels to_cut to_list → Reach book cut list levels to_cut to_list
+leads-reach book next cut list [] to_cut to_list grows wide within (same_cut, same_list) = record {
+  wide = ap (λ (c : List ℕ). length c) (sym same_cut);
+  calls = omega (arith, ap (λ (c : List ℕ). sum c) same_cut);
+  words = omega (arith, ap (λ (l : List ℕ). length l) same_list);
+  within = λ (i : ℕ). omega (arith, within i, ap (λ (c : List ℕ). get_or c i 0) same_cut);
+}
+leads-reach book next cut list (first ∷ levels) to_cut to_list grows wide within (words, here, later) =
+    let may : MayComeNext book cut (call_at first.place) = here.sound.0.may_come in
+    let inside : first.place.caller < length cut = (let there = caller_from_call book first.place.caller first.place.number may.is_call in omega arith) in
+    let long : length (raised cut first.place.caller) ≡ length cut = length-set cut first.place.caller (get_or cut first.place.caller 0 + 1) in
+    let rest = leads-reach book next (raised cut first.place.caller) (list_after book next list first.place) levels to_cut to_list grows (omega arith)
+    (raised_within book cut (call_at first.place) inside may within) later in
+    record {
+      wide = rest.wide ∙ long;
+      calls = omega (arith, rest.calls, sum_raised cut first.place.caller inside);
+      words = omega (arith, rest.words, grows list (step_at book first.place).0);
+      within = rest.within;
+    }
+
+-- counts within those of a small book sum up to no more than it may have
+sum_small : (book : List Page) (counts : List ℕ) → IsSmall book → length counts ≡ length book → ((i : ℕ) → get_or counts i 0 ≤ calls_of book i) → sum counts ≤ MAX_CALLERS * MAX_CALLS
+sum_small book counts small wide within =
+    let few : All (λ (n : ℕ). n ≤ MAX_CALLS) counts = All-from_get_or (λ (n : ℕ). n ≤ MAX_CALLS) counts 0 (λ (i : ℕ) (lt : i < length counts). let a = within i in let b = small.calls i in omega (arith, a, b)) in
+    let callers = small.callers in
+    omega (arith, sum_by-le (λ (n : ℕ). n) MAX_CALLS counts few)
+
+-- the cut without calls
+pub zeros : (book : List Page) (i : ℕ) → get_or (no_calls book) i 0 ≡ 0
+zeros book i = get_or-replicate_default (length book) i 0
+
+sum-zeros : (n : ℕ) → sum (replicate n 0) ≡ 0
+sum-zeros n = let all : All (λ (m : ℕ). m ≤ 0) (replicate n 0) = All-from_get_or (λ (m : ℕ). m ≤ 0) (replicate n 0) 0 (λ (i : ℕ) (lt : i < length (replicate n 0)). omega (arith, get_or-replicate_default {X = ℕ} n i 0)) in
+    omega (arith, sum_by-le (λ (m : ℕ). m) 0 (replicate n 0) all)
+
+-- What is known of where a walk from the start stands, where one more place may stand next.
+pub record Standing (book : List Page) (levels : List Level) (cut list : List ℕ) (place : Place) : Type 0 where
+  pub wide : length cut ≡ length book
+  pub caller : place.caller < length cut
+  pub number : place.number < MAX_CALLS
+  pub depth : length levels < ROOM
+  pub fits : Fits cut list
+  pub after : length levels + 1 < ROOM
+
+pub standing : (book : List Page) (init : List ℕ) (next : List ℕ → ℕ → List ℕ × ℕ) (levels : List Level) (cut list : List ℕ) (place : Place)
+    → IsSmall book → length init ≤ 1 → ((list : List ℕ) (op : ℕ) → length (next list op).0 ≤ length list + 1)
+    → Leads book next (no_calls book) init levels cut list → MayComeNext book cut (call_at place) → Standing book levels cut list place
+standing book init next levels cut list place small begins grows leads may =
+    let long : length (no_calls book) ≡ length book = length-replicate (length book) 0 in
+    let reach = leads-reach book next (no_calls book) init levels cut list grows (omega arith) (λ (i : ℕ). omega (arith, zeros book i)) leads in
+    let wide : length cut ≡ length book = reach.wide ∙ long in
+    let there : place.caller < length book = caller_from_call book place.caller place.number may.is_call in
+    let inside : place.caller < length cut = omega arith in
+    let longer : length (raised cut place.caller) ≡ length book = length-set cut place.caller (get_or cut place.caller 0 + 1) ∙ wide in
+    let few : sum (raised cut place.caller) ≤ MAX_CALLERS * MAX_CALLS = sum_small book (raised cut place.caller) small longer (raised_within book cut (call_at place) inside may reach.within) in
+    let none : sum (no_calls book) ≡ 0 = sum-zeros (length book) in
+    let more = sum_raised cut place.caller inside in
+    record {
+      wide = wide;
+      caller = inside;
+      number = omega (arith, may.is_call, small.calls place.caller);
+      depth = omega (arith, reach.calls);
+      fits = omega (arith, reach.calls, reach.words);
+      after = omega (arith, reach.calls);
+    }
+
+-- the cut at which a walk stands has a count for each caller
+pub leads-wide : (book : List Page) (init : List ℕ) (next : List ℕ → ℕ → List ℕ × ℕ) (levels : List Level) (cut list : List ℕ)
+    → ((list : List ℕ) (op : ℕ) → length (next list op).0 ≤ length list + 1) → Leads book next (no_calls book) init levels cut list → length cut ≡ length book
+leads-wide book init next levels cut list grows leads =
+    let long : length (no_calls book) ≡ length book = length-replicate (length book) 0 in
+    (leads-reach book next (no_calls book) init levels cut list grows (omega arith) (λ (i : ℕ). omega (arith, zeros book i)) leads).wide ∙ long
+
+-- The levels that lead to a cut with all answered calls make a legal order.
+pub legal-from_leads : (book : List Page) (init : List ℕ) (next : List ℕ → ℕ → List ℕ × ℕ) (levels : List Level) (cut list : List ℕ)
+    → Leads book next (no_calls book) init levels cut list → HoldsAnswered book cut → IsLegalOrder init next book (order_of levels)
+legal-from_leads book init next levels cut list leads all =
+    let long : length (no_calls book) ≡ length book = length-replicate (length book) 0 in
+    legal_order_from_continues book init next (no_calls book) (order_of levels) (omega arith) (zeros book) (leads-continues book next (no_calls book) init levels cut list leads all)
+
+-- Where the start is a dead end, the book has no legal order.
+pub none-from_dead : (book : List Page) (init : List ℕ) (next : List ℕ → ℕ → List ℕ × ℕ) → IsDeadEnd book next (no_calls book) init → HasLegalOrder init next book → ⊥
+none-from_dead book init next dead legal =
+    let long : length (no_calls book) ≡ length book = length-replicate (length book) 0 in
+    dead legal.0 (continues_from_legal_order book init next (no_calls book) legal.0 (omega arith) (zeros book) legal.1)
+
+-- a raised cut, with the caller's count as it was
+pub lowered : (cut : List ℕ) (i n : ℕ) → n ≡ get_or cut i 0 → set (raised cut i) i n ≡ cut
+lowered cut i n e = set-set cut i (get_or cut i 0 + 1) n ∙ (ap (λ (m : ℕ). set cut i m) e ∙ set-get_or cut i 0)

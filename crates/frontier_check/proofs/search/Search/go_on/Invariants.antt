@@ -1,0 +1,13 @@
+use Rattle.std.proofs.Common.{◌≡◌}
+use Rattle.frontier_check.specs.declared.walk.TheConstants.{ROOM}
+use Rattle.frontier_check.specs.Search.{IsWalk, places_of, weight}
+use Rattle.frontier_check.proofs.search.Search.go_on.Given as goal
+
+abbrev pub invariant-steps : goal.invariant-steps
+invariant-steps g l = record {
+  room : l.spare.room ≡ ROOM;
+  walk : IsWalk l.self.book.now (g.S.SeqObject.init l.self.object.now) (g.S.SeqObject.next l.self.object.now) l.walk (places_of l.walk.choices.items);
+}
+
+abbrev pub decreases-steps : goal.decreases-steps
+decreases-steps g l = weight l.walk

@@ -1,0 +1,108 @@
+-- The search for a legal order: where it stands, and what is known there.
+use Rattle.std.specs.Prelude.{◌≡◌, ℕ, zero, suc, ◌+◌, ◌*◌, ◌-◌, ◌<◌, ◌≤◌, ◌⊎◌, List, [], ◌∷◌, length, map, replicate, Some}
+use Rattle.std.specs.List.{AllByRecursion}
+use Rattle.book_base.specs.declared.call.Call.{Call}
+use Rattle.book_base.specs.declared.call.Record.{Record}
+use Rattle.book_base.specs.declared.call.Place.{Place}
+use Rattle.book_base.specs.declared.TheConstants.{MAX_CALLERS}
+use Rattle.book_base.specs.Cut.{IsWithin}
+use Rattle.book_base.specs.Order.{IsLegalOrder, HasLegalOrder}
+use Rattle.book_base.specs.Book.{Page, IsAnswered, record_of}
+use Rattle.book_laws.specs.Next.{next_call, raised, list_after, HoldsAnswered, MayStandNext, Continues}
+use Rattle.frontier_check.specs.declared.choice.Choice.{Choice}
+use Rattle.frontier_check.specs.declared.walk.Level.{Level}
+use Rattle.frontier_check.specs.declared.walk.Walk.{Walk}
+use Rattle.frontier_check.specs.declared.walk.Outcome.{Outcome}
+use Rattle.frontier_check.specs.declared.walk.Outcome.TheVariants.{Found, NoneLeft, GoesOn}
+use Rattle.frontier_check.specs.declared.walk.TheConstants.{ROOM}
+use Rattle.frontier_check.specs.Memo.{IsMemo, Remembers}
+
+-- the cut that holds no call of a book
+abbrev pub no_calls : List Page → List ℕ
+no_calls book = replicate (length book) 0
+
+-- the object's list may grow by one word for each call of a book
+abbrev pub Fits : List ℕ → List ℕ → Type 0
+Fits cut list = length list + 1 ≤ ROOM
+
+-- A dead end: no places may stand one after another there, up to a legal order.
+abbrev pub IsDeadEnd : List Page → (List ℕ → ℕ → List ℕ × ℕ) → List ℕ → List ℕ → Type 0
+IsDeadEnd book next cut list = (rest : List Place) → Continues book next cut list rest → ⊥
+
+-- where both calls are answered, the view of one is within that of the other
+abbrev pub ViewsAreWithin : List Page → Call → Call → Type 0
+ViewsAreWithin book a b = (r s : Record) → record_of book a ≡ Some r → record_of book b ≡ Some s → IsWithin r.view s.view
+
+-- Of the callers below a number, the caller's first call outside the cut has the least view: it is answered, and its view is
+-- within that of each of the others' first calls outside the cut that is answered.
+pub record IsLeast (book : List Page) (cut : List ℕ) (below caller : ℕ) : Type 0 where
+  pub answered : IsAnswered book (next_call cut caller)
+  pub least : (other : ℕ) → other < below → ViewsAreWithin book (next_call cut caller) (next_call cut other)
+
+-- the place is one of these
+abbrev pub IsAmong : Place → List Place → Type 0
+IsAmong place [] = ⊥
+IsAmong place (first ∷ places) = (place ≡ first) ⊎ IsAmong place places
+
+-- the places of choices
+abbrev pub places_of : List Choice → List Place
+places_of choices = map (λ choice. choice.place) choices
+
+-- What is known of a cut and a list where these places are still to be tried: not all answered calls stand, each of the places may
+-- stand next, and a legal order goes on by one of them.
+pub record IsOpen (book : List Page) (next : List ℕ → ℕ → List ℕ × ℕ) (cut list : List ℕ) (places : List Place) : Type 0 where
+  pub unended : HoldsAnswered book cut → ⊥
+  pub sound : AllByRecursion (MayStandNext book next cut list) places
+  pub covered : (place : Place) (rest : List Place) → Continues book next cut list (place ∷ rest) → IsAmong place places
+
+-- The places that were chosen so far, of the callers below a number: each may stand next, and a legal order that goes on by one of
+-- these callers goes on by one of them.
+pub record AreChosen (book : List Page) (next : List ℕ → ℕ → List ℕ × ℕ) (cut list : List ℕ) (below : ℕ) (places : List Place) : Type 0 where
+  pub sound : AllByRecursion (MayStandNext book next cut list) places
+  pub covered : (place : Place) (rest : List Place) → place.caller < below → Continues book next cut list (place ∷ rest) → IsAmong place places
+
+-- The levels lead from a cut and a list to others: at each level its words are the list, its place stands next, and the places
+-- besides its own that are still to be tried are those of its choices.
+abbrev pub Leads : List Page → (List ℕ → ℕ → List ℕ × ℕ) → List ℕ → List ℕ → List Level → List ℕ → List ℕ → Type 0
+Leads book next cut list [] to_cut to_list = (cut ≡ to_cut) × (list ≡ to_list)
+Leads book next cut list (level ∷ levels) to_cut to_list =
+    (level.words.items ≡ list) × IsOpen book next cut list (level.place ∷ places_of level.choices.items)
+    × Leads book next (raised cut level.place.caller) (list_after book next list level.place) levels to_cut to_list
+
+-- all remembered pairs are dead ends
+abbrev pub AllDead : List Page → (List ℕ → ℕ → List ℕ × ℕ) → Walk → Type 0
+AllDead book next walk = (cut list : List ℕ) → Remembers walk.memo cut list → IsDeadEnd book next cut list
+
+-- A walk from the object's first list on, at whose end these places are still to be tried.
+pub record IsWalk (book : List Page) (init : List ℕ) (next : List ℕ → ℕ → List ℕ × ℕ) (walk : Walk) (places : List Place) : Type 0 where
+  pub leads : Leads book next (no_calls book) init walk.levels.items walk.counts.items walk.here.words
+  pub here : IsOpen book next walk.counts.items walk.here.words places
+  pub dead : AllDead book next walk
+  pub memo : IsMemo walk.memo
+  pub callers : walk.memo.callers ≡ length book
+  pub room : walk.here.room ≡ ROOM
+
+-- the places of levels, in order
+abbrev pub order_of : List Level → List Place
+order_of levels = map (λ level. level.place) levels
+
+-- how many ways there may be of so many places, where at each of them no more may be tried than there are callers
+unfoldable pub ways : ℕ → ℕ
+ways zero = 1
+ways (suc depth) = (MAX_CALLERS + 2) * ways depth
+
+-- how much may be left to try, where at most so many places follow the first cut: each choice of a level weighs more than all that
+-- may come below it
+unfoldable pub weigh : ℕ → List Level → ℕ → ℕ
+weigh depth [] choices = (choices + 1) * ways depth
+weigh depth (level ∷ levels) choices = (length level.choices.items + 1) * ways depth + weigh (depth - 1) levels choices
+
+-- the weight of a walk
+abbrev pub weight : Walk → ℕ
+weight walk = weigh ROOM walk.levels.items (length walk.choices.items)
+
+-- What came of a step is so: a legal order is found, there is none, or the walk goes on with less weight than before.
+abbrev pub IsRightOutcome : List Page → List ℕ → (List ℕ → ℕ → List ℕ × ℕ) → ℕ → Walk → Outcome → Type 0
+IsRightOutcome book init next before walk Found = IsLegalOrder init next book (order_of walk.levels.items)
+IsRightOutcome book init next before walk NoneLeft = HasLegalOrder init next book → ⊥
+IsRightOutcome book init next before walk GoesOn = IsWalk book init next walk (places_of walk.choices.items) × (weight walk < before)

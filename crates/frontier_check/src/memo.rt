@@ -1,0 +1,208 @@
+ghost use Rattle.std.specs.Prelude.{◌≡◌, ℕ, ◌+◌, ◌*◌, ◌<◌, ◌≤◌, ◌⊎◌, ◌↔◌, [], List, length, slice_get, OnOk, IfOk, IsTrue, Some};
+ghost use Rattle.frontier_check.specs.declared.memo.Entry.{Entry};
+
+use book_base::NoMemory;
+use std::alloc::Global;
+
+/// Where the words of a remembered pair lie.
+#[derive(Clone, Copy)]
+pub struct Entry {
+    pub from: u32,
+    pub len: u32,
+}
+
+/// Pairs of a cut and a list, each with the counts of the cut and the words of the list in a few long
+/// lists, and a table by which a pair is found.
+#[derive(Drop)]
+pub struct Memo {
+    pub callers: usize,
+    pub counts: Vec<u16>,
+    pub words: Vec<u64>,
+    pub entries: Vec<Entry>,
+    pub slots: Vec<u32>,
+}
+
+impl Memo {
+    ghost use Rattle.frontier_check.specs.Memo.{IsMemo, Remembers, counts_at, words_at};
+
+    /// A memo of no pairs, for cuts of this many callers.
+    pub fn new(alloc: Global, callers: usize) -> Memo
+        ensures memo { IsMemo result }
+        ensures callers { result.callers ≡ callers }
+        ensures empty { result.entries.items ≡ [] }
+    {
+        Memo {
+            callers,
+            counts: Vec::new(alloc),
+            words: Vec::new(alloc),
+            entries: Vec::new(alloc),
+            slots: Vec::new(alloc),
+        }
+    }
+
+    /// Whether a pair is found. No clause says that each remembered one is: that costs time alone.
+    pub fn remembers(&self, counts: &[u16], words: &[u64]) -> bool
+        requires { IsMemo self.now }
+        ensures { IsTrue result → Remembers self.now counts.now words.now }
+    {
+        let size = self.slots.len();
+        let mut at = first_slot(counts, words, size);
+        for _ in 0..size {
+            if at >= size {
+                at = 0;
+            }
+            let slot = self.slots[at];
+            if slot == 0 {
+                return false;
+            }
+            if self.is_at(slot as usize - 1, counts, words) {
+                return true;
+            }
+            at += 1;
+        }
+        false
+    }
+
+    // Whether the pair at an index has these counts and words.
+    fn is_at(&self, index: usize, counts: &[u16], words: &[u64]) -> bool
+        requires { IsMemo self.now }
+        ensures { IsTrue result → Remembers self.now counts.now words.now }
+    {
+        if index >= self.entries.len() {
+            return false;
+        }
+        self.counts_of(index) == counts && self.words_of(index) == words
+    }
+
+    // The counts of the pair at an index.
+    fn counts_of(&self, index: usize) -> &[u16]
+        requires memo { IsMemo self.now }
+        requires index { index < length self.now.entries.items }
+        ensures { result.now ≡ counts_at self.now index }
+    {
+        let from = index * self.callers;
+        &self.counts[from..from + self.callers]
+    }
+
+    // The words of the pair at an index.
+    fn words_of(&self, index: usize) -> &[u64]
+        requires memo { IsMemo self.now }
+        requires index { index < length self.now.entries.items }
+        ensures { (entry : Entry) → slice_get self.now.entries.items index ≡ Some entry → result.now ≡ words_at self.now entry }
+    {
+        let entry = self.entries[index];
+        &self.words[entry.from as usize..entry.from as usize + entry.len as usize]
+    }
+
+    /// Remembers a pair, where it finds room in 32 bits for its place.
+    pub fn remember(&mut self, alloc: Global, counts: &[u16], words: &[u64]) -> Result<(), NoMemory>
+        requires memo { IsMemo self.old }
+        requires wide { length counts.now ≡ self.old.callers }
+        ensures memo { OnOk result (IsMemo self.new) }
+        ensures callers { self.new.callers ≡ self.old.callers }
+        ensures only { OnOk result ((cut list : List ℕ) → Remembers self.new cut list → Remembers self.old cut list ⊎ ((cut ≡ counts.now) × (list ≡ words.now))) }
+    {
+        let index = self.entries.len();
+        let from = self.words.len();
+        if index + 1 >= u32::MAX as usize || from + words.len() >= u32::MAX as usize {
+            return Ok(());
+        }
+        self.add(counts, words)?;
+        self.place(alloc, counts, words, index as u32 + 1)
+    }
+
+    // Adds a pair at the end.
+    fn add(&mut self, counts: &[u16], words: &[u64]) -> Result<(), NoMemory>
+        requires memo { IsMemo self.old }
+        requires wide { length counts.now ≡ self.old.callers }
+        requires few { length self.old.entries.items + 1 < u32.MAX }
+        requires room { length self.old.words.items + length words.now < u32.MAX }
+        ensures memo { OnOk result (IsMemo self.new) }
+        ensures callers { self.new.callers ≡ self.old.callers }
+        ensures only { OnOk result ((cut list : List ℕ) → Remembers self.new cut list → Remembers self.old cut list ⊎ ((cut ≡ counts.now) × (list ≡ words.now))) }
+    {
+        let entry = Entry {
+            from: self.words.len() as u32,
+            len: words.len() as u32,
+        };
+        self.counts.extend_from_slice(counts)?;
+        self.words.extend_from_slice(words)?;
+        self.entries.push(entry)?;
+        Ok(())
+    }
+
+    // Puts a mark into the table for a pair. Nothing else changes.
+    fn place(
+        &mut self,
+        alloc: Global,
+        counts: &[u16],
+        words: &[u64],
+        mark: u32,
+    ) -> Result<(), NoMemory>
+        requires { IsMemo self.old }
+        ensures { self.new ≡ record self.old { slots = self.new.slots } }
+    {
+        if self.slots.len() / 2 <= self.entries.len() {
+            self.slots = self.wider(alloc)?;
+        } else {
+            mark_slot(&mut self.slots, counts, words, mark);
+        }
+        Ok(())
+    }
+
+    // A table of twice the size, with a mark for each pair.
+    fn wider(&self, alloc: Global) -> Result<Vec<u32>, NoMemory>
+        requires { IsMemo self.now }
+    {
+        let size = self.slots.len().saturating_mul(2).max(64);
+        let mut slots = vec![in alloc; 0; size]?;
+        for index in 0..self.entries.len() {
+            mark_slot(
+                &mut slots,
+                self.counts_of(index),
+                self.words_of(index),
+                index as u32 + 1,
+            );
+        }
+        Ok(slots)
+    }
+}
+
+// Puts a mark into the first free slot from a pair's own one on.
+fn mark_slot(slots: &mut [u32], counts: &[u16], words: &[u64], mark: u32) {
+    let size = slots.len();
+    let mut at = first_slot(counts, words, size);
+    for _ in 0..size {
+        if at >= size {
+            at = 0;
+        }
+        if slots[at] == 0 {
+            slots[at] = mark;
+            return;
+        }
+        at += 1;
+    }
+}
+
+// The slot of a table of this size at which a pair is sought first.
+fn first_slot(counts: &[u16], words: &[u64], size: usize) -> usize
+    ensures { 1 ≤ size → result < size }
+{
+    if size == 0 {
+        return 0;
+    }
+    let mut hash = 0xcbf2_9ce4_8422_2325u64;
+    for count in counts {
+        hash = mixed(hash, u64::from(*count));
+    }
+    for word in words {
+        hash = mixed(hash, *word);
+    }
+    (hash % size as u64) as usize
+}
+
+// A number made of two, in which each bit of both counts.
+fn mixed(hash: u64, word: u64) -> u64 {
+    let product = (hash ^ word).wrapping_mul(0x9e37_79b9_7f4a_7c15);
+    product ^ (product >> 29)
+}

@@ -1,0 +1,87 @@
+ghost use Rattle.std.specs.Prelude.{◌≡◌, ◌<◌, ◌≤◌, length};
+
+use book_base::{Book, Call, Cut, MAX_CALLERS, MAX_CALLS, NoMemory, Place};
+use std::alloc::Global;
+
+/// The turn of each call among those that may come next: the least is tried first.
+///
+/// The turns are a guess. A search comes to the same verdict with any, so that no clause says what they
+/// are.
+#[derive(Drop)]
+pub struct Plan {
+    turns: Vec<u32>,
+    guided: u32,
+}
+
+impl Plan {
+    /// The calls of a guide come first, in its order, then the answered calls by what their views count,
+    /// and last all others.
+    pub fn new(alloc: Global, book: &Book, guide: &[Place]) -> Result<Plan, NoMemory> {
+        let mut plan = Plan {
+            turns: vec![in alloc; u32::MAX; MAX_CALLERS * MAX_CALLS as usize]?,
+            guided: u32::try_from(guide.len()).unwrap_or(u32::MAX),
+        };
+        for caller in 0..book.callers() {
+            plan.guess(book, caller, guide.len());
+        }
+        for (index, place) in guide.iter().enumerate() {
+            plan.put(place.caller, place.number, index);
+        }
+        Ok(plan)
+    }
+
+    // Guesses that the answered calls of a caller took effect in the order of what their views count.
+    fn guess(&mut self, book: &Book, caller: u32, later: usize)
+        requires { caller < length book.now }
+    {
+        for number in 0..book.answers(caller) {
+            let view = book.record(Call { caller, number }).view;
+            self.put(caller, number, total(&view).saturating_add(later));
+        }
+    }
+
+    // Gives a call its turn, where it has a place among the turns.
+    fn put(&mut self, caller: u32, number: u64, turn: usize) {
+        let turn = u32::try_from(turn).unwrap_or(u32::MAX);
+        if let Some(at) = place_of(caller, number)
+            && at < self.turns.len()
+        {
+            self.turns[at] = turn;
+        }
+    }
+
+    /// The turn of a call. Beside those of the guide a call that leaves the object's list comes first: it
+    /// takes no other call's turn away.
+    pub fn turn(&self, caller: u32, number: u64, stays: bool) -> u64 {
+        let turn = match place_of(caller, number) {
+            Some(at) if at < self.turns.len() => self.turns[at],
+            _ => u32::MAX,
+        };
+        if stays || turn < self.guided {
+            u64::from(turn)
+        } else {
+            u64::from(turn) + LATER
+        }
+    }
+}
+
+// What is added to the turn of a call that changes the object's list: more than any turn.
+const LATER: u64 = 1 << 32;
+
+// Where the turn of a call lies.
+fn place_of(caller: u32, number: u64) -> Option<usize> {
+    if (caller as usize) < MAX_CALLERS && number < MAX_CALLS {
+        Some(caller as usize * MAX_CALLS as usize + number as usize)
+    } else {
+        None
+    }
+}
+
+// How many calls a view counts.
+fn total(view: &Cut) -> usize {
+    let mut calls = 0usize;
+    for caller in 0..view.n() {
+        calls = calls.saturating_add(view.get(caller) as usize);
+    }
+    calls
+}
