@@ -1,0 +1,3 @@
+pub mod Fault
+pub mod Standing
+pub mod Laws

@@ -1,0 +1,41 @@
+-- A list of places, tried one place after another.
+use Rattle.std.specs.Prelude.{◌≡◌, ℕ, ◌+◌, ◌<◌, List, length, Some, slice_get}
+use Rattle.book_base.specs.declared.call.Call.{Call}
+use Rattle.book_base.specs.declared.call.Record.{Record}
+use Rattle.book_base.specs.declared.call.Place.{Place}
+use Rattle.book_base.specs.Cut.{Holds}
+use Rattle.book_base.specs.Book.{Page, IsCall, record_of, Precedes}
+use Rattle.book_base.specs.Order.{call_at, StandsAt}
+use Rattle.order_check.specs.declared.fault.OrderFault.{OrderFault}
+use Rattle.order_check.specs.Fault.{reply_at, FailsTest, place_of, HasTurnBefore}
+
+-- Before place p stand calls of the book, exactly those that the cut holds.
+pub record IsStanding (book : List Page) (order : List Place) (p : ℕ) (standing : List ℕ) : Type 0 where
+  pub wide : length standing ≡ length book
+  pub calls : (j : ℕ) (call : Call) → j < p → StandsAt order j call → IsCall book call
+  pub held : (call : Call) → Holds standing call → (j : ℕ) × (j < p) × StandsAt order j call
+  pub stands : (j : ℕ) (call : Call) → j < p → StandsAt order j call → Holds standing call
+
+-- The call at place p may stand there, after the calls before it.
+pub record IsInPlace (book : List Page) (order : List Place) (p : ℕ) : Type 0 where
+  -- it is a call of the book
+  pub known : (call : Call) → StandsAt order p call → IsCall book call
+  -- it stands at no earlier place
+  pub once : (j : ℕ) (call : Call) → StandsAt order p call → j < p → StandsAt order j call → ⊥
+  -- its caller's previous call does
+  pub in_turn : (call : Call) → StandsAt order p call → (number : ℕ) → number + 1 ≡ call.number
+      → (j : ℕ) × (j < p) × StandsAt order j (record { caller = call.caller; number = number })
+  -- it precedes none of them
+  pub in_time : (j : ℕ) (a b : Call) → StandsAt order p a → j < p → StandsAt order j b → Precedes book a b → ⊥
+  -- and it has its recorded reply, where it is answered
+  pub recorded : (place : Place) (r : Record) → slice_get order p ≡ Some place → record_of book (call_at place) ≡ Some r → r.reply ≡ place.reply
+
+-- the reply at place p is the one that the object gives there
+abbrev pub IsGiven : List ℕ → (List ℕ → ℕ → List ℕ × ℕ) → List Page → List Place → ℕ → Type 0
+IsGiven init next book order p = (place : Place) → slice_get order p ≡ Some place → reply_at init next book order p place ≡ place.reply
+
+-- The fault names the first of the tests of place p that the list fails.
+pub record IsFirstAt (init : List ℕ) (next : List ℕ → ℕ → List ℕ × ℕ) (book : List Page) (order : List Place) (p : ℕ) (fault : OrderFault) : Type 0 where
+  pub fails : FailsTest init next book order fault
+  pub there : place_of order fault ≡ p
+  pub first : (other : OrderFault) → place_of order other ≡ p → HasTurnBefore other fault → FailsTest init next book order other → ⊥
