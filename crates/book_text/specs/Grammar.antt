@@ -1,89 +1,43 @@
 -- The texts of books.
-use Rattle.std.specs.Prelude.{◌≡◌, ℕ, ◌+◌, ◌<◌, ◌≤◌, ◌^◌, Bool, ◌||◌, ◌==◌, IsTrue, List, [], ◌∷◌, ◌++◌, length, map, Option, Some, None, codes, decimal}
-use Rattle.std.specs.List.{flat_map, join_with_byte, AllByRecursion}
+use Rattle.std.specs.Prelude.{◌≡◌, ℕ, ◌<◌, ◌≤◌, ◌^◌, true, IsTrue, List, [], ◌∷◌, ◌++◌, length, map, codes, Some, unwrap_or}
 use Rattle.book_base.specs.declared.call.Call.{Call}
 use Rattle.book_base.specs.declared.call.Record.{Record}
-use Rattle.book_base.specs.Book.{Page, IsValid, announced}
-use Rattle.book_text.specs.declared.TheConstants.{TEXT_CALLERS, TEXT_CALLS}
-use Rattle.seq_objects.specs.declared.kind.Kind.TheVariants.{Queue}
-use Rattle.seq_objects.specs.Words.{operation_words, is_known_word}
-use Rattle.seq_objects.specs.Replies.{reply_word, reply_done, reply_none, is_value}
+use Rattle.book_base.specs.Book.{Page, IsValid, calls_of, announced, operation_of, record_of}
+use Rattle.seq_objects.specs.declared.kind.Kind.{Kind}
+use Rattle.text_fields.specs.declared.version.Version.{Version}
+use Rattle.text_fields.specs.Version.{most_callers, most_calls, has_kind}
+use Rattle.text_fields.specs.Lines.{text_of}
+use Rattle.text_fields.specs.Head.{head_lines}
+use Rattle.text_fields.specs.Operations.{Operations, kind_operations}
+use Rattle.book_text.specs.CallLines.{call_words, all_calls}
 
--- a line: its words, with exactly one space between two, ended by one line feed
-abbrev pub line_text : List (List ℕ) → List ℕ
-line_text words = join_with_byte 32 words ++ 10 ∷ []
+-- the line of a call of a book
+abbrev pub line_of : Version → Operations → List Page → Call → List (List ℕ)
+line_of version operations book call = call_words version operations call (unwrap_or (operation_of book call) 0) (record_of book call)
 
--- a text: its lines
-abbrev pub text_of : List (List (List ℕ)) → List ℕ
-text_of lines = flat_map line_text lines
+-- the lines of all calls of a book, by caller and then by number
+abbrev pub call_lines : Version → Operations → List Page → List (List (List ℕ))
+call_lines version operations book = map (line_of version operations book) (all_calls 0 (announced book))
 
--- the four lines of the head: the title, the object, the number of callers, and the number of calls of each
-abbrev pub head_lines : List Page → List (List (List ℕ))
-head_lines book =
-    (codes "book" ∷ codes "1" ∷ [])
-    ∷ (codes "object" ∷ codes "queue" ∷ [])
-    ∷ (codes "callers" ∷ decimal (length book) ∷ [])
-    ∷ (codes "calls" ∷ map decimal (announced book))
-    ∷ []
-
--- the words behind the operation: none where the call is unanswered, and else the reply and the view
-abbrev pub answer_words : Option Record → List (List ℕ)
-answer_words None = []
-answer_words (Some answer) = reply_word answer.reply ∷ codes "view" ∷ map decimal answer.view
-
--- the line of a call: its caller, its number, its operation, and its answer
-abbrev pub call_words : Call → ℕ → Option Record → List (List ℕ)
-call_words call op answer = decimal call.caller ∷ decimal call.number ∷ (operation_words Queue op ++ answer_words answer)
-
--- the lines of a caller's calls, from this one on: the answered ones come first
-abbrev pub page_lines : ℕ → ℕ → List ℕ → List Record → List (List (List ℕ))
-page_lines i k [] records = []
-page_lines i k (op ∷ ops) [] = call_words (record { caller = i; number = k }) op None ∷ page_lines i (k + 1) ops []
-page_lines i k (op ∷ ops) (answer ∷ answers) = call_words (record { caller = i; number = k }) op (Some answer) ∷ page_lines i (k + 1) ops answers
-
--- the lines of all calls, by caller and then by number, from this caller on
-abbrev pub call_lines : ℕ → List Page → List (List (List ℕ))
-call_lines i [] = []
-call_lines i (page ∷ pages) = page_lines i 0 page.operations page.records ++ call_lines (i + 1) pages
+-- the last line
+abbrev pub end_words : List (List ℕ)
+end_words = codes "end" ∷ []
 
 -- the lines of a book: the head, one line for each call, and the end
-abbrev pub book_lines : List Page → List (List (List ℕ))
-book_lines book = head_lines book ++ call_lines 0 book ++ (codes "end" ∷ []) ∷ []
+abbrev pub book_lines : Version → Kind → List Page → List (List (List ℕ))
+book_lines version kind book = head_lines version (codes "book") kind (announced book) ++ (call_lines version (kind_operations version kind) book ++ end_words ∷ [])
 
--- an operation word that texts have so far: one that a queue knows
-abbrev pub IsKnownOperation : ℕ → Type 0
-IsKnownOperation op = IsTrue (is_known_word Queue op)
-
--- whether a reply word is one that texts have so far: done, none, or a value
-abbrev pub is_queue_reply : ℕ → Bool
-is_queue_reply reply = (reply == reply_done) || (reply == reply_none) || is_value reply
-
--- a reply word that texts have so far
-abbrev pub IsKnownReply : ℕ → Type 0
-IsKnownReply reply = IsTrue (is_queue_reply reply)
-
--- an operation word that can stand in a text
-abbrev pub IsTextOperation : ℕ → Type 0
-IsTextOperation op = (op < 2 ^ 64) × IsKnownOperation op
-
--- a record whose reply can stand in a text
-abbrev pub IsTextAnswer : Record → Type 0
-IsTextAnswer answer = (answer.reply < 2 ^ 64) × IsKnownReply answer.reply
-
--- a page that can stand in a text
-pub record IsTextPage (page : Page) : Type 0 where
-  pub calls : length page.operations ≤ TEXT_CALLS
-  pub operations : AllByRecursion IsTextOperation page.operations
-  pub answers : AllByRecursion IsTextAnswer page.records
-
--- The bytes are the text of this book. Each valid book within the limits of texts has one.
-pub record IsBookText (bytes : List ℕ) (book : List Page) : Type 0 where
+-- A book and its kind can be written in a text of this version: it is valid, and within the version's limits.
+pub record IsWritable (version : Version) (kind : Kind) (book : List Page) : Type 0 where
   pub valid : IsValid book
+  pub kind_known : has_kind version kind ≡ true
   pub some : 1 ≤ length book
-  pub callers : length book ≤ TEXT_CALLERS
-  pub pages : AllByRecursion IsTextPage book
-  pub text : bytes ≡ text_of (book_lines book)
+  pub callers : length book ≤ most_callers version
+  pub calls : (i : ℕ) → calls_of book i ≤ most_calls version
+  pub operations : (call : Call) (op : ℕ) → operation_of book call ≡ Some op → IsTrue ((kind_operations version kind).has op)
+  pub replies : (call : Call) (answer : Record) → record_of book call ≡ Some answer → answer.reply < 2 ^ 64
 
--- The bytes are the text of no book.
-abbrev pub IsNoBookText : List ℕ → Type 0
-IsNoBookText bytes = (book : List Page) → ¬ (IsBookText bytes book)
+-- The bytes are what is written of this book, for an object of this kind.
+pub record IsWrittenText (version : Version) (bytes : List ℕ) (kind : Kind) (book : List Page) : Type 0 where
+  pub writable : IsWritable version kind book
+  pub text : bytes ≡ text_of (book_lines version kind book)

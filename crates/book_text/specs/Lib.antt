@@ -1,6 +1,4 @@
-pub mod Lines
-pub mod Numbers
+pub mod CallLines
 pub mod Grammar
-pub mod Reading
-pub mod PageView
-pub mod Building
+pub mod BookRules
+pub mod Entries

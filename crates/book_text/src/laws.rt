@@ -1,8 +1,23 @@
+//! Laws of the texts of books. Each is the contract of a function with nothing in it.
+
 ghost use Rattle.std.specs.Prelude.{◌≡◌, ℕ, List};
 ghost use Rattle.book_base.specs.Book.{Page};
-ghost use Rattle.book_text.specs.Grammar.{IsBookText};
+ghost use Rattle.book_base.specs.declared.fault.TextFault.{TextFault};
+ghost use Rattle.seq_objects.specs.declared.kind.Kind.{Kind};
+ghost use Rattle.text_fields.specs.declared.version.Version.{Version};
+ghost use Rattle.book_text.specs.BookRules.{IsBookText, IsFirstBookFault};
 
-/// A text is that of one book.
+/// Bytes are the text of one book at most, for one kind.
 pub fn one_book_per_text()
-    ensures { (bytes : List ℕ) (a b : List Page) → IsBookText bytes a → IsBookText bytes b → a ≡ b }
+    ensures { (version : Version) (bytes : List ℕ) (k l : Kind) (a b : List Page) → IsBookText version bytes k a → IsBookText version bytes l b → (k ≡ l) × (a ≡ b) }
+{}
+
+/// Bytes have one first fault at most.
+pub fn one_first_fault()
+    ensures { (version : Version) (bytes : List ℕ) (a b : TextFault) → IsFirstBookFault version bytes a → IsFirstBookFault version bytes b → a ≡ b }
+{}
+
+/// A book's text has no fault.
+pub fn no_fault_of_a_text()
+    ensures { (version : Version) (bytes : List ℕ) (kind : Kind) (book : List Page) (fault : TextFault) → IsBookText version bytes kind book → ¬ (IsFirstBookFault version bytes fault) }
 {}

@@ -1,28 +1,16 @@
-//! The texts of books: their reader, and the readers of lines, words and numbers that every text stands on.
+//! The texts of books: their reader in both versions, with the first fault of a text.
 #![tactic(auto)]
 
-mod building;
-mod call_line;
-mod counts;
-mod cut_at;
-mod head;
+mod calls;
+mod entry;
 mod laws;
-mod lines;
-mod pages;
 mod reader;
-mod words;
+mod view;
 
-pub use laws::one_book_per_text;
-pub use lines::Lines;
-pub use reader::read_book;
-pub use seq_objects::number;
-pub use words::Words;
-
-/// The greatest number of callers of a book's text.
-pub const TEXT_CALLERS: u64 = 8;
-
-/// The greatest number of calls of a caller in a book's text.
-pub const TEXT_CALLS: u64 = 64;
+pub use calls::read_calls;
+pub use laws::{no_fault_of_a_text, one_book_per_text, one_first_fault};
+pub use reader::{read_book, read_book1};
+pub use text_fields::{Head, Lines, OpText, Words, number, read_head, read_head1};
 
 #[cfg(test)]
 mod tests;

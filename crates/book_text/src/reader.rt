@@ -1,111 +1,102 @@
-ghost use Rattle.std.specs.Prelude.{◌≡◌, ◌≤◌, ◌⊎◌, ℕ, List, [], length, IfOk, IfErr, MatchResult, OnOk, Ok};
-ghost use Rattle.book_base.specs.declared.TheConstants.{MAX_CALLERS, MAX_CALLS};
-ghost use Rattle.book_base.specs.Book.{Page, IsValid, calls_of};
-ghost use Rattle.book_text.specs.Grammar.{IsBookText, IsNoBookText};
-ghost use Rattle.book_text.specs.Reading.{Gives, book_at, calls_and_end_at};
-ghost use Rattle.book_text.specs.Building.{ArePagesWide};
-ghost use Rattle.book_text.specs.PageView.{all_shown};
+//! Whole texts of books.
 
-use crate::building::book_of;
-use crate::head::{read_end, read_head};
-use crate::lines::Lines;
-use crate::pages::{CallerPage, read_pages};
-use book_base::{Book, Cut, ReadFault, TextFault};
+ghost use Rattle.std.specs.Prelude.{◌≡◌, ◌↔◌, ◌⊎◌, ℕ, [], List, IsTrue, IfOk, IfErr, MatchResult};
+ghost use Rattle.book_base.specs.declared.fault.TextFault.{TextFault};
+ghost use Rattle.book_base.specs.Book.{Page};
+ghost use Rattle.seq_objects.specs.declared.kind.Kind.{Kind};
+ghost use Rattle.text_fields.specs.declared.version.Version.{Version};
+ghost use Rattle.text_fields.specs.declared.version.Version.TheVariants.{First, Second};
+ghost use Rattle.text_fields.specs.Lines.{Unread};
+ghost use Rattle.text_fields.specs.Faults.{GoesTo, IsFirstFault, IsReadTo, StopsFor};
+ghost use Rattle.text_fields.specs.Head.{TitleDue};
+ghost use Rattle.book_text.specs.Grammar.{end_words};
+ghost use Rattle.book_text.specs.BookRules.{InHead, InCalls, AtEnd, book_rules, whole_text, IsBookText, IsNoBookText, IsFirstBookFault};
+
+use crate::calls::read_calls_of;
+use book_base::{Book, ReadFault, TextFault, What};
+use seq_objects::Kind;
 use std::alloc::Global;
+use text_fields::{KindWords, Lines, Version, Words, read_head_of};
 
-/// The book that the bytes are the text of.
+/// The book that the bytes are the text of, in version 2, and the kind of its object.
 ///
-/// A fault names the first line that no continuation saves.
-pub fn read_book(alloc: Global, bytes: &[u8]) -> Result<Book, ReadFault>
+/// A text fault names the first line that is wrong, and of its tests the first that it fails.
+pub fn read_book(alloc: Global, bytes: &[u8]) -> Result<(Kind, Book), ReadFault>
     // What is read is this book's text.
-    ensures found { IfOk result (λ book. IsBookText bytes.now book) }
+    ensures found { IfOk result (λ (kind, book). IsBookText Second bytes.now kind book) }
     // A text of a book is read as that book, unless memory runs out.
-    ensures only { (book : List Page) → IsBookText bytes.now book → MatchResult result (λ b. b ≡ book) (λ e. e ≡ ReadFault.NoMemory) }
-    // A fault of the text comes only where the bytes are no book's text.
-    ensures refused { IfErr result (λ e. (e ≡ ReadFault.NoMemory) ⊎ IsNoBookText bytes.now) }
+    ensures only { (kind : Kind) (book : List Page) → IsBookText Second bytes.now kind book → MatchResult result (λ (k, b). (k ≡ kind) × (b ≡ book)) (λ e. e ≡ ReadFault.NoMemory) }
+    // A fault of the text is the first fault of bytes that are no book's text.
+    ensures refused { IfErr result (λ e. (e ≡ ReadFault.NoMemory) ⊎ ((fault : TextFault) × (e ≡ ReadFault.Text fault) × IsFirstBookFault Second bytes.now fault × IsNoBookText Second bytes.now)) }
+    // Where the bytes have a first fault, the answer is that fault, unless memory runs out.
+    ensures first { (fault : TextFault) → IsFirstBookFault Second bytes.now fault → MatchResult result (λ _. ⊥) (λ e. (e ≡ ReadFault.Text fault) ⊎ (e ≡ ReadFault.NoMemory)) }
 {
-    read_valid(alloc, bytes)
+    read_version(Version::Second, alloc, bytes)
 }
 
-/// The pages of the bytes, where they are those of a valid book.
-fn read_valid(alloc: Global, bytes: &[u8]) -> Result<Book, ReadFault>
-    ensures found { IfOk result (λ book. (book_at (record { bytes = bytes.now; number = 1 }) ≡ Ok book) × IsValid book) }
-    ensures only { (pages : List Page) → book_at (record { bytes = bytes.now; number = 1 }) ≡ Ok pages → IsValid pages → ((i : ℕ) → calls_of pages i ≤ MAX_CALLS) → MatchResult result (λ b. b ≡ pages) (λ e. e ≡ ReadFault.NoMemory) }
+/// The book that the bytes are the text of, in version 1, and the kind of its object.
+///
+/// A text fault names the first line that is wrong, and of its tests the first that it fails.
+pub fn read_book1(alloc: Global, bytes: &[u8]) -> Result<(Kind, Book), ReadFault>
+    // What is read is this book's text.
+    ensures found { IfOk result (λ (kind, book). IsBookText First bytes.now kind book) }
+    // A text of a book is read as that book, unless memory runs out.
+    ensures only { (kind : Kind) (book : List Page) → IsBookText First bytes.now kind book → MatchResult result (λ (k, b). (k ≡ kind) × (b ≡ book)) (λ e. e ≡ ReadFault.NoMemory) }
+    // A fault of the text is the first fault of bytes that are no book's text.
+    ensures refused { IfErr result (λ e. (e ≡ ReadFault.NoMemory) ⊎ ((fault : TextFault) × (e ≡ ReadFault.Text fault) × IsFirstBookFault First bytes.now fault × IsNoBookText First bytes.now)) }
+    // Where the bytes have a first fault, the answer is that fault, unless memory runs out.
+    ensures first { (fault : TextFault) → IsFirstBookFault First bytes.now fault → MatchResult result (λ _. ⊥) (λ e. (e ≡ ReadFault.Text fault) ⊎ (e ≡ ReadFault.NoMemory)) }
+{
+    read_version(Version::First, alloc, bytes)
+}
+
+/// The book that the bytes are the text of, in this version, and the kind of its object.
+pub(crate) fn read_version(
+    version: Version,
+    alloc: Global,
+    bytes: &[u8],
+) -> Result<(Kind, Book), ReadFault>
+    ensures found { IfOk result (λ (kind, book). (left : Unread) × IsReadTo (book_rules version) (InHead TitleDue) (whole_text bytes.now) (AtEnd kind book) left) }
+    ensures refused { IfErr result (λ e. StopsFor (book_rules version) (InHead TitleDue) (whole_text bytes.now) e) }
 {
     let mut lines = Lines::new(bytes);
-    let calls = read_head(&mut lines)?;
-    let mut pages = Vec::new(alloc);
-    match read_calls_and_end(alloc, &mut lines, &calls, &mut pages) {
-        Ok(()) => book_of(alloc, &pages),
-        Err(ReadFault::Text(fault)) => Err(first_fault(alloc, &calls, pages, fault)),
-        Err(ReadFault::NoMemory) => Err(ReadFault::NoMemory),
+    let head = read_head_of(version, &mut lines, b"book")?;
+    let operations = KindWords {
+        version,
+        kind: head.kind,
+    };
+    let book = read_calls_of(version, alloc, &mut lines, &head.calls, &operations)?;
+    read_end(&mut lines)?;
+    Ok((head.kind, book))
+}
+
+/// The end of a text, and nothing behind it.
+fn read_end(lines: &mut Lines) -> Result<(), TextFault>
+    ensures found { IfOk result (λ _. (version : Version) (kind : Kind) (book : List Page) → GoesTo (book_rules version) (InCalls kind book []) lines.old (AtEnd kind book) lines.new) }
+    ensures whole { IfOk result (λ _. lines.new.bytes ≡ []) }
+    ensures refused { IfErr result (λ fault. (version : Version) (kind : Kind) (book : List Page) → IsFirstFault (book_rules version) (InCalls kind book []) lines.old fault) }
+{
+    let line = lines.number();
+    let mut words = Words::new(lines.line()?);
+    if !is_end(&mut words) {
+        return Err(TextFault {
+            line,
+            what: What::End,
+        });
+    }
+    if lines.at_end() {
+        Ok(())
+    } else {
+        Err(TextFault {
+            line: lines.number(),
+            what: What::Rest,
+        })
     }
 }
 
-/// Reads the lines of all calls, and the end. On a fault the pages have what stood before it.
-#[tactic(auto, unfolding(crate::specs::Reading::calls_and_end_at))]
-fn read_calls_and_end(
-    alloc: Global,
-    lines: &mut Lines,
-    calls: &Cut,
-    pages: &mut Vec<CallerPage>,
-) -> Result<(), ReadFault>
-    requires empty { pages.old.items ≡ [] }
-    ensures value { Gives (λ _. all_shown pages.new.items) result (calls_and_end_at calls.now lines.old) }
-    ensures wide { ArePagesWide (length calls.now) (all_shown pages.new.items) }
-    ensures few { length pages.new.items ≤ length calls.now }
-    ensures count { OnOk result (length pages.new.items ≡ length calls.now) }
+/// Whether the words are those of a text's last line.
+fn is_end(words: &mut Words) -> bool
+    ensures { IsTrue result ↔ (words.old ≡ end_words) }
 {
-    read_pages(alloc, lines, calls, pages)?;
-    read_end(lines)?;
-    Ok(())
-}
-
-/// The first fault of a text in which this one was met: a view of a line before it may be at fault.
-fn first_fault(
-    alloc: Global,
-    calls: &Cut,
-    mut pages: Vec<CallerPage>,
-    fault: TextFault,
-) -> ReadFault
-    requires some { 1 ≤ length calls.now }
-    requires callers { length calls.now ≤ MAX_CALLERS }
-    requires wide { ArePagesWide (length calls.now) (all_shown pages.items) }
-    requires few { length pages.items ≤ length calls.now }
-{
-    if complete(alloc, calls, &mut pages).is_err() {
-        return ReadFault::NoMemory;
-    }
-    match book_of(alloc, &pages) {
-        Ok(_) => ReadFault::Text(fault),
-        Err(earlier) => earlier,
-    }
-}
-
-/// Gives the callers as many pages and calls as the head says.
-fn complete(alloc: Global, calls: &Cut, pages: &mut Vec<CallerPage>) -> Result<(), ReadFault>
-    requires wide { ArePagesWide (length calls.now) (all_shown pages.old.items) }
-    requires few { length pages.old.items ≤ length calls.now }
-    ensures wide { OnOk result (ArePagesWide (length calls.now) (all_shown pages.new.items)) }
-    ensures count { OnOk result (length pages.new.items ≡ length calls.now) }
-{
-    add_pages(alloc, calls, pages)?;
-    for i in 0..calls.n() {
-        let page = &mut pages[i as usize];
-        page.complete(calls.get(i))?;
-    }
-    Ok(())
-}
-
-/// Gives each caller a page.
-fn add_pages(alloc: Global, calls: &Cut, pages: &mut Vec<CallerPage>) -> Result<(), ReadFault>
-    requires wide { ArePagesWide (length calls.now) (all_shown pages.old.items) }
-    requires few { length pages.old.items ≤ length calls.now }
-    ensures wide { OnOk result (ArePagesWide (length calls.now) (all_shown pages.new.items)) }
-    ensures count { OnOk result (length pages.new.items ≡ length calls.now) }
-{
-    for _ in pages.len()..calls.n() as usize {
-        pages.push(CallerPage::new(alloc))?;
-    }
-    Ok(())
+    words.next() == Some(b"end".as_slice()) && words.next().is_none()
 }

@@ -1,5 +1,5 @@
-use Rattle.book_text.proofs.BookAgain.{one_book}
+use Rattle.book_text.proofs.Readings as readings
 use Rattle.book_text.proofs.laws.one_book_per_text.Goals as goal
 
 pub returns : goal.returns
-returns c bytes a b h k = one_book bytes a b h k
+returns c = readings.one_book

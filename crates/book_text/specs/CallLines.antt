@@ -1,0 +1,177 @@
+-- The lines of a book's calls: which are right, and which test the others fail.
+use Rattle.std.specs.Prelude.{◌≡◌, ◌≢◌, ℕ, zero, suc, ◌+◌, ◌<◌, ◌≤◌, ◌^◌, ◌⊎◌, Bool, true, false, IsTrue, nat_lt, List, [], ◌∷◌, ◌++◌, length, codes, decimal, Option, Some, None}
+use Rattle.book_base.specs.declared.call.Call.{Call}
+use Rattle.book_base.specs.declared.call.Record.{Record}
+use Rattle.book_base.specs.declared.fault.BookFault.{BookFault}
+use Rattle.book_base.specs.declared.fault.BookFault.TheVariants as tests
+use Rattle.book_base.specs.declared.fault.What.{What}
+use Rattle.book_base.specs.declared.fault.What.TheVariants as what
+use Rattle.book_base.specs.declared.TheConstants.{MAX_CALLERS}
+use Rattle.book_base.specs.Book.{Page, answers_of, unanswered_book, with_operation, with_answer}
+use Rattle.book_base.specs.Refusal.{MayAnswer, FailsTest}
+use Rattle.seq_objects.specs.Replies.{reply_word}
+use Rattle.text_fields.specs.declared.version.Version.{Version}
+use Rattle.text_fields.specs.declared.version.Version.TheVariants.{First, Second}
+use Rattle.text_fields.specs.Counts.{AreNumbers, cut_words, HasBadPair, HasWordBehindPairs}
+use Rattle.text_fields.specs.Operations.{Operations}
+use Rattle.text_fields.specs.Faults.{Wanted, ALine, Nothing, Rules}
+
+-- ---- what a line says
+
+-- the words of a call's caller and number
+abbrev pub place_words : Call → List (List ℕ)
+place_words call = decimal call.caller ∷ decimal call.number ∷ []
+
+-- the words behind the operation: none where the call is unanswered, and else the reply and the view
+abbrev pub answer_words : Version → Option Record → List (List ℕ)
+answer_words version None = []
+answer_words version (Some answer) = reply_word answer.reply ∷ codes "view" ∷ cut_words version answer.view
+
+-- the line of a call: its caller and number, its operation, and its answer
+abbrev pub call_words : Version → Operations → Call → ℕ → Option Record → List (List ℕ)
+call_words version operations call op answer = place_words call ++ (operations.words op ++ answer_words version answer)
+
+-- ---- what the tests of a line speak of
+
+-- behind the caller, the number and an operation the line has these words
+pub record IsBehindOperation (operations : Operations) (call : Call) (words behind : List (List ℕ)) : Type 0 where
+  pub op : ℕ
+  pub has : IsTrue (operations.has op)
+  pub text : words ≡ place_words call ++ (operations.words op ++ behind)
+
+-- behind the reply the line has these words
+pub record IsBehindReply (operations : Operations) (call : Call) (words behind : List (List ℕ)) : Type 0 where
+  pub reply : ℕ
+  pub small : reply < 2 ^ 64
+  pub text : IsBehindOperation operations call words (reply_word reply ∷ behind)
+
+-- behind the reply the line has this view of so many callers, and nothing else
+pub record HasView (version : Version) (operations : Operations) (n : ℕ) (call : Call) (words : List (List ℕ)) (view : List ℕ) : Type 0 where
+  pub wide : length view ≡ n
+  pub numbers : AreNumbers view
+  pub text : IsBehindReply operations call words (codes "view" ∷ cut_words version view)
+
+-- the next word isn't 'view'
+abbrev pub LacksViewWord : List (List ℕ) → Type 0
+LacksViewWord words = (behind : List (List ℕ)) → words ≢ codes "view" ∷ behind
+
+-- The words behind the reply are no view. In version 1 they aren't 'view' and as many numbers as there are callers. In version 2
+-- there are four cases: the next word isn't 'view'; of the pair words behind it, those up to the next word without a colon, one
+-- is no pair of a caller and a count above 0, or its caller isn't above that of the pair before it; or a word follows them.
+abbrev pub IsNoView : Version → ℕ → List (List ℕ) → Type 0
+IsNoView First n words = (view : List ℕ) → length view ≡ n → AreNumbers view → words ≢ codes "view" ∷ cut_words First view
+IsNoView Second n words = LacksViewWord words ⊎ ((behind : List (List ℕ)) × (words ≡ codes "view" ∷ behind) × (HasBadPair n 0 behind ⊎ HasWordBehindPairs behind))
+
+-- ---- the tests of a line, by itself
+
+-- A line for this call, in a text of so many callers, fails a test that needs no other view. After a gap, an unanswered call
+-- of the same caller, a call is unanswered.
+abbrev pub EntryFails : Version → Operations → ℕ → Bool → Call → List (List ℕ) → What → Type 0
+-- it doesn't begin with the caller and the number that are due
+EntryFails version operations n gap call words what.Place = (behind : List (List ℕ)) → words ≢ place_words call ++ behind
+-- the next words are no operation
+EntryFails version operations n gap call words what.Op = (behind : List (List ℕ)) × (words ≡ place_words call ++ behind)
+    × ((op : ℕ) (others : List (List ℕ)) → IsTrue (operations.has op) → behind ≢ operations.words op ++ others)
+-- words follow the operation, and an earlier call of this caller is unanswered
+EntryFails version operations n gap call words what.Gap = (behind : List (List ℕ)) × IsBehindOperation operations call words behind × (behind ≢ []) × (gap ≡ true)
+-- the next word is no reply
+EntryFails version operations n gap call words what.Reply = (word : List ℕ) × (behind : List (List ℕ)) × IsBehindOperation operations call words (word ∷ behind)
+    × ((reply : ℕ) → reply < 2 ^ 64 → reply_word reply ≢ word)
+-- the next words are no view
+EntryFails version operations n gap call words what.View = (behind : List (List ℕ)) × IsBehindReply operations call words behind × IsNoView version n behind
+EntryFails version operations n gap call words _ = ⊥
+
+-- ---- the tests of a view
+
+-- the name of the test that a book refuses a view by
+abbrev pub view_test : BookFault → Option What
+view_test tests.TooManyCalls = None
+view_test tests.NoSuchCall = None
+view_test (tests.ViewOutside j) = Some what.ViewOutside
+view_test (tests.ViewLacksOwn count) = Some what.ViewLacksOwn
+view_test (tests.ViewHasLater count) = Some what.ViewHasLater
+view_test (tests.ViewsCross other) = Some what.ViewsCross
+view_test tests.NoMemory = None
+
+-- the line's view fails a test of views, beside the book that the lines before it give
+pub record ViewFails (version : Version) (operations : Operations) (book : List Page) (call : Call) (words : List (List ℕ)) (name : What) : Type 0 where
+  pub view : List ℕ
+  pub has : HasView version operations (length book) call words view
+  pub fault : BookFault
+  pub test : view_test fault ≡ Some name
+  pub fails : FailsTest book call.caller view fault
+
+-- ---- the rules
+
+-- What the lines of calls so far say: a book with all the calls that the head announces, in which the calls that are still due
+-- have the operation 0 and no answer; and those calls, in their order.
+pub record Progress : Type 0 where
+  pub book : List Page
+  pub due : List Call
+
+-- the calls of a caller from this one on, and how many
+abbrev pub calls_from : ℕ → ℕ → ℕ → List Call
+calls_from i k zero = []
+calls_from i k (suc more) = record { caller = i; number = k } ∷ calls_from i (k + 1) more
+
+-- the calls of all callers from this one on, by caller and then by number
+abbrev pub all_calls : ℕ → List ℕ → List Call
+all_calls i [] = []
+all_calls i (count ∷ counts) = calls_from i 0 count ++ all_calls (i + 1) counts
+
+-- before the lines of calls
+abbrev pub no_call_read : List ℕ → Progress
+no_call_read calls = record { book = unanswered_book calls; due = all_calls 0 calls }
+
+-- whether an earlier call of this caller is unanswered
+abbrev pub is_gap : List Page → Call → Bool
+is_gap book call = nat_lt (answers_of book call.caller) call.number
+
+-- the answer to a call may be written behind the lines that give this book
+abbrev pub MayStand : List Page → Call → Option Record → Type 0
+MayStand book call None = Unit {0}
+MayStand book call (Some answer) = (is_gap book call ≡ false) × (answer.reply < 2 ^ 64) × (length answer.view ≡ length book) × AreNumbers answer.view × MayAnswer book call.caller answer.view
+
+-- the book with what the line of a call says
+abbrev pub with_line : List Page → Call → ℕ → Option Record → List Page
+with_line book call op None = with_operation book call op
+with_line book call op (Some answer) = with_operation (with_answer book call.caller answer) call op
+
+-- a call of a book that texts can have: its caller is one of the book's, and its number can be written
+pub record IsNamedCall (book : List Page) (call : Call) : Type 0 where
+  pub caller : call.caller < length book
+  pub callers : length book ≤ MAX_CALLERS
+  pub number : call.number < 2 ^ 64
+
+-- a right line for this call, and the book behind it
+pub record IsCallLine (version : Version) (operations : Operations) (book : List Page) (call : Call) (words : List (List ℕ)) (after : List Page) : Type 0 where
+  pub named : IsNamedCall book call
+  pub op : ℕ
+  pub answer : Option Record
+  pub has : IsTrue (operations.has op)
+  pub stands : MayStand book call answer
+  pub text : words ≡ call_words version operations call op answer
+  pub book_is : after ≡ with_line book call op answer
+
+-- the right lines of calls
+abbrev pub CallPasses : Version → Operations → List Page → List Call → List (List ℕ) → Progress → Type 0
+CallPasses version operations book [] words after = ⊥
+CallPasses version operations book (call ∷ calls) words after = IsCallLine version operations book call words after.book × (after.due ≡ calls)
+
+-- the tests of the lines of calls
+abbrev pub CallFails : Version → Operations → List Page → List Call → List (List ℕ) → What → Type 0
+CallFails version operations book [] words name = ⊥
+CallFails version operations book (call ∷ calls) words name = EntryFails version operations (length book) (is_gap book call) call words name ⊎ ViewFails version operations book call words name
+
+-- a line is wanted as long as a call is due
+abbrev pub call_wanted : List Call → Wanted
+call_wanted [] = Nothing
+call_wanted (call ∷ calls) = ALine
+
+-- the rules of the lines of calls
+abbrev pub call_rules : Version → Operations → Rules Progress
+call_rules version operations = record {
+  Passes = λ progress words after. CallPasses version operations progress.book progress.due words after;
+  Fails = λ progress words name. CallFails version operations progress.book progress.due words name;
+  wanted = λ progress. call_wanted progress.due;
+}

@@ -1,0 +1,29 @@
+-- What the line of a call says, read by itself.
+use Rattle.std.specs.Prelude.{◌≡◌, ◌≢◌, ℕ, ◌<◌, ◌^◌, Bool, true, false, IsTrue, List, [], ◌∷◌, length, Option, Some, None}
+use Rattle.book_base.specs.declared.call.Call.{Call}
+use Rattle.book_base.specs.declared.call.Record.{Record}
+use Rattle.book_base.specs.declared.fault.What.{What}
+use Rattle.book_base.specs.declared.fault.What.TheVariants as what
+use Rattle.seq_objects.specs.Replies.{reply_word}
+use Rattle.text_fields.specs.declared.version.Version.{Version}
+use Rattle.text_fields.specs.Counts.{AreNumbers}
+use Rattle.text_fields.specs.Operations.{Operations}
+use Rattle.book_text.specs.CallLines.{call_words, IsNoView}
+
+-- an answer that the words behind an operation may give, in a text of so many callers
+abbrev pub IsEntryAnswer : ℕ → Bool → Option Record → Type 0
+IsEntryAnswer n gap None = Unit {0}
+IsEntryAnswer n gap (Some answer) = (gap ≡ false) × (answer.reply < 2 ^ 64) × (length answer.view ≡ n) × AreNumbers answer.view
+
+-- the words of a line say this operation and this answer
+pub record IsEntry (version : Version) (operations : Operations) (n : ℕ) (gap : Bool) (call : Call) (words : List (List ℕ)) (op : ℕ) (answer : Option Record) : Type 0 where
+  pub has : IsTrue (operations.has op)
+  pub answered : IsEntryAnswer n gap answer
+  pub text : words ≡ call_words version operations call op answer
+
+-- why the words behind an operation give no answer
+abbrev pub IsNoAnswer : Version → ℕ → Bool → List (List ℕ) → What → Type 0
+IsNoAnswer version n gap words what.Gap = (words ≢ []) × (gap ≡ true)
+IsNoAnswer version n gap words what.Reply = (word : List ℕ) × (behind : List (List ℕ)) × (gap ≡ false) × (words ≡ word ∷ behind) × ((reply : ℕ) → reply < 2 ^ 64 → reply_word reply ≢ word)
+IsNoAnswer version n gap words what.View = (reply : ℕ) × (behind : List (List ℕ)) × (gap ≡ false) × (reply < 2 ^ 64) × (words ≡ reply_word reply ∷ behind) × IsNoView version n behind
+IsNoAnswer version n gap words _ = ⊥

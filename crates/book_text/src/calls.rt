@@ -1,0 +1,148 @@
+//! The lines of a book's calls.
+
+ghost use Rattle.std.specs.Prelude.{◌≡◌, ◌⊎◌, ℕ, ◌<◌, ◌≤◌, ◌∷◌, ◌++◌, [], List, length, slice_index, IfOk, IfErr, IfSome, IfNone, IsSomeAnd, OnOk};
+ghost use Rattle.book_base.specs.declared.TheConstants.{MAX_CALLERS, MAX_CALLS};
+ghost use Rattle.book_base.specs.declared.call.Call.{Call};
+ghost use Rattle.book_base.specs.declared.fault.BookFault.{BookFault};
+ghost use Rattle.book_base.specs.Book.{IsCall, calls_of};
+ghost use Rattle.book_base.specs.Refusal.{MayAnswer, IsFirstFault};
+ghost use Rattle.text_fields.specs.Faults.{GoesTo, StopsFor};
+ghost use Rattle.text_fields.specs.declared.version.Version.TheVariants.{Second};
+ghost use Rattle.book_text.specs.CallLines.{call_rules, calls_from, no_call_read, is_gap as is_gap_lem, view_test, with_line};
+
+use crate::entry::{Entry, read_entry};
+use book_base::{Book, BookFault, Call, Cut, ReadFault, Record, TextFault, What};
+use std::alloc::Global;
+use text_fields::{Lines, OpText, Version};
+
+/// The book whose calls the lines tell, by the words of these operations; the lines behind them stay.
+///
+/// `calls` has the number of calls of each of the `n` callers. A text fault is the first fault of the
+/// lines of the calls.
+pub fn read_calls<T: OpText>(
+    alloc: Global,
+    lines: &mut Lines,
+    n: u32,
+    calls: &Cut,
+    operations: &T,
+) -> Result<Book, ReadFault>
+    requires callers { length calls.now ≡ n }
+    requires few { (i : ℕ) → slice_index calls.now i ≤ MAX_CALLS }
+    ensures found { IfOk result (λ book. GoesTo (call_rules Second (T.operations operations.now)) (no_call_read calls.now) lines.old (record { book = book; due = [] }) lines.new) }
+    ensures refused { IfErr result (λ e. StopsFor (call_rules Second (T.operations operations.now)) (no_call_read calls.now) lines.old e) }
+{
+    let callers = calls.n();
+    prove!(callers == n);
+    read_calls_of(Version::Second, alloc, lines, calls, operations)
+}
+
+/// The book whose calls the lines tell, in a text of this version.
+pub(crate) fn read_calls_of<T: OpText>(
+    version: Version,
+    alloc: Global,
+    lines: &mut Lines,
+    calls: &Cut,
+    operations: &T,
+) -> Result<Book, ReadFault>
+    requires { (i : ℕ) → slice_index calls.now i ≤ MAX_CALLS }
+    ensures found { IfOk result (λ book. GoesTo (call_rules version (T.operations operations.now)) (no_call_read calls.now) lines.old (record { book = book; due = [] }) lines.new) }
+    ensures refused { IfErr result (λ e. StopsFor (call_rules version (T.operations operations.now)) (no_call_read calls.now) lines.old e) }
+{
+    let mut book = Book::with_calls(alloc, calls)?;
+    for i in 0..calls.n() {
+        read_caller(version, lines, operations, &mut book, i, calls.get(i))?;
+    }
+    Ok(book)
+}
+
+/// Reads the lines of a caller's calls, of which there are this many.
+fn read_caller<T: OpText>(
+    version: Version,
+    lines: &mut Lines,
+    operations: &T,
+    book: &mut Book,
+    i: u32,
+    count: u64,
+) -> Result<(), ReadFault>
+    requires { count ≤ calls_of book.old i }
+    ensures found { OnOk result ((more : List Call) → GoesTo (call_rules version (T.operations operations.now)) (record { book = book.old; due = calls_from i 0 count ++ more }) lines.old (record { book = book.new; due = more }) lines.new) }
+    ensures refused { IfErr result (λ e. (more : List Call) → StopsFor (call_rules version (T.operations operations.now)) (record { book = book.old; due = calls_from i 0 count ++ more }) lines.old e) }
+    ensures calls { OnOk result ((j : ℕ) → calls_of book.new j ≡ calls_of book.old j) }
+{
+    for number in 0..count {
+        let call = Call { caller: i, number };
+        read_call(version, lines, operations, book, call)?;
+    }
+    Ok(())
+}
+
+/// Reads the line of this call.
+fn read_call<T: OpText>(
+    version: Version,
+    lines: &mut Lines,
+    operations: &T,
+    book: &mut Book,
+    call: Call,
+) -> Result<(), ReadFault>
+    requires { IsCall book.old call }
+    ensures found { OnOk result ((more : List Call) → GoesTo (call_rules version (T.operations operations.now)) (record { book = book.old; due = call ∷ more }) lines.old (record { book = book.new; due = more }) lines.new) }
+    ensures refused { IfErr result (λ e. (more : List Call) → StopsFor (call_rules version (T.operations operations.now)) (record { book = book.old; due = call ∷ more }) lines.old e) }
+    ensures calls { OnOk result ((j : ℕ) → calls_of book.new j ≡ calls_of book.old j) }
+{
+    let number = lines.number();
+    let line = lines.line()?;
+    let n = book.callers();
+    let gap = is_gap(book, call);
+    match read_entry(version, operations, line, call, n, gap) {
+        Ok(entry) => match record_entry(book, call, entry) {
+            Ok(()) => Ok(()),
+            Err(fault) => Err(refusal(number, fault)),
+        },
+        Err(what) => Err(ReadFault::Text(TextFault { line: number, what })),
+    }
+}
+
+/// Whether an earlier call of this caller is unanswered.
+fn is_gap(book: &Book, call: Call) -> bool
+    requires { call.caller < length book.now }
+    ensures { result ≡ is_gap_lem book.now call }
+{
+    book.answers(call.caller) < call.number
+}
+
+/// Puts what the line of this call says into the book.
+fn record_entry(book: &mut Book, call: Call, entry: Entry) -> Result<(), BookFault>
+    requires call { IsCall book.old call }
+    requires wide { IfSome entry.answer (λ r. length r.view ≡ length book.old) }
+    ensures ok { OnOk result (book.new ≡ with_line book.old call entry.op entry.answer) }
+    ensures may { OnOk result (IfSome entry.answer (λ r. MayAnswer book.old call.caller r.view)) }
+    ensures refused { IfErr result (λ e. (e ≡ BookFault.NoMemory) ⊎ IsSomeAnd entry.answer (λ r. IsFirstFault book.old call.caller r.view e)) }
+{
+    let Entry { op, answer } = entry;
+    match answer {
+        None => book.set_op(call, op),
+        Some(Record { reply, view }) => {
+            book.add_answer(call.caller, reply, view)?;
+            book.set_op(call, op);
+        }
+    }
+    Ok(())
+}
+
+/// What a text is refused with where the book refused the view in this line.
+fn refusal(line: u64, fault: BookFault) -> ReadFault
+    ensures text { IfSome (view_test fault) (λ what. result ≡ ReadFault.Text (record { line = line; what = what })) }
+    ensures memory { IfNone (view_test fault) (result ≡ ReadFault.NoMemory) }
+{
+    let what = match fault {
+        BookFault::ViewOutside(_) => What::ViewOutside,
+        BookFault::ViewLacksOwn(_) => What::ViewLacksOwn,
+        BookFault::ViewHasLater(_) => What::ViewHasLater,
+        BookFault::ViewsCross(_) => What::ViewsCross,
+        // A call that is due is one of the book's, and has no answer yet.
+        BookFault::TooManyCalls | BookFault::NoSuchCall | BookFault::NoMemory => {
+            return ReadFault::NoMemory;
+        }
+    };
+    ReadFault::Text(TextFault { line, what })
+}

@@ -1,0 +1,61 @@
+//! The view in the line of a call.
+
+ghost use Rattle.std.specs.Prelude.{◌≡◌, ◌≢◌, ℕ, ◌≤◌, ◌∷◌, List, length, codes, IfSome, IfNone};
+ghost use Rattle.book_base.specs.declared.TheConstants.{MAX_CALLERS};
+ghost use Rattle.text_fields.specs.declared.version.Version.TheVariants.{First, Second};
+ghost use Rattle.text_fields.specs.Counts.{AreNumbers, cut_words};
+ghost use Rattle.book_text.specs.CallLines.{IsNoView};
+
+use book_base::Cut;
+use text_fields::{Version, Words, read_counts, read_pairs};
+
+/// The view behind a reply, and nothing behind it.
+pub(crate) fn read_view(version: Version, words: &mut Words, n: u32) -> Option<Cut>
+    requires some { 1 ≤ n }
+    requires few { n ≤ MAX_CALLERS }
+    ensures found { IfSome result (λ view. (length view ≡ n) × AreNumbers view × (words.old ≡ codes "view" ∷ cut_words version view)) }
+    ensures none { IfNone result (IsNoView version n words.old) }
+{
+    match version {
+        Version::First => first_view(words, n),
+        Version::Second => second_view(words, n),
+    }
+}
+
+/// A view as all its counts.
+fn first_view(words: &mut Words, n: u32) -> Option<Cut>
+    requires some { 1 ≤ n }
+    requires few { n ≤ MAX_CALLERS }
+    ensures found { IfSome result (λ view. (length view ≡ n) × AreNumbers view × (words.old ≡ codes "view" ∷ cut_words First view)) }
+    ensures none { IfNone result (IsNoView First n words.old) }
+{
+    take_word(words, b"view")?;
+    read_counts(words, n, u64::MAX)
+}
+
+/// A view as pairs.
+fn second_view(words: &mut Words, n: u32) -> Option<Cut>
+    requires some { 1 ≤ n }
+    requires few { n ≤ MAX_CALLERS }
+    ensures found { IfSome result (λ view. (length view ≡ n) × AreNumbers view × (words.old ≡ codes "view" ∷ cut_words Second view)) }
+    ensures none { IfNone result (IsNoView Second n words.old) }
+{
+    take_word(words, b"view")?;
+    let view = read_pairs(words, n)?;
+    match words.next() {
+        None => Some(view),
+        Some(_) => None,
+    }
+}
+
+/// Takes the next word, which is to be this.
+fn take_word(words: &mut Words, wanted: &[u8]) -> Option<()>
+    ensures found { IfSome result (λ _. words.old ≡ wanted.now ∷ words.new) }
+    ensures none { IfNone result ((behind : List (List ℕ)) → words.old ≢ wanted.now ∷ behind) }
+{
+    if words.next()? == wanted {
+        Some(())
+    } else {
+        None
+    }
+}

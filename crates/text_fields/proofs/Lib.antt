@@ -1,0 +1,5 @@
+pub mod Cuts
+pub mod LineTexts
+pub mod Sharp
+pub mod NumberTexts
+pub mod HeadTexts

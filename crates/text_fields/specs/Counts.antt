@@ -1,0 +1,65 @@
+-- Counts of calls in texts: in a head, and in a cut.
+use Rattle.std.specs.Prelude.{◌≡◌, ℕ, zero, suc, ◌+◌, ◌<◌, ◌≤◌, ◌^◌, ◌⊎◌, Bool, false, IsTrue, List, [], ◌∷◌, ◌++◌, map, decimal, Some, is_some}
+use Rattle.std.specs.List.{AllByRecursion}
+use Rattle.text_fields.specs.Lines.{cut_at}
+use Rattle.text_fields.specs.declared.version.Version.{Version}
+use Rattle.text_fields.specs.declared.version.Version.TheVariants.{First, Second}
+
+-- each of these numbers is at most this
+abbrev pub AreAtMost : ℕ → List ℕ → Type 0
+AreAtMost most counts = AllByRecursion (λ n. n ≤ most) counts
+
+-- each of these numbers can be written in a text
+abbrev pub AreNumbers : List ℕ → Type 0
+AreNumbers counts = AllByRecursion (λ n. n < 2 ^ 64) counts
+
+-- a pair: a caller, a colon, and the count for it
+abbrev pub pair_word : ℕ → ℕ → List ℕ
+pair_word j count = decimal j ++ 58 ∷ decimal count
+
+-- the pairs of the counts that aren't 0, by rising caller, from this caller on
+abbrev pub pair_words : ℕ → List ℕ → List (List ℕ)
+pair_words j [] = []
+pair_words j (zero ∷ counts) = pair_words (j + 1) counts
+pair_words j (suc count ∷ counts) = pair_word j (suc count) ∷ pair_words (j + 1) counts
+
+-- the words of a cut: all its counts in version 1, and its pairs in version 2
+abbrev pub cut_words : Version → List ℕ → List (List ℕ)
+cut_words First cut = map decimal cut
+cut_words Second cut = pair_words 0 cut
+
+-- whether a word has a colon, as the words of pairs have
+abbrev pub has_colon : List ℕ → Bool
+has_colon word = is_some (cut_at 58 word)
+
+-- what stands before the first colon of a word, and what stands behind it
+abbrev pub AreParts : List ℕ → List ℕ → Type 0
+AreParts front behind = cut_at 58 (front ++ 58 ∷ behind) ≡ Some (front, behind)
+
+-- the word is a pair J:C, with J below n and C a number above 0
+pub record IsPair (n : ℕ) (word : List ℕ) (j count : ℕ) : Type 0 where
+  pub caller : j < n
+  pub some : 0 < count
+  pub small : count < 2 ^ 64
+  pub text : word ≡ pair_word j count
+
+-- the word is no such pair
+abbrev pub IsNoPair : ℕ → List ℕ → Type 0
+IsNoPair n word = (j count : ℕ) → IsPair n word j count → ⊥
+
+-- Of the words with a colon that these words begin with, one is no pair, or its caller is below this one or not above that of
+-- the pair before it.
+abbrev pub HasBadPair : ℕ → ℕ → List (List ℕ) → Type 0
+HasBadPair n least [] = ⊥
+HasBadPair n least (word ∷ words) = IsTrue (has_colon word)
+    × (IsNoPair n word ⊎ ((j : ℕ) × (count : ℕ) × IsPair n word j count × ((j < least) ⊎ HasBadPair n (j + 1) words)))
+
+-- a word without a colon is among these words
+abbrev pub HasWordBehindPairs : List (List ℕ) → Type 0
+HasWordBehindPairs [] = ⊥
+HasWordBehindPairs (word ∷ words) = (has_colon word ≡ false) ⊎ HasWordBehindPairs words
+
+-- the words don't begin with a word with a colon
+abbrev pub NoPairFirst : List (List ℕ) → Type 0
+NoPairFirst [] = Unit {0}
+NoPairFirst (word ∷ words) = has_colon word ≡ false

@@ -1,0 +1,114 @@
+-- The faults of a text that is read line by line: which line fails which test, and which fault is the first.
+use Rattle.std.specs.Prelude.{◌≡◌, ◌≢◌, ℕ, ◌+◌, ◌<◌, ◌⊎◌, List, [], ◌∷◌, ◌++◌, length, Some, None}
+use Rattle.book_base.specs.declared.fault.TextFault.{TextFault}
+use Rattle.book_base.specs.declared.fault.ReadFault.{ReadFault}
+use Rattle.book_base.specs.declared.fault.ReadFault.TheVariants.{Text, NoMemory}
+use Rattle.book_base.specs.declared.fault.What.{What}
+use Rattle.book_base.specs.declared.fault.What.TheVariants.{Long, Cut, Head, Object, Callers, Calls, Place, Op, Gap, Reply, View, ViewOutside, ViewLacksOwn, ViewHasLater, ViewsCross, Mark, Seen, Last, Stop, Turns, End, Rest}
+use Rattle.text_fields.specs.Lines.{Unread, AreSolid, text_of, cut_at, words_of}
+
+-- what is wanted next: a line, the end of the bytes, or nothing, since what follows is read by others
+pub data Wanted : Type 0 where
+  ALine : Wanted
+  TheEnd : Wanted
+  Nothing : Wanted
+
+-- The rules of a kind of text. What is due next, as the lines so far have it, is a value of Due.
+pub record Rules (Due : Type 0) : Type 1 where
+  -- where this is due, a line of these words is right, and that is due behind it
+  pub Passes : Due → List (List ℕ) → Due → Type 0
+  -- where this is due, a line of these words fails the test with this name
+  pub Fails : Due → List (List ℕ) → What → Type 0
+  -- what is wanted where this is due
+  pub wanted : Due → Wanted
+
+-- the turn of a test: the tests of one line are tried in this order
+abbrev pub turn_of : What → ℕ
+turn_of Long = 0
+turn_of Cut = 1
+turn_of Head = 2
+turn_of Object = 3
+turn_of Callers = 4
+turn_of Calls = 5
+turn_of Place = 6
+turn_of Op = 7
+turn_of Gap = 8
+turn_of Reply = 9
+turn_of View = 10
+turn_of ViewOutside = 11
+turn_of ViewLacksOwn = 12
+turn_of ViewHasLater = 13
+turn_of ViewsCross = 14
+turn_of Mark = 15
+turn_of Seen = 16
+turn_of Last = 17
+turn_of Stop = 18
+turn_of Turns = 19
+turn_of End = 20
+turn_of Rest = 21
+
+-- Of the tests of a line it fails this one, and no earlier one.
+pub record IsFirstTest (Fails : What → Type 0) (what : What) : Type 0 where
+  pub fails : Fails what
+  pub first : (other : What) → turn_of other < turn_of what → Fails other → ⊥
+
+-- The line that the bytes begin with is whole, and fails this test and no earlier one.
+pub record IsWrongLine {Due : Type 0} (rules : Rules Due) (due : Due) (bytes : List ℕ) (what : What) : Type 0 where
+  pub line : List ℕ
+  pub rest : List ℕ
+  pub whole : cut_at 10 bytes ≡ Some (line, rest)
+  pub test : IsFirstTest (rules.Fails due (words_of line)) what
+
+-- What is wrong with these bytes, by what is wanted: no line is whole, the line fails a test, or bytes follow the end.
+abbrev pub IsWrong : {Due : Type 0} → Rules Due → Due → Wanted → List ℕ → What → Type 0
+IsWrong rules due ALine bytes what = ((what ≡ Cut) × (cut_at 10 bytes ≡ None)) ⊎ IsWrongLine rules due bytes what
+IsWrong rules due TheEnd bytes what = (what ≡ Rest) × (bytes ≢ [])
+IsWrong rules due Nothing bytes what = ⊥
+
+-- Each of these lines is right, from where this is due to where that is due.
+abbrev pub AllPass : {Due : Type 0} → (Due → List (List ℕ) → Due → Type 0) → Due → List (List (List ℕ)) → Due → Type 0
+AllPass Passes due [] after = due ≡ after
+AllPass {Due} Passes due (words ∷ lines) after = (next : Due) × Passes due words next × AllPass Passes next lines after
+
+-- A text goes on by right lines, from where this is due to where that is due, and leaves the rest unread.
+pub record GoesTo {Due : Type 0} (rules : Rules Due) (due : Due) (text : Unread) (after : Due) (left : Unread) : Type 0 where
+  pub lines : List (List (List ℕ))
+  pub right : AllPass rules.Passes due lines after
+  pub bytes : text.bytes ≡ text_of lines ++ left.bytes
+  pub number : left.number ≡ text.number + length lines
+
+-- The first fault of a text from where this is due: all lines before the fault's line are right, and what is wrong there
+-- is the first test that fails.
+pub record IsFirstFault {Due : Type 0} (rules : Rules Due) (due : Due) (text : Unread) (fault : TextFault) : Type 0 where
+  pub reached : Due
+  pub left : Unread
+  pub before : GoesTo rules due text reached left
+  pub line : fault.line ≡ left.number
+  pub wrong : IsWrong rules reached (rules.wanted reached) left.bytes fault.what
+
+-- A reader stops for want of memory, or with the first fault.
+abbrev pub StopsFor : {Due : Type 0} → Rules Due → Due → Unread → ReadFault → Type 0
+StopsFor rules due text NoMemory = Unit {0}
+StopsFor rules due text (Text fault) = IsFirstFault rules due text fault
+
+-- Nothing is left to be read by these rules, by what is wanted: the bytes have ended, or others read them.
+abbrev pub IsThrough : Wanted → List ℕ → Type 0
+IsThrough ALine bytes = ⊥
+IsThrough TheEnd bytes = bytes ≡ []
+IsThrough Nothing bytes = Unit {0}
+
+-- A text is read by right lines to its end, or to where others read on.
+pub record IsReadTo {Due : Type 0} (rules : Rules Due) (due : Due) (text : Unread) (after : Due) (left : Unread) : Type 0 where
+  pub goes : GoesTo rules due text after left
+  pub through : IsThrough (rules.wanted after) left.bytes
+
+-- Rules are sharp where a line is right in one way, no right line fails a test, and a right line can be read back.
+pub record AreSharp {Due : Type 0} (rules : Rules Due) : Type 0 where
+  -- what is due behind a right line is one thing
+  pub one_way : (due a b : Due) (words : List (List ℕ)) → rules.Passes due words a → rules.Passes due words b → a ≡ b
+  -- a right line fails no test
+  pub apart : (due after : Due) (words : List (List ℕ)) (what : What) → rules.Passes due words after → rules.Fails due words what → ⊥
+  -- the words of a right line have no space and no line feed
+  pub solid : (due after : Due) (words : List (List ℕ)) → rules.Passes due words after → AreSolid words
+  -- a line is right only where a line is wanted
+  pub lines : (due after : Due) (words : List (List ℕ)) → rules.Passes due words after → rules.wanted due ≡ ALine

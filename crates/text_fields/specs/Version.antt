@@ -1,0 +1,32 @@
+-- The two versions of texts, and what sets them apart.
+use Rattle.std.specs.Prelude.{ℕ, ◌^◌, Bool, true, List, codes}
+use Rattle.seq_objects.specs.declared.kind.Kind.{Kind}
+use Rattle.seq_objects.specs.Words.{is_first_kind}
+use Rattle.text_fields.specs.declared.version.Version.{Version}
+use Rattle.text_fields.specs.declared.version.Version.TheVariants.{First, Second}
+use Rattle.text_fields.specs.declared.TheConstants.{TEXT_CALLERS, TEXT_CALLS, FIRST_TEXT_CALLERS, FIRST_TEXT_CALLS}
+
+-- the number in a title
+abbrev pub version_word : Version → List ℕ
+version_word First = codes "1"
+version_word Second = codes "2"
+
+-- the greatest number of callers
+abbrev pub most_callers : Version → ℕ
+most_callers First = FIRST_TEXT_CALLERS
+most_callers Second = TEXT_CALLERS
+
+-- the greatest number of calls of a caller
+abbrev pub most_calls : Version → ℕ
+most_calls First = FIRST_TEXT_CALLS
+most_calls Second = TEXT_CALLS
+
+-- whether texts of a version have a kind: version 1 has the first six
+abbrev pub has_kind : Version → Kind → Bool
+has_kind First kind = is_first_kind kind
+has_kind Second kind = true
+
+-- the operation words that texts of a version have are below this number
+abbrev pub word_limit : Version → ℕ
+word_limit First = 2 ^ 64
+word_limit Second = 2 ^ 128

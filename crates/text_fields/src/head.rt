@@ -1,0 +1,192 @@
+//! The head of a text.
+
+ghost use Rattle.std.specs.Prelude.{◌≡◌, ◌≢◌, ◌↔◌, ℕ, ◌≤◌, true, List, [], ◌∷◌, length, IfOk, IfErr, IfSome, IfNone, IsTrue};
+ghost use Rattle.book_base.specs.declared.TheConstants.{MAX_CALLERS};
+ghost use Rattle.seq_objects.specs.declared.kind.Kind.{Kind};
+ghost use Rattle.text_fields.specs.Version.{has_kind, most_callers};
+ghost use Rattle.text_fields.specs.Faults.{GoesTo, IsFirstFault};
+ghost use Rattle.text_fields.specs.Head.{TitleDue, ObjectDue, CallersDue, CountsDue, HeadRead, AreCallers, AreCalls, object_words, callers_words, calls_words, head_rules};
+
+use crate::counts::{next_number, read_counts};
+use crate::lines::Lines;
+use crate::version::Version;
+use crate::words::Words;
+use book_base::{Cut, TextFault, What};
+use seq_objects::Kind;
+
+/// What the head of a text says.
+#[derive(Clone, Copy, Debug)]
+pub struct Head {
+    /// The kind of the object.
+    pub kind: Kind,
+    /// The number of callers.
+    pub n: u32,
+    /// The number of calls of each caller.
+    pub calls: Cut,
+}
+
+/// The head of a text of version 2 with this title, a word such as `book`.
+pub fn read_head(lines: &mut Lines, title: &[u8]) -> Result<Head, TextFault>
+    ensures found { IfOk result (λ head. GoesTo (head_rules Version.Second title.now) TitleDue lines.old (HeadRead head.kind head.calls) lines.new) }
+    ensures says { IfOk result (λ head. AreCallers Version.Second head.n × AreCalls Version.Second head.n head.calls) }
+    ensures refused { IfErr result (λ fault. IsFirstFault (head_rules Version.Second title.now) TitleDue lines.old fault) }
+{
+    read_head_of(Version::Second, lines, title)
+}
+
+/// The head of a text of version 1 with this title, a word such as `book`.
+pub fn read_head1(lines: &mut Lines, title: &[u8]) -> Result<Head, TextFault>
+    ensures found { IfOk result (λ head. GoesTo (head_rules Version.First title.now) TitleDue lines.old (HeadRead head.kind head.calls) lines.new) }
+    ensures says { IfOk result (λ head. AreCallers Version.First head.n × AreCalls Version.First head.n head.calls) }
+    ensures refused { IfErr result (λ fault. IsFirstFault (head_rules Version.First title.now) TitleDue lines.old fault) }
+{
+    read_head_of(Version::First, lines, title)
+}
+
+/// The head of a text of this version with this title.
+pub fn read_head_of(version: Version, lines: &mut Lines, title: &[u8]) -> Result<Head, TextFault>
+    ensures found { IfOk result (λ head. GoesTo (head_rules version title.now) TitleDue lines.old (HeadRead head.kind head.calls) lines.new) }
+    ensures says { IfOk result (λ head. AreCallers version head.n × AreCalls version head.n head.calls) }
+    ensures refused { IfErr result (λ fault. IsFirstFault (head_rules version title.now) TitleDue lines.old fault) }
+{
+    read_title(version, lines, title)?;
+    let kind = read_object(version, lines, title)?;
+    let n = read_callers(version, lines, title, kind)?;
+    let calls = read_calls_line(version, lines, title, kind, n)?;
+    Ok(Head { kind, n, calls })
+}
+
+/// The line of the title.
+fn read_title(version: Version, lines: &mut Lines, title: &[u8]) -> Result<(), TextFault>
+    ensures found { IfOk result (λ _. GoesTo (head_rules version title.now) TitleDue lines.old ObjectDue lines.new) }
+    ensures refused { IfErr result (λ fault. IsFirstFault (head_rules version title.now) TitleDue lines.old fault) }
+{
+    let line = lines.number();
+    let mut words = Words::new(lines.line()?);
+    if are_words(&mut words, title, version.word()) {
+        Ok(())
+    } else {
+        Err(TextFault {
+            line,
+            what: What::Head,
+        })
+    }
+}
+
+/// Whether the words are these two.
+fn are_words(words: &mut Words, first: &[u8], second: &[u8]) -> bool
+    ensures { IsTrue result ↔ (words.old ≡ first.now ∷ second.now ∷ []) }
+{
+    words.next() == Some(first) && words.next() == Some(second) && words.next().is_none()
+}
+
+/// The line of the object.
+fn read_object(version: Version, lines: &mut Lines, title: &[u8]) -> Result<Kind, TextFault>
+    ensures found { IfOk result (λ kind. GoesTo (head_rules version title.now) ObjectDue lines.old (CallersDue kind) lines.new) }
+    ensures refused { IfErr result (λ fault. IsFirstFault (head_rules version title.now) ObjectDue lines.old fault) }
+{
+    let line = lines.number();
+    let mut words = Words::new(lines.line()?);
+    match object_of(version, &mut words) {
+        Some(kind) => Ok(kind),
+        None => Err(TextFault {
+            line,
+            what: What::Object,
+        }),
+    }
+}
+
+fn object_of(version: Version, words: &mut Words) -> Option<Kind>
+    ensures found { IfSome result (λ kind. (has_kind version kind ≡ true) × (words.old ≡ object_words kind)) }
+    ensures none { IfNone result ((kind : Kind) → has_kind version kind ≡ true → words.old ≢ object_words kind) }
+{
+    if words.next()? != b"object".as_slice() {
+        return None;
+    }
+    let kind = Kind::from_name(words.next()?)?;
+    if !version.has_kind(kind) {
+        return None;
+    }
+    if words.next().is_none() {
+        Some(kind)
+    } else {
+        None
+    }
+}
+
+/// The line of the number of callers.
+fn read_callers(
+    version: Version,
+    lines: &mut Lines,
+    title: &[u8],
+    kind: Kind,
+) -> Result<u32, TextFault>
+    ensures found { IfOk result (λ n. GoesTo (head_rules version title.now) (CallersDue kind) lines.old (CountsDue kind n) lines.new) }
+    ensures callers { IfOk result (λ n. AreCallers version n) }
+    ensures refused { IfErr result (λ fault. IsFirstFault (head_rules version title.now) (CallersDue kind) lines.old fault) }
+{
+    let line = lines.number();
+    let mut words = Words::new(lines.line()?);
+    match callers_of(version, &mut words) {
+        Some(n) => Ok(n),
+        None => Err(TextFault {
+            line,
+            what: What::Callers,
+        }),
+    }
+}
+
+fn callers_of(version: Version, words: &mut Words) -> Option<u32>
+    ensures found { IfSome result (λ n. AreCallers version n × (words.old ≡ callers_words n)) }
+    ensures none { IfNone result ((n : ℕ) → AreCallers version n → words.old ≢ callers_words n) }
+{
+    if words.next()? != b"callers".as_slice() {
+        return None;
+    }
+    let n = next_number(words, version.most_callers())?;
+    if n == 0 {
+        return None;
+    }
+    if words.next().is_none() {
+        Some(n as u32)
+    } else {
+        None
+    }
+}
+
+/// The line of the numbers of calls.
+fn read_calls_line(
+    version: Version,
+    lines: &mut Lines,
+    title: &[u8],
+    kind: Kind,
+    n: u32,
+) -> Result<Cut, TextFault>
+    requires some { 1 ≤ n }
+    requires few { n ≤ MAX_CALLERS }
+    ensures found { IfOk result (λ calls. GoesTo (head_rules version title.now) (CountsDue kind n) lines.old (HeadRead kind calls) lines.new) }
+    ensures says { IfOk result (λ calls. AreCalls version n calls) }
+    ensures refused { IfErr result (λ fault. IsFirstFault (head_rules version title.now) (CountsDue kind n) lines.old fault) }
+{
+    let line = lines.number();
+    let mut words = Words::new(lines.line()?);
+    match calls_of(version, &mut words, n) {
+        Some(calls) => Ok(calls),
+        None => Err(TextFault {
+            line,
+            what: What::Calls,
+        }),
+    }
+}
+
+fn calls_of(version: Version, words: &mut Words, n: u32) -> Option<Cut>
+    requires some { 1 ≤ n }
+    requires few { n ≤ MAX_CALLERS }
+    ensures found { IfSome result (λ calls. AreCalls version n calls × (words.old ≡ calls_words calls)) }
+    ensures none { IfNone result ((calls : List ℕ) → AreCalls version n calls → words.old ≢ calls_words calls) }
+{
+    if words.next()? != b"calls".as_slice() {
+        return None;
+    }
+    read_counts(words, n, version.most_calls())
+}

@@ -1,0 +1,32 @@
+//! The fields of texts: lines, words, numbers, counts, cuts and heads, each read exactly and without memory.
+#![tactic(auto)]
+
+mod counts;
+mod cut_at;
+mod head;
+mod lines;
+mod op_text;
+mod pairs;
+mod version;
+mod words;
+
+pub use counts::{next_number, read_counts};
+pub use head::{Head, read_head, read_head_of, read_head1};
+pub use lines::Lines;
+pub use op_text::{KindWords, OpText};
+pub use pairs::read_pairs;
+pub use seq_objects::number;
+pub use version::Version;
+pub use words::Words;
+
+/// The greatest number of callers in a text of version 2.
+pub const TEXT_CALLERS: u64 = 16;
+
+/// The greatest number of calls of a caller in a text of version 2.
+pub const TEXT_CALLS: u64 = 256;
+
+/// The greatest number of callers in a text of version 1.
+pub const FIRST_TEXT_CALLERS: u64 = 8;
+
+/// The greatest number of calls of a caller in a text of version 1.
+pub const FIRST_TEXT_CALLS: u64 = 64;
