@@ -3,7 +3,7 @@ use Rattle.std.proofs.Common.{◌≡◌, ◌≢◌, ℕ, ◌+◌, ◌*◌, ◌<�
 use Rattle.std.proofs.lemmas.Nat.{same_from_place, mul-add-lt}
 use Rattle.world_core.specs.declared.region.Region.{Region}
 use Rattle.world_core.specs.declared.region.Region.TheVariants.{N, M}
-use Rattle.world_core.specs.Layout.{Shape, places, first_place, row_width, count_index, place_index, words_of}
+use Rattle.world_core.specs.Layout.{places, first_place, row_width, count_index, place_index, row_words, object_index}
 
 -- a place of a region lies in its row
 place_fits : (n : ℕ) (r : Region) (p : ℕ) → p < places n r → first_place n r + p < row_width n
@@ -17,22 +17,16 @@ place_apart n M M p t a b e = (refl, omega arith)
 place_apart n N M p t a b e = absurd (omega arith)
 place_apart n M N p t a b e = absurd (omega arith)
 
-pub count_low : (s : Shape) (r : Region) (i : ℕ) → i < s.callers → count_index s r i < 2 * s.callers
-count_low s N i h = omega arith
-count_low s M i h = omega arith
+module _ (n : ℕ) where
+  pub count_low : (r : Region) (i : ℕ) → i < n → count_index n r i < 2 * n
+  count_low N i h = omega arith
+  count_low M i h = omega arith
 
-pub count_apart : (s : Shape) (r q : Region) (i j : ℕ) → i < s.callers → j < s.callers → count_index s r i ≡ count_index s q j → (r ≡ q) × (i ≡ j)
-count_apart s N N i j a b e = (refl, e)
-count_apart s M M i j a b e = (refl, omega arith)
-count_apart s N M i j a b e = absurd (omega arith)
-count_apart s M N i j a b e = absurd (omega arith)
-
-pub row_high : (s : Shape) (r : Region) (i k p : ℕ) → 2 * s.callers ≤ place_index s r i k p
-row_high s r i k p = omega arith
-
--- a count is no row word
-pub count_or_row : (s : Shape) (r q : Region) (i j k p : ℕ) → i < s.callers → count_index s r i ≢ place_index s q j k p
-count_or_row s r q i j k p h e = omega (arith, count_low s r i h, row_high s q j k p, e)
+  pub count_apart : (r q : Region) (i j : ℕ) → i < n → j < n → count_index n r i ≡ count_index n q j → (r ≡ q) × (i ≡ j)
+  count_apart N N i j a b e = (refl, e)
+  count_apart M M i j a b e = (refl, omega arith)
+  count_apart N M i j a b e = absurd (omega arith)
+  count_apart M N i j a b e = absurd (omega arith)
 
 -- two row words that are one have one region, caller, row and place
 pub record IsSamePlace (r q : Region) (i j k m p t : ℕ) : Type 0 where
@@ -41,22 +35,37 @@ pub record IsSamePlace (r q : Region) (i j k m p t : ℕ) : Type 0 where
   pub row : k ≡ m
   pub place : p ≡ t
 
-pub row_apart : (s : Shape) (r q : Region) (i j k m p t : ℕ) → k < s.cap → m < s.cap → p < places s.callers r → t < places s.callers q
-    → place_index s r i k p ≡ place_index s q j m t → IsSamePlace r q i j k m p t
-row_apart s r q i j k m p t a b c d e =
-    let rows = same_from_place (i * s.cap + k) (first_place s.callers r + p) (j * s.cap + m) (first_place s.callers q + t) (row_width s.callers)
-    (place_fits s.callers r p c) (place_fits s.callers q t d) (omega arith) in
-    let callers = same_from_place i k j m s.cap a b rows.0 in
-    let place = place_apart s.callers r q p t c d rows.1 in
-    record { region = place.0; caller = callers.0; row = callers.1; place = place.1 }
+module _ (n cap : ℕ) where
+  pub row_high : (r : Region) (i k p : ℕ) → 2 * n ≤ place_index n cap r i k p
+  row_high r i k p = omega arith
 
--- each count word and each row word is a word of the table
-pub count_within : (s : Shape) (r : Region) (i : ℕ) → i < s.callers → count_index s r i < words_of s
-count_within s r i h = omega (arith, count_low s r i h)
+  -- a count is no row word
+  pub count_or_row : (r q : Region) (i j k p : ℕ) → i < n → count_index n r i ≢ place_index n cap q j k p
+  count_or_row r q i j k p h e = omega (arith, count_low n r i h, row_high q j k p, e)
 
-pub row_within : (s : Shape) (r : Region) (i k p : ℕ) → i < s.callers → k < s.cap → p < places s.callers r → place_index s r i k p < words_of s
-row_within s r i k p a b c =
-    let row : i * s.cap + k < s.callers * s.cap = omega (arith, mul-add-lt i s.cap k s.callers a b) in
-    let word : (i * s.cap + k) * row_width s.callers + (first_place s.callers r + p) < (s.callers * s.cap) * row_width s.callers =
-    omega (arith, mul-add-lt (i * s.cap + k) (row_width s.callers) (first_place s.callers r + p) (s.callers * s.cap) row (place_fits s.callers r p c)) in
-    omega (arith, word)
+  pub row_apart : (r q : Region) (i j k m p t : ℕ) → k < cap → m < cap → p < places n r → t < places n q
+      → place_index n cap r i k p ≡ place_index n cap q j m t → IsSamePlace r q i j k m p t
+  row_apart r q i j k m p t a b c d e =
+      let rows = same_from_place (i * cap + k) (first_place n r + p) (j * cap + m) (first_place n q + t) (row_width n)
+      (place_fits n r p c) (place_fits n q t d) (omega arith) in
+      let callers = same_from_place i k j m cap a b rows.0 in
+      let place = place_apart n r q p t c d rows.1 in
+      record { region = place.0; caller = callers.0; row = callers.1; place = place.1 }
+
+  -- each count word and each row word is a word before the object words
+  pub count_within : (r : Region) (i : ℕ) → i < n → count_index n r i < row_words n cap
+  count_within r i h = omega (arith, count_low n r i h)
+
+  pub row_within : (r : Region) (i k p : ℕ) → i < n → k < cap → p < places n r → place_index n cap r i k p < row_words n cap
+  row_within r i k p a b c =
+      let row : i * cap + k < n * cap = omega (arith, mul-add-lt i cap k n a b) in
+      let word : (i * cap + k) * row_width n + (first_place n r + p) < (n * cap) * row_width n =
+      omega (arith, mul-add-lt (i * cap + k) (row_width n) (first_place n r + p) (n * cap) row (place_fits n r p c)) in
+      omega (arith, word)
+
+  -- so neither is an object word
+  pub count_or_object : (r : Region) (i t : ℕ) → i < n → count_index n r i ≢ object_index n cap t
+  count_or_object r i t h e = omega (arith, count_within r i h, e)
+
+  pub row_or_object : (r : Region) (i k p t : ℕ) → i < n → k < cap → p < places n r → place_index n cap r i k p ≢ object_index n cap t
+  row_or_object r i k p t a b c e = omega (arith, row_within r i k p a b c, e)

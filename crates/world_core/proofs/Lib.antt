@@ -1,10 +1,5 @@
-pub mod Scans
 pub mod Indices
-pub mod Agreeing
-pub mod Running
-pub mod Instants
-pub mod Spans
-pub mod Moments
-pub mod Holding
-pub mod Looking
+pub mod Scans
 pub mod Linear
+pub mod Bounds
+pub mod Histories

@@ -2,7 +2,8 @@
 use Rattle.std.specs.Prelude.{◌≡◌, ℕ, ◌+◌, ◌<◌, ◌≤◌, true, false, IsTrue, List, [], length, Option, Some, None, slice_index}
 use Rattle.world_core.specs.declared.region.Region.{Region}
 use Rattle.world_core.specs.declared.region.Region.TheVariants.{N}
-use Rattle.world_core.specs.Layout.{Shape, places, content, count_index, place_index}
+use Rattle.world_core.specs.Layout.{places, content, count_index, place_index}
+use Rattle.world_core.specs.Shape.{Shape}
 use Rattle.world_core.specs.Local.{Phase, Announcing, Asking, Viewing, Publishing, Judging, Staged, Scan, Local, own_count, word_of}
 use Rattle.world_core.specs.Event.{is_staging, is_staged, staged_at, is_due}
 
@@ -43,6 +44,9 @@ pub record HasPhase (l : Local) : Type 0 where
   pub replies : length l.replies ≡ l.published + unpublished_replies l.phase
   pub views : length l.views ≡ l.published + unpublished_views l.phase
   pub seen : length l.seen + unseen_records l.phase ≡ l.published
+  pub embedded_in_N : length l.embedded_in_N ≡ l.announced
+  pub embedded_in_M : length l.embedded_in_M ≡ l.published
+  pub object_steps : length l.object_steps ≡ l.announced
 
 -- The view's scan, which is of N, is under way in the phase view and in no other.
 abbrev pub FitsPhase : Phase → Option Scan → Type 0
@@ -57,21 +61,28 @@ IsStagedIn Announcing staged = Unit {0}
 IsStagedIn Publishing staged = Unit {0}
 IsStagedIn _ staged = staged ≡ []
 
+-- A cut to embed is kept in the phases announce and publish alone.
+abbrev pub IsKeptIn : Phase → Option (List ℕ) → Type 0
+IsKeptIn Announcing kept = Unit {0}
+IsKeptIn Publishing kept = Unit {0}
+IsKeptIn _ kept = kept ≡ None
+
 -- A staged word stands at its place of the row under way, which exists, and is what belongs there.
 pub record IsInRow (s : Shape) (words : List ℕ) (i : ℕ) (l : Local) (region : Region) (place : ℕ) : Type 0 where
   pub row : own_count l region < s.cap
   pub place_fits : place < places s.callers region
-  pub stands : slice_index words (place_index s region i (own_count l region) place) ≡ staged_at l.staged place
+  pub stands : slice_index words (place_index s.callers s.cap region i (own_count l region) place) ≡ staged_at l.staged place
   pub due : IsTrue (is_due l (content s.callers region place) (staged_at l.staged place))
 
--- The local of caller i agrees with the words: its own counts are its count words; each row below them has the words of its
--- call; and what it staged stands in the row under way.
+-- The local of caller i agrees with the words: its own counts are its count words and are at most the cap; each row below them
+-- has the words of its call; and what it staged stands in the row under way.
 pub record Agrees (s : Shape) (words : List ℕ) (i : ℕ) (l : Local) : Type 0 where
-  pub counts : (region : Region) → slice_index words (count_index s region i) ≡ own_count l region
+  pub counts : (region : Region) → slice_index words (count_index s.callers region i) ≡ own_count l region
   pub few : l.announced ≤ s.cap
   pub rows : (region : Region) (k place : ℕ) → k < own_count l region → place < places s.callers region
-      → slice_index words (place_index s region i k place) ≡ word_of l k (content s.callers region place)
+      → slice_index words (place_index s.callers s.cap region i k place) ≡ word_of l k (content s.callers region place)
   pub staged : (region : Region) (place : ℕ) → IsTrue (is_staging l.phase region) → IsTrue (is_staged l.staged place) → IsInRow s words i l region place
   pub staged_in : IsStagedIn l.phase l.staged
+  pub kept_in : IsKeptIn l.phase l.to_embed
   pub phase : HasPhase l
   pub scan : FitsPhase l.phase l.scan

@@ -2,7 +2,7 @@
 use Rattle.std.specs.Prelude.{◌≡◌, ◌≢◌, ℕ, ◌<◌, List, [], ◌∷◌, ◌++◌, length, map, Some, slice_get, All, AllPairs, Contains}
 use Rattle.book_base.specs.declared.call.Call.{Call}
 use Rattle.book_base.specs.Sequential.{IsLegalRun}
-use Rattle.world_core.specs.Layout.{Shape}
+use Rattle.world_core.specs.Shape.{Shape}
 use Rattle.world_core.specs.Local.{Local}
 use Rattle.world_core.specs.Event.{Event, Announce, Look, Begins_view, staged_operation}
 use Rattle.world_core.specs.World.{World, Step, start, after, local_of}

@@ -1,6 +1,7 @@
 -- What one caller has done and found so far, as plain data.
-use Rattle.std.specs.Prelude.{◌≡◌, ℕ, Bool, List, [], Option, None, slice_index, slice_index_or}
-use Rattle.world_core.specs.Layout.{Content, Operation, Reply, View_entry}
+use Rattle.std.specs.Prelude.{◌≡◌, ℕ, Bool, List, [], ◌∷◌, ◌++◌, Option, None, slice_index, slice_index_or, slice_set}
+use Rattle.book_base.specs.OperationWord.{low_of, high_of}
+use Rattle.world_core.specs.Layout.{Content, Low, High, Reply, View_entry, Embedded_entry}
 use Rattle.world_core.specs.declared.region.Region.{Region}
 use Rattle.world_core.specs.declared.region.Region.TheVariants.{N, M}
 
@@ -17,16 +18,19 @@ pub record Staged : Type 0 where
   pub place : ℕ
   pub word : ℕ
 
--- A scan under way: its region, whether it is the view's, and the words that it has taken, in order.
+-- A scan under way: its region, whether it is the view's, how many counts its caller had looked at before it began, and the
+-- words that it has taken, in order.
 pub record Scan : Type 0 where
   pub region : Region
   pub is_view : Bool
+  pub since : ℕ
   pub taken : List ℕ
 
--- A cut that a scan of a region gave.
+-- A cut that a scan of a region gave, and how many counts its caller had looked at before that scan began.
 pub record Given : Type 0 where
   pub region : Region
   pub cut : List ℕ
+  pub since : ℕ
 
 -- A count that was looked at.
 pub record Looked : Type 0 where
@@ -42,10 +46,17 @@ pub record Peeked : Type 0 where
   pub place : ℕ
   pub word : ℕ
 
+-- A step on an object word: which one, the word that it found there, and the word that it left there.
+pub record Object_step : Type 0 where
+  pub place : ℕ
+  pub old : ℕ
+  pub new : ℕ
+
 -- The local of a caller: the operations that it announced, and its counts in N and M; its replies, its views and its seen
--- cuts; its phase, the words staged in the row under way, and the scan under way; the cuts that its scans gave; the counts
--- that it has looked at, and the row words that it has peeked. What was staged, looked at and peeked stands newest first,
--- all else oldest first.
+-- cuts; the cuts that its counted rows embed in N and in M; for each of its calls the steps that it made on object words;
+-- its phase, the words staged in the row under way, the cut that this row may embed, and the scan under way; the cuts that
+-- its scans gave; the counts that it has looked at, and the row words that it has peeked. What was staged, looked at and
+-- peeked stands newest first, all else oldest first.
 pub record Local : Type 0 where
   pub operations : List ℕ
   pub announced : ℕ
@@ -53,8 +64,12 @@ pub record Local : Type 0 where
   pub replies : List ℕ
   pub views : List (List ℕ)
   pub seen : List (List ℕ)
+  pub embedded_in_N : List (List ℕ)
+  pub embedded_in_M : List (List ℕ)
+  pub object_steps : List (List Object_step)
   pub phase : Phase
   pub staged : List Staged
+  pub to_embed : Option (List ℕ)
   pub scan : Option Scan
   pub cuts : List Given
   pub looked : List Looked
@@ -70,8 +85,12 @@ fresh =
       replies = [];
       views = [];
       seen = [];
+      embedded_in_N = [];
+      embedded_in_M = [];
+      object_steps = [];
       phase = Announcing;
       staged = [];
+      to_embed = None;
       scan = None;
       cuts = [];
       looked = [];
@@ -83,13 +102,25 @@ abbrev pub own_count : Local → Region → ℕ
 own_count l N = l.announced
 own_count l M = l.published
 
+-- The cuts that the caller's counted rows embed in a region.
+abbrev pub embedded_in : Local → Region → List (List ℕ)
+embedded_in l N = l.embedded_in_N
+embedded_in l M = l.embedded_in_M
+
 -- A caller is idle where it announces next and has staged no word of its row.
 pub record IsIdle (l : Local) : Type 0 where
   pub announcing : l.phase ≡ Announcing
   pub unstaged : l.staged ≡ []
 
--- The word of call k that belongs at a place of its row: its operation, its reply, or an entry of its view.
+-- The word of call k that belongs at a place of its row: a word of its operation, its reply, an entry of its view, or an entry
+-- of a cut that its row embeds.
 abbrev pub word_of : Local → ℕ → Content → ℕ
-word_of l k Operation = slice_index l.operations k
+word_of l k Low = low_of (slice_index l.operations k)
+word_of l k High = high_of (slice_index l.operations k)
 word_of l k Reply = slice_index l.replies k
 word_of l k (View_entry j) = slice_index (slice_index_or l.views k []) j
+word_of l k (Embedded_entry region j) = slice_index (slice_index_or (embedded_in l region) k []) j
+
+-- The object steps of each call, after one more of call k.
+abbrev pub with_step : List (List Object_step) → ℕ → Object_step → List (List Object_step)
+with_step steps k step = slice_set steps k (slice_index_or steps k [] ++ step ∷ [])

@@ -1,8 +1,10 @@
--- What it means that the cut of a scan is the state of its region at one moment of the run (Afek and others 1993).
-use Rattle.std.specs.Prelude.{◌≡◌, ◌<◌, ◌≤◌, slice_index, ℕ, Bool, true, false, not, ◌&&◌, ◌==◌, IsTrue, List, [], ◌∷◌, ◌++◌, map}
+-- What it means that a scan gave a cut in a run, and that the cut is the state of its region at one moment of the run (Afek and
+-- others 1993).
+use Rattle.std.specs.Prelude.{◌≡◌, ℕ, Bool, true, false, not, ◌&&◌, ◌==◌, IsTrue, List, [], ◌∷◌, ◌++◌, map}
 use Rattle.std.specs.List.{list_all, range_with_len}
 use Rattle.world_core.specs.declared.region.Region.{Region}
-use Rattle.world_core.specs.Layout.{Shape}
+use Rattle.world_core.specs.Shape.{Shape}
+use Rattle.world_core.specs.Local.{Given}
 use Rattle.world_core.specs.Event.{Event, Announce, Look, Publish, Opening, Begins_none, Begins_scan, Begins_view, is_same_region}
 use Rattle.world_core.specs.World.{World, Step, local_of, count_of, IsRun, end_of}
 
@@ -36,52 +38,31 @@ gives_up _ = false
 abbrev pub keeps_scan : ℕ → Step → Bool
 keeps_scan who step = not (step.who == who && gives_up step.event)
 
--- The part of a run up to the end of a scan: the steps before it, its first look, the steps between, and its last look.
+-- The part of a run up to the end of a scan: the steps before it, its first look, the steps between, and its last step, which is
+-- a look, or the last peek of a borrowed cut.
 pub record Span : Type 0 where
   pub before : List Step
   pub first : Step
   pub between : List Step
   pub last : Step
 
--- The steps up to the scan's last look, without it; and with it.
+-- The steps up to the scan's last step, without it; and with it.
 abbrev pub up_to_last : Span → List Step
 up_to_last r = r.before ++ r.first ∷ r.between
 
 abbrev pub through_last : Span → List Step
 through_last r = up_to_last r ++ r.last ∷ []
 
--- A scan of a region by a caller spans this part of a run, and gave this cut: its first look begins it, none of the later steps
--- gives it up, and the last one adds the cut to those that the caller's scans gave.
-pub record GivesCut (s : Shape) (who : ℕ) (region : Region) (cut : List ℕ) (r : Span) : Type 0 where
+-- A scan by a caller spans this part of a run, and gave this cut of its region: its first look begins it, none of the later
+-- steps gives it up, and the last one adds the cut to those that the caller's scans gave.
+pub record GivesCut (s : Shape) (who : ℕ) (given : Given) (r : Span) : Type 0 where
   pub run : IsRun s (through_last r)
-  pub begins : IsTrue (begins_scan who region r.first)
+  pub begins : IsTrue (begins_scan who given.region r.first)
   pub keeps : IsTrue (list_all (keeps_scan who) (r.between ++ r.last ∷ []))
-  pub ends : (local_of (end_of s (through_last r)) who).cuts ≡ (local_of (end_of s (up_to_last r)) who).cuts ++ record { region = region; cut = cut } ∷ []
+  pub ends : (local_of (end_of s (through_last r)) who).cuts ≡ (local_of (end_of s (up_to_last r)) who).cuts ++ given ∷ []
 
--- The cut is instantaneous: at some moment after the scan's first look and before its last, the counts of the region were
+-- The cut is instantaneous: at some moment after the scan's first look and before its last step, the counts of the region were
 -- exactly this cut.
-abbrev pub IsInstantaneous : Shape → Region → List ℕ → Span → Type 0
-IsInstantaneous s region cut r =
-    (early late : List Step) × (r.between ≡ early ++ late) × (counts_in s region (end_of s (r.before ++ r.first ∷ early)) ≡ cut)
-
--- The cut of every scan of every run is instantaneous.
-abbrev pub CutsAreInstantaneous : Type 0
-CutsAreInstantaneous =
-    (s : Shape) (who : ℕ) (region : Region) (cut : List ℕ) (r : Span) → GivesCut s who region cut r → IsInstantaneous s region cut r
-
--- The cut of a scan holds all that was counted before the scan began, and nothing that was counted after it ended. Its entry
--- for its own caller is that caller's count.
-abbrev pub CutsHoldEarlier : Type 0
-CutsHoldEarlier =
-    (s : Shape) (who : ℕ) (region : Region) (cut : List ℕ) (r : Span) (j : ℕ) → GivesCut s who region cut r → j < s.callers
-    → count_of s (end_of s r.before) region j ≤ slice_index cut j
-
-abbrev pub CutsHoldNoLater : Type 0
-CutsHoldNoLater =
-    (s : Shape) (who : ℕ) (region : Region) (cut : List ℕ) (r : Span) (j : ℕ) → GivesCut s who region cut r → j < s.callers
-    → slice_index cut j ≤ count_of s (end_of s (through_last r)) region j
-
-abbrev pub CutsHoldOwn : Type 0
-CutsHoldOwn =
-    (s : Shape) (who : ℕ) (region : Region) (cut : List ℕ) (r : Span) → GivesCut s who region cut r
-    → slice_index cut who ≡ count_of s (end_of s (through_last r)) region who
+abbrev pub IsInstantaneous : Shape → Given → Span → Type 0
+IsInstantaneous s given r =
+    (early late : List Step) × (r.between ≡ early ++ late) × (counts_in s given.region (end_of s (r.before ++ r.first ∷ early)) ≡ given.cut)

@@ -1,17 +1,24 @@
 -- How a scan stands: the little that is kept of the words that it has taken.
-use Rattle.std.specs.Prelude.{ℕ, List, Option}
+use Rattle.std.specs.Prelude.{ℕ, zero, suc, List, Option, Some, None}
 use Rattle.world_core.specs.declared.region.Region.{Region}
-use Rattle.world_core.specs.Scan.{last_collect, open_collect, cut_of}
+use Rattle.world_core.specs.declared.course.Course.{Course}
+use Rattle.world_core.specs.Scan.{rounds, round, last_of, open_round, course}
 
--- How many callers there are, which of them scans, and which region; the last whole collect, if there is one; the words of
--- the collect under way; and the cut, if the scan has ended.
+-- The first of this many rounds, if there is one.
+abbrev pub first_of : ℕ → List ℕ → ℕ → Option (List ℕ)
+first_of n taken zero = None
+first_of n taken (suc k) = Some (round n taken 0)
+
+-- How many callers there are, which of them scans, and which region; the first and the last round, if there is one; the words
+-- of the round under way; and what the scan does now.
 pub record Standing : Type 0 where
   pub callers : ℕ
   pub me : ℕ
   pub region : Region
+  pub first : Option (List ℕ)
   pub last : Option (List ℕ)
   pub current : List ℕ
-  pub cut : Option (List ℕ)
+  pub course : Course
 
 -- How a scan stands that has taken these words.
 abbrev pub standing : ℕ → ℕ → Region → List ℕ → Standing
@@ -20,7 +27,8 @@ standing n me region taken =
       callers = n;
       me = me;
       region = region;
-      last = last_collect n taken;
-      current = open_collect n taken;
-      cut = cut_of n taken;
+      first = first_of n taken (rounds n taken);
+      last = last_of n taken (rounds n taken);
+      current = open_round n taken;
+      course = course n taken;
     }

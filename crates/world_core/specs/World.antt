@@ -1,7 +1,8 @@
 -- The world: the words of the table, and one local for each caller. Its runs, and the worlds that they reach.
 use Rattle.std.specs.Prelude.{◌≡◌, ℕ, Bool, true, ◌&&◌, IsTrue, List, [], ◌∷◌, replicate, slice_index, slice_index_or, slice_set}
 use Rattle.world_core.specs.declared.region.Region.{Region}
-use Rattle.world_core.specs.Layout.{Shape, words_of, count_index, place_index}
+use Rattle.world_core.specs.Layout.{count_index, place_index, object_index}
+use Rattle.world_core.specs.Shape.{Shape, words_of}
 use Rattle.world_core.specs.Local.{Local, fresh}
 use Rattle.world_core.specs.Event.{Event, is_allowed, is_loaded, words_after, local_after}
 
@@ -25,11 +26,15 @@ local_of w i = slice_index_or w.locals i fresh
 
 -- The count of a caller in a region.
 abbrev pub count_of : Shape → World → Region → ℕ → ℕ
-count_of s w region i = slice_index w.words (count_index s region i)
+count_of s w region i = slice_index w.words (count_index s.callers region i)
 
 -- The word at a place of a region in row k of a caller.
 abbrev pub row_word : Shape → World → Region → ℕ → ℕ → ℕ → ℕ
-row_word s w region i k place = slice_index w.words (place_index s region i k place)
+row_word s w region i k place = slice_index w.words (place_index s.callers s.cap region i k place)
+
+-- The object word at a place.
+abbrev pub object_word : Shape → World → ℕ → ℕ
+object_word s w place = slice_index w.words (object_index s.callers s.cap place)
 
 -- The world after a step.
 abbrev pub after : Shape → World → Step → World

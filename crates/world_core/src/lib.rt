@@ -1,12 +1,16 @@
 //! The world of the callers as plain data: its events, its runs, and the scan as a pure machine.
 #![tactic(auto)]
 
-pub mod laws;
+mod course;
+mod local;
+mod program;
 mod region;
 mod scan_core;
 pub mod schedules;
 mod want;
 
+pub use local::Local;
+pub use program::{InWorld, Outside, Program, Scrap};
 pub use region::Region;
 pub use scan_core::ScanCore;
 pub use want::Want;

@@ -1,9 +1,11 @@
-ghost use Rattle.std.specs.Prelude.{◌≡◌, ℕ, ◌<◌, ◌≤◌, List, [], ◌∷◌, ◌++◌, length, None, MatchOption};
+ghost use Rattle.std.specs.Prelude.{◌≡◌, ℕ, ◌+◌, ◌<◌, ◌≤◌, Bool, true, false, List, [], ◌∷◌, ◌++◌, length};
 ghost use Rattle.book_base.specs.declared.TheConstants.{MAX_CALLERS};
 ghost use Rattle.world_core.specs.declared.region.Region.{Region};
-ghost use Rattle.world_core.specs.Scan.{wanted, wanted_by, FitsCallers, cut_from};
+ghost use Rattle.world_core.specs.Scan.{wanted, wanted_by, is_done, has_ended, FitsCallers, mover, lent_by, course_by, course_on, IsSteady, IsShort};
 ghost use Rattle.world_core.specs.Standing.{standing};
+ghost use Rattle.world_core.specs.ScanLayout.{FitsRound, FitsCourse};
 
+use crate::course::Course;
 use crate::region::Region;
 use crate::want::Want;
 use book_base::{Cut, MAX_CALLERS};
@@ -11,17 +13,19 @@ use std::marker::Model;
 
 /// A scan of a region by one caller, as a machine that is handed each word that it wants.
 ///
-/// It compares each collect with the one before and ends with two equal ones (Afek and others 1993).
-/// It keeps the last whole collect and the words of the collect under way, and no word before.
-/// Clauses see it as a standing: how a scan stands that has taken some list of words.
+/// It makes collects, and compares each with the one before it: two equal ones end it. Where a caller has
+/// moved twice since the first collect, it ends with the cut that this caller's latest counted row embeds
+/// (Afek and others 1993). It keeps the first and the last whole round and the words of the round under
+/// way. Clauses see it as a standing: how a scan stands that has taken some list of words.
 #[derive(Debug, Drop)]
 pub struct ScanCore {
     me: u32,
     region: Region,
+    first: Option<Cut>,
     last: Option<Cut>,
     current: Cut,
-    looks: u32,
-    cut: Option<Cut>,
+    taken: u32,
+    course: Course,
 }
 
 impl Model for ScanCore {
@@ -45,10 +49,11 @@ impl ScanCore {
         ScanCore {
             me,
             region,
+            first: None,
             last: None,
             current: Cut::zero(n),
-            looks: 0,
-            cut: None,
+            taken: 0,
+            course: Course::Collects,
         }
     }
 
@@ -68,40 +73,79 @@ impl ScanCore {
 
     /// What the scan wants next.
     pub fn next(&self) -> Want
-        ensures now { result ≡ wanted_by self.now.cut self.now.current }
+        ensures now { result ≡ wanted_by self.now.course self.now.current }
+        ensures ended { is_done result ≡ has_ended self.now.course }
         ensures fits { FitsCallers self.now.callers result }
         ensures wanted { (n me : ℕ) (region : Region) (taken : List ℕ) → self.now ≡ standing n me region taken → result ≡ wanted n taken }
     {
-        match self.cut {
-            Some(cut) => Want::Done(cut),
-            None => Want::Look(self.looks),
+        match self.course {
+            Course::Collects => Want::Look(self.taken),
+            Course::Borrows(caller, row) => Want::Peek(caller, row, self.taken),
+            Course::Ends(cut) => Want::Done(cut),
         }
     }
 
     /// Takes the word that the scan wants. It has not ended.
+    ///
+    /// Where counts never fall and the scanning caller's own count stands still, a scan of `n` callers makes
+    /// at most `n + 1` collects, which is `n * (n + 1)` looks, and at most `n` peeks.
     pub fn take(&mut self, word: u64)
-        requires { self.old.cut ≡ None }
-        ensures { (n me : ℕ) (region : Region) (taken : List ℕ) → self.old ≡ standing n me region taken → self.new ≡ standing n me region (taken ++ word ∷ []) }
+        requires { has_ended self.old.course ≡ false }
+        ensures taken { (n me : ℕ) (region : Region) (taken : List ℕ) → self.old ≡ standing n me region taken → self.new ≡ standing n me region (taken ++ word ∷ []) }
+        ensures short { (n me : ℕ) (region : Region) (taken : List ℕ) → self.old ≡ standing n me region taken → IsSteady n me (taken ++ word ∷ []) → IsShort n (taken ++ word ∷ []) }
     {
-        self.current.set(self.looks, word);
-        self.looks += 1;
-        if self.looks == self.current.n() {
-            self.cut = cut_from(&self.last, &self.current);
+        self.current.set(self.taken, word);
+        self.taken += 1;
+        if self.taken == self.current.n() {
+            let first = self.first.unwrap_or(self.current);
+            self.course = course_on(self.course, &first, &self.last, &self.current);
+            self.first = Some(first);
             self.last = Some(self.current);
-            self.looks = 0;
+            self.taken = 0;
         }
     }
 }
 
-// The cut with which the latest collect ends a scan, if it does.
-fn cut_from(last: &Option<Cut>, latest: &Cut) -> Option<Cut>
-    requires { MatchOption last.now (Unit {0}) (λ cut. length cut ≡ length latest.now) }
-    ensures { result ≡ cut_from last.now latest.now }
+// What a scan does after a round, by what it did in it.
+fn course_on(course: Course, first: &Cut, last: &Option<Cut>, latest: &Cut) -> Course
+    requires first { length first.now ≡ length latest.now }
+    requires last { FitsRound (length latest.now) last.now }
+    ensures course { result ≡ course_on first.now last.now latest.now course }
+    ensures fits { FitsCourse (length latest.now) course → FitsCourse (length latest.now) result }
+{
+    match course {
+        Course::Collects => course_by(first, last, latest),
+        Course::Borrows(_, _) => Course::Ends(*latest),
+        Course::Ends(cut) => Course::Ends(cut),
+    }
+}
+
+// What a scan does after a collect.
+fn course_by(first: &Cut, last: &Option<Cut>, latest: &Cut) -> Course
+    requires first { length first.now ≡ length latest.now }
+    requires last { FitsRound (length latest.now) last.now }
+    ensures course { result ≡ course_by first.now last.now latest.now }
+    ensures fits { FitsCourse (length latest.now) result }
 {
     match last {
-        Some(before) if before.equals(latest) => Some(*latest),
-        _ => None,
+        None => Course::Collects,
+        Some(before) if before.equals(latest) => Course::Ends(*latest),
+        Some(_) => lent_by(first, latest),
     }
+}
+
+// The row that a caller lends which has moved twice, if there is one.
+fn lent_by(first: &Cut, latest: &Cut) -> Course
+    requires first { length first.now ≡ length latest.now }
+    ensures course { result ≡ lent_by latest.now (mover first.now latest.now) }
+    ensures fits { FitsCourse (length latest.now) result }
+{
+    for i in 0..latest.n() {
+        if latest.get(i).saturating_sub(first.get(i)) > 1 {
+            return Course::Borrows(i, latest.get(i).saturating_sub(1));
+        }
+    }
+    Course::Collects
 }
 
 #[cfg(test)]
@@ -109,20 +153,25 @@ mod tests {
     use super::*;
     use std::test::Fail;
 
-    // The cut with which a scan ends exactly at the last of these words.
-    fn cut_of(n: u32, words: &[u64]) -> Option<Cut>
-        requires some { 1 < n }
+    // How many looks and peeks a scan makes that ends exactly at the last of these words, and its cut.
+    fn scan_of(n: u32, words: &[u64]) -> Option<(u32, u32, Cut)>
+        requires some { 0 < n }
         requires few { n ≤ MAX_CALLERS }
+        requires short { length words.now ≤ 100 }
     {
-        let mut scan = ScanCore::begin(n, 1, Region::N);
+        let mut scan = ScanCore::begin(n, n - 1, Region::N);
+        let mut looks = 0u32;
+        let mut peeks = 0u32;
         for &word in words {
             match scan.next() {
                 Want::Done(_) => return None,
-                _ => scan.take(word),
+                Want::Look(_) => looks = looks.saturating_add(1),
+                Want::Peek(_, _, _) => peeks = peeks.saturating_add(1),
             }
+            scan.take(word);
         }
         if let Want::Done(cut) = scan.next() {
-            Some(cut)
+            Some((looks, peeks, cut))
         } else {
             None
         }
@@ -130,19 +179,30 @@ mod tests {
 
     #[test]
     fn two_equal_collects(rt: HostRuntime) -> Result<(), Fail> {
-        let cut = cut_of(2, &[0, 0, 0, 0]).ok_or("no cut")?;
+        let (looks, peeks, cut) = scan_of(2, &[0, 0, 1, 0, 1, 0]).ok_or("no cut")?;
+        assert_eq!(rt; (looks, peeks), (6, 0));
         assert_eq!(rt; cut.n(), 2);
-        assert_eq!(rt; cut.get(0), 0);
+        assert_eq!(rt; cut.get(0), 1);
         assert_eq!(rt; cut.get(1), 0);
         Ok(())
     }
 
     #[test]
-    fn a_move_between_collects(rt: HostRuntime) -> Result<(), Fail> {
-        let cut = cut_of(2, &[0, 0, 1, 0, 1, 0]).ok_or("no cut")?;
-        assert_eq!(rt; cut.n(), 2);
+    fn a_caller_alone(rt: HostRuntime) -> Result<(), Fail> {
+        let (looks, peeks, _) = scan_of(1, &[3, 3]).ok_or("no cut")?;
+        assert_eq!(rt; (looks, peeks), (2, 0));
+        Ok(())
+    }
+
+    #[test]
+    fn a_borrowed_cut(rt: HostRuntime) -> Result<(), Fail> {
+        let words = [0, 0, 0, 1, 0, 0, 1, 1, 0, 2, 1, 0, 1, 1, 0];
+        let (looks, peeks, cut) = scan_of(3, &words).ok_or("no cut")?;
+        assert_eq!(rt; (looks, peeks), (12, 3));
+        assert_eq!(rt; cut.n(), 3);
         assert_eq!(rt; cut.get(0), 1);
-        assert_eq!(rt; cut.get(1), 0);
+        assert_eq!(rt; cut.get(1), 1);
+        assert_eq!(rt; cut.get(2), 0);
         Ok(())
     }
 }

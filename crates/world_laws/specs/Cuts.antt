@@ -1,0 +1,45 @@
+-- What holds of the cuts that scans give, borrowed cuts included (Afek and others 1993).
+use Rattle.std.specs.Prelude.{◌≡◌, ℕ, ◌<◌, List, [], ◌++◌, length, Some, slice_get, slice_index_or}
+use Rattle.book_base.specs.Cut.{AreComparable}
+use Rattle.world_core.specs.declared.region.Region.{Region}
+use Rattle.world_core.specs.Shape.{Shape}
+use Rattle.world_core.specs.Local.{Local, Given, own_count, embedded_in}
+use Rattle.world_core.specs.World.{Step, local_of, IsRun, end_of}
+use Rattle.world_core.specs.Snapshot.{counts_in}
+use Rattle.world_core.specs.Calls.{AreTogether, local_at}
+
+-- At some moment of the run the counts of the region were exactly this cut.
+abbrev pub WereCounts : Shape → List Step → Region → List ℕ → Type 0
+WereCounts s steps region cut = (early later : List Step) × (steps ≡ early ++ later) × (counts_in s region (end_of s early) ≡ cut)
+
+-- The cut that a scan gave was the counts of its region at one moment.
+abbrev pub CutsWereCounts : Type 0
+CutsWereCounts =
+    (s : Shape) (steps : List Step) (i p : ℕ) (given : Given) → IsRun s steps → i < s.callers
+    → slice_get (local_of (end_of s steps) i).cuts p ≡ Some given → WereCounts s steps given.region given.cut
+
+-- So was the cut that a counted row embeds. Its own entry is the number of the row: so that moment was after the row before was
+-- counted, and before this one was.
+abbrev pub EmbeddedCutsWereCounts : Type 0
+EmbeddedCutsWereCounts =
+    (s : Shape) (steps : List Step) (i k : ℕ) (region : Region) → IsRun s steps → i < s.callers
+    → k < own_count (local_of (end_of s steps) i) region → WereCounts s steps region (slice_index_or (embedded_in (local_of (end_of s steps) i) region) k [])
+
+-- Any two cuts that scans of one region gave, to whichever callers, are comparable.
+abbrev pub CutsAreComparable : Type 0
+CutsAreComparable =
+    (s : Shape) (steps : List Step) (i j p q : ℕ) (a b : Given) → IsRun s steps → i < s.callers → j < s.callers
+    → slice_get (local_of (end_of s steps) i).cuts p ≡ Some a → slice_get (local_of (end_of s steps) j).cuts q ≡ Some b → a.region ≡ b.region
+    → AreComparable a.cut b.cut
+
+-- The same of the locals of one reachable world; and of any two views in them.
+abbrev pub GivenCutsAreComparable : Type 0
+GivenCutsAreComparable =
+    (s : Shape) (locals : List Local) (i j p q : ℕ) (a b : Given) → AreTogether s locals → i < s.callers → j < s.callers
+    → slice_get (local_at locals i).cuts p ≡ Some a → slice_get (local_at locals j).cuts q ≡ Some b → a.region ≡ b.region → AreComparable a.cut b.cut
+
+abbrev pub ViewsAreComparable : Type 0
+ViewsAreComparable =
+    (s : Shape) (locals : List Local) (i j k m : ℕ) → AreTogether s locals → i < s.callers → j < s.callers
+    → k < length (local_at locals i).views → m < length (local_at locals j).views
+    → AreComparable (slice_index_or (local_at locals i).views k []) (slice_index_or (local_at locals j).views m [])

@@ -1,0 +1,53 @@
+-- What holds along every run.
+use Rattle.std.specs.Prelude.{◌≡◌, ℕ, ◌<◌, ◌≤◌, ◌==◌, Bool, not, IsTrue, List, ◌++◌}
+use Rattle.std.specs.List.{list_all}
+use Rattle.world_core.specs.declared.region.Region.{Region}
+use Rattle.world_core.specs.Layout.{places}
+use Rattle.world_core.specs.Shape.{Shape}
+use Rattle.world_core.specs.World.{World, Step, start, local_of, count_of, row_word, after, is_possible, IsRun, end_of, IsReachable}
+use Rattle.world_core.specs.Agreement.{Agrees}
+
+-- None of these steps is one of this caller.
+abbrev pub are_of_others : ℕ → List Step → Bool
+are_of_others i steps = list_all (λ (step : Step). not (step.who == i)) steps
+
+-- The start is reachable, and so is the world after each step that may happen in a reachable world.
+abbrev pub StartIsReachable : Type 0
+StartIsReachable = (s : Shape) → IsReachable s (start s)
+
+abbrev pub StepsReach : Type 0
+StepsReach = (s : Shape) (w : World) (step : Step) → IsReachable s w → IsTrue (is_possible s w step) → IsReachable s (after s w step)
+
+-- Counts never fall along a run.
+abbrev pub CountsNeverFall : Type 0
+CountsNeverFall =
+    (s : Shape) (before later : List Step) (region : Region) (i : ℕ) → IsRun s (before ++ later) → i < s.callers
+    → count_of s (end_of s before) region i ≤ count_of s (end_of s (before ++ later)) region i
+
+-- A row below its count never changes.
+abbrev pub CountedRowsStay : Type 0
+CountedRowsStay =
+    (s : Shape) (before later : List Step) (region : Region) (i k place : ℕ) → IsRun s (before ++ later) → i < s.callers
+    → k < count_of s (end_of s before) region i → place < places s.callers region
+    → row_word s (end_of s (before ++ later)) region i k place ≡ row_word s (end_of s before) region i k place
+
+-- Only a caller's own events change its counts, its rows and its local.
+abbrev pub CountsAreOwn : Type 0
+CountsAreOwn =
+    (s : Shape) (before later : List Step) (region : Region) (i : ℕ) → IsRun s (before ++ later) → i < s.callers → IsTrue (are_of_others i later)
+    → count_of s (end_of s (before ++ later)) region i ≡ count_of s (end_of s before) region i
+
+abbrev pub RowsAreOwn : Type 0
+RowsAreOwn =
+    (s : Shape) (before later : List Step) (region : Region) (i k place : ℕ) → IsRun s (before ++ later) → i < s.callers → IsTrue (are_of_others i later)
+    → k < s.cap → place < places s.callers region
+    → row_word s (end_of s (before ++ later)) region i k place ≡ row_word s (end_of s before) region i k place
+
+abbrev pub LocalsAreOwn : Type 0
+LocalsAreOwn =
+    (s : Shape) (before later : List Step) (i : ℕ) → IsRun s (before ++ later) → i < s.callers → IsTrue (are_of_others i later)
+    → local_of (end_of s (before ++ later)) i ≡ local_of (end_of s before) i
+
+-- The local of each caller agrees with the words of the table.
+abbrev pub LocalsAgree : Type 0
+LocalsAgree = (s : Shape) (steps : List Step) (i : ℕ) → IsRun s steps → i < s.callers → Agrees s (end_of s steps).words i (local_of (end_of s steps) i)

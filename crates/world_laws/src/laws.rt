@@ -1,0 +1,38 @@
+//! What holds along every run.
+
+ghost use Rattle.world_laws.specs.Runs.{StartIsReachable, StepsReach, CountsNeverFall, CountedRowsStay, CountsAreOwn, RowsAreOwn, LocalsAreOwn, LocalsAgree};
+
+/// The worlds that runs reach are the start and what each possible step makes of such a world.
+#[tactic(auto, using(crate::proofs::Running::start_is_reachable, crate::proofs::Running::steps_reach))]
+pub fn runs_go_on()
+    ensures start { StartIsReachable }
+    ensures step { StepsReach }
+{}
+
+/// Counts never fall along a run.
+#[tactic(auto, using(crate::proofs::Running::counts_never_fall))]
+pub fn counts_never_fall()
+    ensures { CountsNeverFall }
+{}
+
+/// A row below its count never changes.
+#[tactic(auto, using(crate::proofs::Running::counted_rows_stay))]
+pub fn counted_rows_stay()
+    ensures { CountedRowsStay }
+{}
+
+/// A caller's own words and its local are changed by its own events alone.
+#[tactic(auto, using(crate::proofs::Running::counts_are_own, crate::proofs::Running::rows_are_own, crate::proofs::Running::locals_are_own))]
+pub fn own_events_alone()
+    ensures counts { CountsAreOwn }
+    ensures rows { RowsAreOwn }
+    ensures local { LocalsAreOwn }
+{}
+
+/// The phase, the counts and the lists of a local agree with each other and with the words: the own
+/// counts are the count words, each announced operation, each published record and each embedded cut
+/// stands in its row, and each staged word stands in the row under way.
+#[tactic(auto, using(crate::proofs::Running::locals_agree))]
+pub fn locals_agree()
+    ensures { LocalsAgree }
+{}

@@ -1,0 +1,10 @@
+//! What a view holds, by the order of a run.
+
+ghost use Rattle.world_laws.specs.Views.{ViewsHoldEarlier, ViewsHoldNoLater};
+
+/// The view of a call holds every call that was invoked before its own call returned, and none that is
+/// invoked after the view was taken (Castañeda and Rodríguez 2023).
+pub fn views_hold_calls_by_time()
+    ensures earlier { ViewsHoldEarlier }
+    ensures no_later { ViewsHoldNoLater }
+{}
