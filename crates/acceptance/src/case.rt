@@ -1,5 +1,5 @@
 use anyhow::{Result, anyhow};
-use selfcheck::{MemorySink, MemorySource, Sink, Source, Status, SteadySource};
+use selfcheck::{MemorySink, MemorySource, Sink, Source, SteadySource, read_all};
 use std::alloc::Global;
 use std::thread::Threads;
 
@@ -9,6 +9,7 @@ pub struct Case {
     pub name: String,
     pub words: Vec<String>,
     pub input: Vec<u8>,
+    pub fronts: bool,
     pub source_fails: Vec<u64>,
     pub source_most: usize,
     pub is_steady: bool,
@@ -16,6 +17,7 @@ pub struct Case {
     pub sink_most: usize,
     pub sink_room: usize,
     pub wanted: Vec<u8>,
+    pub left: Option<usize>,
     pub status: u8,
 }
 
@@ -33,6 +35,7 @@ impl Case {
             name: String::from_str(alloc, name)?,
             words: Vec::new(alloc),
             input: Vec::new(alloc),
+            fronts: false,
             source_fails: Vec::new(alloc),
             source_most: usize::MAX,
             is_steady: false,
@@ -40,48 +43,72 @@ impl Case {
             sink_most: usize::MAX,
             sink_room: 1 << 20,
             wanted: Vec::new(alloc),
+            left: None,
             status: 0,
         })
     }
 
-    /// Runs the top call on the case.
-    pub fn run<R: AllocGlobal + Threads + Sync>(self, rt: &R) -> Result<Outcome> {
+    /// Runs the top call on the case: on its input, or on each front of it that isn't whole.
+    pub fn run<R: AllocGlobal + Threads + Sync>(&self, rt: &R) -> Result<Outcome> {
+        if !self.fronts {
+            return self.run_on(rt, &self.input, &self.wanted);
+        }
+        for count in 0..self.input.len() {
+            let front = &self.input[..count];
+            let outcome = self.run_on(rt, front, refusal_of_front(rt.alloc(), front)?.as_bytes())?;
+            if !outcome.passed {
+                return Ok(outcome);
+            }
+        }
+        Ok(Outcome {
+            passed: true,
+            report: String::new(rt.alloc()),
+        })
+    }
+
+    fn run_on<R: AllocGlobal + Threads + Sync>(
+        &self,
+        rt: &R,
+        input: &[u8],
+        wanted: &[u8],
+    ) -> Result<Outcome> {
         let alloc = rt.alloc();
-        let Case {
-            name,
-            words,
-            input,
-            source_fails,
-            source_most,
-            is_steady,
-            sink_fails,
-            sink_most,
-            sink_room,
-            wanted,
-            status,
-        } = self;
-        let mut sink = MemorySink::new(alloc, sink_room, sink_fails, sink_most.max(1)).map_err(
-            |_| anyhow!("no memory for a sink"),
-        )?;
-        let answer = if is_steady {
-            let mut source = SteadySource::new(input);
-            answer(rt, &words, &mut source, &mut sink)
+        let input = input.to_vec(alloc)?;
+        let fails = self.sink_fails.clone()?;
+        let mut sink = MemorySink::new(alloc, self.sink_room, fails, self.sink_most.max(1))
+            .map_err(|_| anyhow!("no memory for a sink"))?;
+        let (status, left) = if self.is_steady {
+            self.answer(rt, &mut SteadySource::new(input), &mut sink)?
         } else {
-            let mut source = MemorySource::new(input, source_fails, source_most.max(1));
-            answer(rt, &words, &mut source, &mut sink)
+            let fails = self.source_fails.clone()?;
+            let mut source = MemorySource::new(input, fails, self.source_most.max(1));
+            self.answer(rt, &mut source, &mut sink)?
         };
-        let passed = answer == status && sink.bytes() == wanted.as_slice();
+        let passed = status == self.status && left == self.left && sink.bytes() == wanted;
         let text = String::from_utf8_lossy(alloc, sink.bytes())?;
-        let report = format!(in alloc; "{name}: status {answer} for {status}, and wrote {text:?}")?;
+        let report = format!(in alloc; "{}: status {status} for {}, {left:?} bytes left for {:?}, and wrote {text:?}",
+            self.name, self.status, self.left)?;
         Ok(Outcome { passed, report })
+    }
+
+    // The status, and how many bytes the source has left, where that is wanted.
+    fn answer<R: AllocGlobal + Threads + Sync, S: Source, K: Sink>(
+        &self,
+        rt: &R,
+        source: &mut S,
+        sink: &mut K,
+    ) -> Result<(u8, Option<usize>)> {
+        let status = selfcheck::selfcheck(rt, rt.alloc(), &self.words, source, sink).code();
+        if self.left.is_none() {
+            return Ok((status, None));
+        }
+        let rest = read_all(rt.alloc(), source).map_err(|_| anyhow!("the rest can't be read"))?;
+        Ok((status, Some(rest.len())))
     }
 }
 
-fn answer<R: AllocGlobal + Threads + Sync, S: Source, K: Sink>(
-    rt: &R,
-    words: &[String],
-    source: &mut S,
-    sink: &mut K,
-) -> u8 {
-    selfcheck::selfcheck(rt, rt.alloc(), words, source, sink).code()
+// The answer to a front of a text that isn't whole: the line that is cut is the one behind the last line feed.
+fn refusal_of_front(alloc: Global, front: &[u8]) -> Result<String> {
+    let line_feeds = front.iter().filter(|byte| **byte == b'\n').count();
+    Ok(format!(in alloc; "refused {} Cut\n", line_feeds.saturating_add(1))?)
 }

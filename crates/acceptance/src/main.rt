@@ -9,6 +9,8 @@
 //! | `in-cut TEXT` | a piece of the input without a line feed |
 //! | `in-byte N` | one byte of the input, as a number |
 //! | `in-fill COUNT` | so many bytes `x` of the input |
+//! | `in-calls CALLER COUNT OP` | so many lines of the input: the caller, a number that counts from 0, and the operation |
+//! | `fronts` | each front of the input that isn't whole is tried in its place: it is refused as a text that is cut |
 //! | `source-fails K ..` | the reads that fail, counted from 1 |
 //! | `source-most N` | the most bytes that a read gives |
 //! | `source-steady` | the input comes from the source that never fails |
@@ -17,6 +19,7 @@
 //! | `sink-room N` | the room of the sink |
 //! | `out LINE` | a line of the wanted output, with its line feed |
 //! | `out-cut TEXT` | a piece of the wanted output without a line feed |
+//! | `left N` | how many bytes the source is to have left |
 //! | `status N` | the wanted status |
 //!
 //! Empty lines and lines that begin with `#` are passed over. A line is printed for each case that fails, with what

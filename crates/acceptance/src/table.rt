@@ -1,6 +1,7 @@
 use crate::case::Case;
 use anyhow::{Context, Result, anyhow};
 use std::alloc::Global;
+use std::io::Write;
 
 /// Takes a line of the table that says something of a case.
 pub fn take_line(alloc: Global, case: &mut Case, line: &str) -> Result<()> {
@@ -17,6 +18,11 @@ pub fn take_line(alloc: Global, case: &mut Case, line: &str) -> Result<()> {
             Ok(())
         }
         "in-fill" => take_fill(&mut case.input, value),
+        "in-calls" => take_calls(&mut case.input, value),
+        "fronts" => {
+            case.fronts = true;
+            Ok(())
+        }
         "source-fails" => take_numbers(&mut case.source_fails, value),
         "source-most" => set_size(&mut case.source_most, value),
         "source-steady" => {
@@ -28,6 +34,10 @@ pub fn take_line(alloc: Global, case: &mut Case, line: &str) -> Result<()> {
         "sink-room" => set_size(&mut case.sink_room, value),
         "out" => take_bytes(&mut case.wanted, value, "\n"),
         "out-cut" => take_bytes(&mut case.wanted, value, ""),
+        "left" => {
+            case.left = Some(value.parse::<usize>().context("a number of bytes")?);
+            Ok(())
+        }
         "status" => {
             case.status = value.parse::<u8>().context("a status")?;
             Ok(())
@@ -52,6 +62,15 @@ fn take_bytes(bytes: &mut Vec<u8>, value: &str, end: &str) -> Result<()> {
 fn take_fill(bytes: &mut Vec<u8>, value: &str) -> Result<()> {
     for _ in 0..value.parse::<u64>().context("a count")? {
         bytes.push(b'x')?;
+    }
+    Ok(())
+}
+
+fn take_calls(bytes: &mut Vec<u8>, value: &str) -> Result<()> {
+    let (caller, rest) = value.split_once(' ').context("a caller")?;
+    let (count, operation) = rest.split_once(' ').context("a count")?;
+    for number in 0..count.parse::<u64>().context("a count")? {
+        writeln!(bytes, "{caller} {number} {operation}")?;
     }
     Ok(())
 }

@@ -1,3 +1,4 @@
+pub mod CommandLemmas
 pub mod InputLemmas
 pub mod OutputLemmas
 pub mod ToldLemmas

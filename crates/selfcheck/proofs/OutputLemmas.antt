@@ -1,112 +1,217 @@
--- Lemmas on command words and on how the program ends.
-use Rattle.std.proofs.Common.{◌≡◌, ◌⊎◌, ℕ, ◌+◌, ◌<◌, ◌≤◌, List, [], ◌∷◌, length, get_or, Option, Some, None, IfSome, String, Global, refl, sym, ap, ◌∙◌, subst, arith, inl, inr, take_all}
+-- Lemmas on the outputs of commands and on how the program ends.
+use Rattle.std.proofs.Common.{◌≡◌, ◌⊎◌, ℕ, ◌≤◌, List, [], length, Option, Some, None, String, Global, refl, sym, ap, ◌∙◌, subst, arith, inl, inr, codes}
 use Rattle.std.specs.Io.KnownBytes.{Appends}
+use Rattle.std.proofs.KnownBytes.{Keeps-refl}
+use Rattle.book_base.specs.declared.fault.TextFault.{TextFault}
+use Rattle.book_text.proofs.Readings.{one_first_fault}
+use Rattle.text_fields.specs.declared.version.Version.TheVariants.{Second}
+use Rattle.selfcheck.specs.declared.command.Command.{Command}
+use Rattle.selfcheck.specs.declared.command.Command.TheVariants.{Verify}
 use Rattle.selfcheck.specs.declared.status.Status.{Status}
 use Rattle.selfcheck.specs.declared.status.Status.TheVariants.{Fine, Found, Usage, Refused, ReadFault, WriteFault, NoMemory}
 use Rattle.selfcheck.specs.declared.TheConstants.{INPUT_LIMIT}
-use Rattle.selfcheck.specs.Input.{IsBookInput, IsLegalInput, IsIllegalInput}
-use Rattle.selfcheck.specs.Output.{IsVerifyOutput, IsOutput, Reads, Ends, IsUnfinished}
-use Rattle.selfcheck.specs.Told.{HasRead, AppendsPart, read_of}
-use Rattle.selfcheck.proofs.InputLemmas.{IsBookInput-from_legal, IsBookInput-from_illegal, legal_or_illegal}
+use Rattle.selfcheck.specs.Command.{command_of}
+use Rattle.selfcheck.specs.Input.{refusal_text}
+use Rattle.selfcheck.specs.Output.{Form, BookForm, form_of, IsTextOf, IsFirstFaultOf, IsTaken, IsVerdict, IsAnswerOf, IsRefusal, IsOutputOf, HasOneStatus, IsDetermined, RefuseWhatIsNotTaken, IsOutput, ReadsFor, Reads, Ends, EndsWriting, IsUnfinished, input_of}
+use Rattle.selfcheck.specs.Told.{AppendsPart}
+use Rattle.selfcheck.proofs.InputLemmas.{IsBookInput-from_legal, IsBookInput-from_illegal, legal_or_illegal, book_or_fault, one_refusal}
 
--- a list of one word
-pub one_word : (words : List (String Global)) (word : String Global) → length words ≡ 1 → word ≡ get_or words 0 word → words ≡ word ∷ []
-one_word [] word one at = absurd (omega arith)
-one_word (x ∷ []) word one at = ap (λ w. w ∷ []) (sym at)
-one_word (x ∷ y ∷ ws) word one at = absurd (omega arith)
+-- ---- forms of texts: one case a form
 
--- the program ends with the status of the output that it has written whole
-pub Ends-whole : (words : List (String Global)) (status : Status) (old new taken taken' : Option (List ℕ)) (bytes text : List ℕ)
-    → Reads words old new bytes → IsOutput words bytes status text → Appends taken taken' text → Ends words status old new taken taken'
-Ends-whole words Fine old new taken taken' bytes text reads output whole = (bytes, text, reads, output, whole)
-Ends-whole words Found old new taken taken' bytes text reads output whole = (bytes, text, reads, output, whole)
-Ends-whole words Usage old new taken taken' bytes text reads output whole = (bytes, text, reads, output, whole)
-Ends-whole words Refused old new taken taken' bytes text reads output whole = (bytes, text, reads, output, whole)
-Ends-whole words ReadFault old new taken taken' bytes text reads output whole = absurd (elim output [ inl right ↦ right.1 | inr wrong ↦ cc wrong.1 ])
-Ends-whole words WriteFault old new taken taken' bytes text reads output whole = absurd (elim output [ inl right ↦ right.1 | inr wrong ↦ cc wrong.1 ])
-Ends-whole words NoMemory old new taken taken' bytes text reads output whole = absurd (elim output [ inl right ↦ right.1 | inr wrong ↦ cc wrong.1 ])
+-- a text of the form has no first fault
+text_or_fault : (form : Form) (bytes : List ℕ) (fault : TextFault) → IsTextOf form bytes → IsFirstFaultOf form bytes fault → ⊥
+text_or_fault BookForm bytes fault book first = book_or_fault bytes fault book first
 
--- the program ends with the status of the output that it has written whole, or with a fault where it wrote a part of it
-pub Ends-written : {P : Type 0} (words : List (String Global)) (status result : Status) (old new taken taken' : Option (List ℕ)) (bytes text : List ℕ)
-    → Reads words old new bytes → IsOutput words bytes status text
-    → ((result ≡ status) × Appends taken taken' text) ⊎ ((result ≡ WriteFault) × AppendsPart taken taken' text × P) → Ends words result old new taken taken'
-Ends-written words status result old new taken taken' bytes text reads output (inl whole) =
-    rw whole.0 (Ends-whole words status old new taken taken' bytes text reads output whole.1)
-Ends-written words status result old new taken taken' bytes text reads output (inr part) =
-    rw part.0 (bytes, status, text, reads, output, part.1)
+-- bytes have one first fault
+one_fault_of : (form : Form) (bytes : List ℕ) (a b : TextFault) → IsFirstFaultOf form bytes a → IsFirstFaultOf form bytes b → a ≡ b
+one_fault_of BookForm bytes a b p q = one_first_fault Second bytes a b p q
 
--- the three outputs of `verify`
-verify_cases : (bytes : List ℕ) (status : Status) (text : List ℕ) → IsVerifyOutput bytes status text
-    → ((status ≡ Fine) × (length bytes ≤ INPUT_LIMIT) × IsLegalInput bytes)
-    ⊎ (((status ≡ Found) × (length bytes ≤ INPUT_LIMIT) × IsIllegalInput bytes)
-    ⊎ ((status ≡ Refused) × ((INPUT_LIMIT < length bytes) ⊎ ¬ IsBookInput bytes)))
-verify_cases bytes Fine text output = inl (refl, output.0, output.1)
-verify_cases bytes Found text output = inr (inl (refl, output.0, output.1))
-verify_cases bytes Refused text output = inr (inr (refl, output.0))
-verify_cases bytes Usage text output = absurd output
-verify_cases bytes ReadFault text output = absurd output
-verify_cases bytes WriteFault text output = absurd output
-verify_cases bytes NoMemory text output = absurd output
+-- ---- what commands answer: one case a command
 
--- the text of a book that fits isn't refused
-not_refused : (bytes : List ℕ) → length bytes ≤ INPUT_LIMIT → IsBookInput bytes → (INPUT_LIMIT < length bytes) ⊎ ¬ IsBookInput bytes → ⊥
-not_refused bytes short book (inl long) = omega arith
-not_refused bytes short book (inr never) = never book
+-- an answer has one of the two statuses that say that the work is done
+answer_statuses : (command : Command) (bytes : List ℕ) (status : Status) (text : List ℕ) → IsAnswerOf command bytes status text → (status ≡ Fine) ⊎ (status ≡ Found)
+answer_statuses Verify bytes Fine text answer = inl refl
+answer_statuses Verify bytes Found text answer = inr refl
+answer_statuses Verify bytes _ text answer = absurd answer
 
--- the bytes read have one output
-status_of : (bytes : List ℕ) (status other : Status) (text text' : List ℕ) → IsVerifyOutput bytes status text → IsVerifyOutput bytes other text' → status ≡ other
-status_of bytes status other text text' output output' =
-    elim (verify_cases bytes status text output) [
-      | inl a ↦ elim (verify_cases bytes other text' output') [
-        | inl b ↦ a.0 ∙ sym b.0
-        | inr rest ↦ elim rest [
-          | inl b ↦ absurd (legal_or_illegal bytes a.2 b.2)
-          | inr b ↦ absurd (not_refused bytes a.1 (IsBookInput-from_legal bytes a.2) b.1)
-        ]
+-- what is answered is an input of the wanted form
+answered_is_wanted : (command : Command) (bytes : List ℕ) (status : Status) (text : List ℕ) → IsAnswerOf command bytes status text → IsTextOf (form_of command) bytes
+answered_is_wanted Verify bytes Fine text answer = IsBookInput-from_legal bytes answer.0
+answered_is_wanted Verify bytes Found text answer = IsBookInput-from_illegal bytes answer.0
+answered_is_wanted Verify bytes _ text answer = absurd answer
+
+-- ---- outputs
+
+-- an output answers an input that the command takes, or refuses one
+output_cases : (command : Command) (bytes : List ℕ) (status : Status) (text : List ℕ) → IsOutputOf command bytes status text
+    → ((length bytes ≤ INPUT_LIMIT) × IsAnswerOf command bytes status text) ⊎ ((status ≡ Refused) × IsRefusal command bytes text)
+output_cases command bytes Refused text output = inr (refl, output)
+output_cases command bytes _ text output = inl output
+
+-- what is taken isn't refused
+taken_or_refused : (command : Command) (bytes text : List ℕ) → IsTaken command bytes → IsRefusal command bytes text → ⊥
+taken_or_refused command bytes text taken refusal =
+    elim refusal.1 [ inl long ↦ omega (arith, taken.0, long.0) | inr short ↦ text_or_fault (form_of command) bytes refusal.0 taken.1 short.1 ]
+
+-- an output refuses the input exactly where the command doesn't take it
+pub refuse_what_is_not_taken : RefuseWhatIsNotTaken
+refuse_what_is_not_taken command bytes status text output =
+    elim (output_cases command bytes status text output) [
+      | inl a ↦ (
+        λ e. absurd (elim (answer_statuses command bytes status text a.1) [ inl fine ↦ cc (e, fine) | inr found ↦ cc (e, found) ]),
+        λ untaken. absurd (untaken (a.0, answered_is_wanted command bytes status text a.1)),
+      )
+      | inr a ↦ (λ _ taken. taken_or_refused command bytes text taken a.1, λ _. a.0)
+    ]
+
+-- an output has been written where the program ends with its status
+finished : (command : Command) (bytes : List ℕ) (status : Status) (text : List ℕ) → IsOutputOf command bytes status text → IsUnfinished status → ⊥
+finished command bytes ReadFault text output unfinished = elim (answer_statuses command bytes ReadFault text output.1) [ inl e ↦ cc e | inr e ↦ cc e ]
+finished command bytes WriteFault text output unfinished = elim (answer_statuses command bytes WriteFault text output.1) [ inl e ↦ cc e | inr e ↦ cc e ]
+finished command bytes NoMemory text output unfinished = elim (answer_statuses command bytes NoMemory text output.1) [ inl e ↦ cc e | inr e ↦ cc e ]
+finished command bytes _ text output (inl e) = cc e
+finished command bytes _ text output (inr (inl e)) = cc e
+finished command bytes _ text output (inr (inr e)) = cc e
+
+-- an input is refused in one way
+one_refusal_text : (command : Command) (bytes text text' : List ℕ) → IsRefusal command bytes text → IsRefusal command bytes text' → text ≡ text'
+one_refusal_text command bytes text text' a b =
+    let same : a.0 ≡ b.0 = one_refusal (IsFirstFaultOf (form_of command)) bytes a.0 b.0 (one_fault_of (form_of command) bytes) a.1 b.1 in
+    a.2 ∙ ap refusal_text same ∙ sym b.2
+
+-- a command whose answers the bytes determine has one output for them
+IsDetermined-from_answers : (command : Command)
+    → ((bytes : List ℕ) (status other : Status) (text text' : List ℕ) → IsAnswerOf command bytes status text → IsAnswerOf command bytes other text' → (status ≡ other) × (text ≡ text'))
+    → IsDetermined command
+IsDetermined-from_answers command one bytes status other text text' output output' =
+    elim (output_cases command bytes status text output) [
+      | inl a ↦ elim (output_cases command bytes other text' output') [
+        | inl b ↦ one bytes status other text text' a.1 b.1
+        | inr b ↦ absurd (taken_or_refused command bytes text' (a.0, answered_is_wanted command bytes status text a.1) b.1)
       ]
-      | inr first ↦ elim first [
-        | inl a ↦ elim (verify_cases bytes other text' output') [
-          | inl b ↦ absurd (legal_or_illegal bytes b.2 a.2)
-          | inr rest ↦ elim rest [
-            | inl b ↦ a.0 ∙ sym b.0
-            | inr b ↦ absurd (not_refused bytes a.1 (IsBookInput-from_illegal bytes a.2) b.1)
-          ]
-        ]
-        | inr a ↦ elim (verify_cases bytes other text' output') [
-          | inl b ↦ absurd (not_refused bytes b.1 (IsBookInput-from_legal bytes b.2) a.1)
-          | inr rest ↦ elim rest [
-            | inl b ↦ absurd (not_refused bytes b.1 (IsBookInput-from_illegal bytes b.2) a.1)
-            | inr b ↦ a.0 ∙ sym b.0
-          ]
-        ]
+      | inr a ↦ elim (output_cases command bytes other text' output') [
+        | inl b ↦ absurd (taken_or_refused command bytes text (b.0, answered_is_wanted command bytes other text' b.1) a.1)
+        | inr b ↦ (a.0 ∙ sym b.0, one_refusal_text command bytes text text' a.1 b.1)
       ]
     ]
 
--- the status is that of the output for the bytes that the source held
-pub exact-from_read : {P Q R : Type 0} (old new : Option (List ℕ)) (bytes : List ℕ) (status result : Status) (text : List ℕ)
-    → HasRead old new bytes → IsVerifyOutput bytes status text → ((result ≡ status) × P) ⊎ ((result ≡ WriteFault) × Q × R)
-    → IfSome old (λ held. (other : Status) (text' : List ℕ) → IsVerifyOutput (read_of held) other text' → (result ≡ other) ⊎ IsUnfinished result)
-exact-from_read None new bytes status result text read output written = tt
-exact-from_read (Some held) new bytes status result text read output written = λ other text' output'.
-    elim written [
-      | inl whole ↦ inl (whole.0 ∙ status_of bytes status other text text' output (subst (λ b. IsVerifyOutput b other text') (sym read.0) output'))
-      | inr part ↦ inr (inr (inl part.0))
-    ]
+one_verdict : (bytes : List ℕ) (status other : Status) (text text' : List ℕ) → IsVerdict bytes status text → IsVerdict bytes other text' → (status ≡ other) × (text ≡ text')
+one_verdict bytes Fine Fine text text' a b = (refl, a.1 ∙ sym b.1)
+one_verdict bytes Fine Found text text' a b = absurd (legal_or_illegal bytes a.0 b.0)
+one_verdict bytes Fine _ text text' a b = absurd b
+one_verdict bytes Found Fine text text' a b = absurd (legal_or_illegal bytes b.0 a.0)
+one_verdict bytes Found Found text text' a b = (refl, a.1 ∙ sym b.1)
+one_verdict bytes Found _ text text' a b = absurd b
+one_verdict bytes _ other text text' a b = absurd a
 
--- the text of a book that fits is answered, where no fault was counted
-pub complete-from_read : {P Q R : Type 0} (S : Type 0) (old new : Option (List ℕ)) (bytes : List ℕ) (status result : Status) (text : List ℕ)
-    → HasRead old new bytes → IsVerifyOutput bytes status text → ((result ≡ status) × P) ⊎ ((result ≡ WriteFault) × Q × R)
-    → IfSome old (λ held. length held ≤ INPUT_LIMIT → IsBookInput held → ¬ S → ¬ R → (result ≡ Fine) ⊎ ((result ≡ Found) ⊎ (result ≡ NoMemory)))
-complete-from_read S None new bytes status result text read output written = tt
-complete-from_read S (Some held) new bytes status result text read output written = λ short book _ calm.
-    let all : bytes ≡ held = read.0 ∙ take_all (INPUT_LIMIT + 1) held (omega arith) in
-    elim written [
-      | inl whole ↦ elim (verify_cases bytes status text output) [
-        | inl fine ↦ inl (whole.0 ∙ fine.0)
-        | inr rest ↦ elim rest [
-          | inl found ↦ inr (inl (whole.0 ∙ found.0))
-          | inr refused ↦ absurd (not_refused held short book (rw all at refused.1))
-        ]
-      ]
-      | inr part ↦ absurd (calm part.2)
-    ]
+-- the bytes determine the output of `verify`
+pub verify_is_determined : IsDetermined Verify
+verify_is_determined = IsDetermined-from_answers Verify one_verdict
+
+-- ---- how a call that writes an output ends
+
+EndsWriting-whole : (IsOne : Status → List ℕ → Type 0) (status : Status) (taken taken' : Option (List ℕ)) (text : List ℕ)
+    → (IsUnfinished status → ⊥) → IsOne status text → Appends taken taken' text → EndsWriting IsOne status taken taken'
+EndsWriting-whole IsOne ReadFault taken taken' text is_done one whole = is_done (inl refl)
+EndsWriting-whole IsOne WriteFault taken taken' text is_done one whole = absurd (is_done (inr (inl refl)))
+EndsWriting-whole IsOne NoMemory taken taken' text is_done one whole = absurd (is_done (inr (inr refl)))
+EndsWriting-whole IsOne Fine taken taken' text is_done one whole = (text, one, whole)
+EndsWriting-whole IsOne Found taken taken' text is_done one whole = (text, one, whole)
+EndsWriting-whole IsOne Usage taken taken' text is_done one whole = (text, one, whole)
+EndsWriting-whole IsOne Refused taken taken' text is_done one whole = (text, one, whole)
+
+-- an output was written whole, or a part of it
+EndsWriting-written : {P : Type 0} (IsOne : Status → List ℕ → Type 0) (status result : Status) (taken taken' : Option (List ℕ)) (text : List ℕ)
+    → (IsUnfinished status → ⊥) → IsOne status text
+    → ((result ≡ status) × Appends taken taken' text) ⊎ ((result ≡ WriteFault) × AppendsPart taken taken' text × P) → EndsWriting IsOne result taken taken'
+EndsWriting-written IsOne status result taken taken' text is_done one (inl whole) =
+    rw whole.0 (EndsWriting-whole IsOne status taken taken' text is_done one whole.1)
+EndsWriting-written IsOne status result taken taken' text is_done one (inr part) = rw part.0 (status, text, one, part.1)
+
+-- the output of a command was written whole, or a part of it
+pub EndsWriting-output : {P : Type 0} (command : Command) (bytes : List ℕ) (status result : Status) (taken taken' : Option (List ℕ)) (text : List ℕ)
+    → IsOutputOf command bytes status text
+    → ((result ≡ status) × Appends taken taken' text) ⊎ ((result ≡ WriteFault) × AppendsPart taken taken' text × P) → EndsWriting (IsOutputOf command bytes) result taken taken'
+EndsWriting-output command bytes status result taken taken' text output written =
+    EndsWriting-written (IsOutputOf command bytes) status result taken taken' text (finished command bytes status text output) output written
+
+-- ---- how the program ends
+
+Reads-named : (words : List (String Global)) (command : Command) (old new : Option (List ℕ)) (bytes : List ℕ)
+    → command_of words ≡ Some command → ReadsFor command old new bytes → Reads words old new bytes
+Reads-named words command old new bytes named reads = rw named reads
+
+IsOutput-named : (words : List (String Global)) (command : Command) (bytes : List ℕ) (status : Status) (text : List ℕ)
+    → command_of words ≡ Some command → IsOutputOf command bytes status text → IsOutput words bytes status text
+IsOutput-named words command bytes status text named output = rw named output
+
+-- the program has ended as the command that its words name has
+pub Ends-answered : (words : List (String Global)) (command : Command) (result : Status) (left left' taken taken' : Option (List ℕ)) (bytes : List ℕ)
+    → command_of words ≡ Some command → ReadsFor command left left' bytes → EndsWriting (IsOutputOf command bytes) result taken taken'
+    → Ends words result left left' taken taken'
+Ends-answered words command ReadFault left left' taken taken' bytes named reads ends = absurd ends
+Ends-answered words command NoMemory left left' taken taken' bytes named reads ends = ends
+Ends-answered words command WriteFault left left' taken taken' bytes named reads ends =
+    (bytes, ends.0, ends.1, Reads-named words command left left' bytes named reads, IsOutput-named words command bytes ends.0 ends.1 named ends.2, ends.3)
+Ends-answered words command Fine left left' taken taken' bytes named reads ends =
+    (bytes, ends.0, Reads-named words command left left' bytes named reads, IsOutput-named words command bytes Fine ends.0 named ends.1, ends.2)
+Ends-answered words command Found left left' taken taken' bytes named reads ends =
+    (bytes, ends.0, Reads-named words command left left' bytes named reads, IsOutput-named words command bytes Found ends.0 named ends.1, ends.2)
+Ends-answered words command Usage left left' taken taken' bytes named reads ends =
+    (bytes, ends.0, Reads-named words command left left' bytes named reads, IsOutput-named words command bytes Usage ends.0 named ends.1, ends.2)
+Ends-answered words command Refused left left' taken taken' bytes named reads ends =
+    (bytes, ends.0, Reads-named words command left left' bytes named reads, IsOutput-named words command bytes Refused ends.0 named ends.1, ends.2)
+
+-- the program has ended with the usage line, which was written whole, or a part of it
+pub Ends-usage : {P : Type 0} (words : List (String Global)) (result : Status) (left taken taken' : Option (List ℕ))
+    → command_of words ≡ None
+    → ((result ≡ Usage) × Appends taken taken' (codes "usage: selfcheck COMMAND\n")) ⊎ ((result ≡ WriteFault) × AppendsPart taken taken' (codes "usage: selfcheck COMMAND\n") × P)
+    → Ends words result left left taken taken'
+Ends-usage words result left taken taken' unnamed (inl whole) =
+    rw whole.0 ([], codes "usage: selfcheck COMMAND\n", rw unnamed (Keeps-refl left), rw unnamed (refl, refl), whole.1)
+Ends-usage words result left taken taken' unnamed (inr part) =
+    rw part.0 ([], Usage, codes "usage: selfcheck COMMAND\n", rw unnamed (Keeps-refl left), rw unnamed (refl, refl), part.1)
+
+-- ---- what the bytes of a source that tells them decide
+
+-- the bytes that a command works on are those of the source that it is for
+input_is : (command : Command) (held : List ℕ) (new : Option (List ℕ)) (bytes : List ℕ) → ReadsFor command (Some held) new bytes → bytes ≡ input_of command held
+input_is Verify held new bytes reads = reads.0
+
+-- where all outputs have one status, a call that wrote one has this status
+one_status : (IsOne : Status → List ℕ → Type 0) (status result : Status) (taken taken' : Option (List ℕ)) → EndsWriting IsOne result taken taken'
+    → ((other : Status) (text : List ℕ) → IsOne other text → other ≡ status) → (result ≡ status) ⊎ IsUnfinished result
+one_status IsOne status ReadFault taken taken' ends one = absurd ends
+one_status IsOne status WriteFault taken taken' ends one = inr (inr (inl refl))
+one_status IsOne status NoMemory taken taken' ends one = inr (inr (inr refl))
+one_status IsOne status Fine taken taken' ends one = inl (one Fine ends.0 ends.1)
+one_status IsOne status Found taken taken' ends one = inl (one Found ends.0 ends.1)
+one_status IsOne status Usage taken taken' ends one = inl (one Usage ends.0 ends.1)
+one_status IsOne status Refused taken taken' ends one = inl (one Refused ends.0 ends.1)
+
+-- the answer is the one status of all outputs for the bytes that the source held
+pub exact-from_ends : (command : Command) (left left' taken taken' : Option (List ℕ)) (bytes held : List ℕ) (status result : Status)
+    → ReadsFor command left left' bytes → EndsWriting (IsOutputOf command bytes) result taken taken' → left ≡ Some held
+    → HasOneStatus command (input_of command held) status → (result ≡ status) ⊎ IsUnfinished result
+exact-from_ends command left left' taken taken' bytes held status result reads ends told one =
+    let same : bytes ≡ input_of command held = input_is command held left' bytes (subst (λ l. ReadsFor command l left' bytes) told reads) in
+    one_status (IsOutputOf command bytes) status result taken taken' ends (subst (λ b. HasOneStatus command b status) (sym same) one)
+
+-- a call that wrote an output for an input that the command takes has answered it, where no write failed
+done : (command : Command) (bytes : List ℕ) (result : Status) (taken taken' : Option (List ℕ)) → EndsWriting (IsOutputOf command bytes) result taken taken'
+    → IsTaken command bytes → (result ≡ WriteFault → ⊥) → (result ≡ Fine) ⊎ ((result ≡ Found) ⊎ (result ≡ NoMemory))
+done command bytes ReadFault taken taken' ends wanted calm = absurd ends
+done command bytes WriteFault taken taken' ends wanted calm = absurd (calm refl)
+done command bytes NoMemory taken taken' ends wanted calm = inr (inr refl)
+done command bytes Fine taken taken' ends wanted calm = inl refl
+done command bytes Found taken taken' ends wanted calm = inr (inl refl)
+done command bytes Usage taken taken' ends wanted calm = absurd (elim (answer_statuses command bytes Usage ends.0 ends.1.1) [ inl e ↦ cc e | inr e ↦ cc e ])
+done command bytes Refused taken taken' ends wanted calm = absurd (taken_or_refused command bytes ends.0 wanted ends.1)
+
+-- an input that the command takes is answered, where no count of faults rose
+pub complete-from_ends : (command : Command) (left left' taken taken' : Option (List ℕ)) (bytes held : List ℕ) (result : Status)
+    → ReadsFor command left left' bytes → EndsWriting (IsOutputOf command bytes) result taken taken' → left ≡ Some held
+    → IsTaken command (input_of command held) → (result ≡ WriteFault → ⊥) → (result ≡ Fine) ⊎ ((result ≡ Found) ⊎ (result ≡ NoMemory))
+complete-from_ends command left left' taken taken' bytes held result reads ends told wanted calm =
+    let same : bytes ≡ input_of command held = input_is command held left' bytes (subst (λ l. ReadsFor command l left' bytes) told reads) in
+    done command bytes result taken taken' ends (subst (λ b. IsTaken command b) (sym same) wanted) calm

@@ -1,19 +1,39 @@
 -- What the bytes of an input say of a book.
-use Rattle.std.specs.Prelude.{ℕ, List}
+use Rattle.std.specs.Prelude.{◌≡◌, ◌⊎◌, ℕ, ◌<◌, ◌≤◌, List, ◌++◌, length, codes, decimal}
+use Rattle.book_base.specs.declared.fault.TextFault.{TextFault}
+use Rattle.book_base.specs.declared.fault.What.TheVariants.{Long}
 use Rattle.book_base.specs.Book.{Page}
+use Rattle.selfcheck.specs.FaultName.{fault_name}
 use Rattle.book_base.specs.Order.{HasLegalOrder}
-use Rattle.book_text.specs.Grammar.{IsBookText}
-use Rattle.seq_objects.specs.declared.kind.Kind.TheVariants.{Queue}
+use Rattle.book_text.specs.BookRules.{IsBookText}
+use Rattle.seq_objects.specs.declared.kind.Kind.{Kind}
 use Rattle.seq_objects.specs.Objects.{kind_init, kind_next}
+use Rattle.text_fields.specs.declared.version.Version.TheVariants.{Second}
+use Rattle.selfcheck.specs.declared.TheConstants.{INPUT_LIMIT}
+
+-- the bytes are the text of this book, whose calls are of an object of this kind
+abbrev pub Tells : List ℕ → Kind → List Page → Type 0
+Tells bytes kind book = IsBookText Second bytes kind book
 
 -- the bytes are the text of a book
 unfoldable pub IsBookInput : List ℕ → Type 0
-IsBookInput bytes = (book : List Page) × IsBookText bytes book
+IsBookInput bytes = (kind : Kind) × (book : List Page) × Tells bytes kind book
 
--- the bytes are the text of a book that has a legal order of a queue's calls
+-- the bytes are the text of a book that has a legal order
 unfoldable pub IsLegalInput : List ℕ → Type 0
-IsLegalInput bytes = (book : List Page) × IsBookText bytes book × HasLegalOrder (kind_init Queue) (kind_next Queue) book
+IsLegalInput bytes = (kind : Kind) × (book : List Page) × Tells bytes kind book × HasLegalOrder (kind_init kind) (kind_next kind) book
 
--- the bytes are the text of a book that has no legal order of a queue's calls
+-- the bytes are the text of a book that has no legal order
 unfoldable pub IsIllegalInput : List ℕ → Type 0
-IsIllegalInput bytes = (book : List Page) × IsBookText bytes book × ¬ (HasLegalOrder (kind_init Queue) (kind_next Queue) book)
+IsIllegalInput bytes = (kind : Kind) × (book : List Page) × Tells bytes kind book × ¬ (HasLegalOrder (kind_init kind) (kind_next kind) book)
+
+-- The input is refused for this fault, where texts of a form are wanted whose first faults these are: there are too many bytes,
+-- or else it is the first fault of the bytes.
+abbrev pub IsRefusedFor : (List ℕ → TextFault → Type 0) → List ℕ → TextFault → Type 0
+IsRefusedFor IsFirst bytes fault =
+    ((INPUT_LIMIT < length bytes) × (fault ≡ record { line = 0; what = Long }))
+    ⊎ ((length bytes ≤ INPUT_LIMIT) × IsFirst bytes fault)
+
+-- what is written of a refused input: the line and the name of the fault
+unfoldable pub refusal_text : TextFault → List ℕ
+refusal_text fault = codes "refused " ++ decimal fault.line ++ codes " " ++ fault_name fault.what ++ codes "\n"

@@ -1,7 +1,9 @@
+pub mod Command
 pub mod Fault
+pub mod FaultName
 pub mod Input
-pub mod Judgement
 pub mod Memory
 pub mod Output
+pub mod Refusal
 pub mod Status
 pub mod Told

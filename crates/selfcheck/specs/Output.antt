@@ -1,31 +1,91 @@
 -- The output of a command, and what the program has done where it ends.
-use Rattle.std.specs.Prelude.{◌≡◌, ◌⊎◌, ℕ, ◌<◌, ◌≤◌, List, [], ◌∷◌, length, map, Option, String, string_bytes, codes}
+use Rattle.std.specs.Prelude.{◌≡◌, ◌⊎◌, ◌↔◌, ℕ, ◌≤◌, List, [], length, Option, MatchOption, MatchBool, String, codes, if◌then◌else◌}
 use Rattle.std.specs.declared.alloc.Global.{Global}
 use Rattle.std.specs.Io.KnownBytes.{Appends, Keeps}
+use Rattle.book_base.specs.declared.fault.TextFault.{TextFault}
+use Rattle.book_text.specs.BookRules.{IsFirstBookFault}
+use Rattle.text_fields.specs.declared.version.Version.TheVariants.{Second}
+use Rattle.selfcheck.specs.declared.command.Command.{Command}
+use Rattle.selfcheck.specs.declared.command.Command.TheVariants.{Verify}
 use Rattle.selfcheck.specs.declared.status.Status.{Status}
 use Rattle.selfcheck.specs.declared.status.Status.TheVariants.{Fine, Found, Usage, Refused, ReadFault, WriteFault, NoMemory}
 use Rattle.selfcheck.specs.declared.TheConstants.{INPUT_LIMIT}
-use Rattle.selfcheck.specs.Input.{IsBookInput, IsLegalInput, IsIllegalInput}
-use Rattle.selfcheck.specs.Told.{HasRead, AppendsPart}
+use Rattle.selfcheck.specs.Command.{command_of, reads_source}
+use Rattle.selfcheck.specs.Input.{IsBookInput, IsLegalInput, IsIllegalInput, IsRefusedFor, refusal_text}
+use Rattle.selfcheck.specs.Told.{HasRead, AppendsPart, read_of}
 
--- the command words are exactly the one word `verify`
-abbrev pub IsVerify : List (String Global) → Type 0
-IsVerify words = map string_bytes words ≡ codes "verify" ∷ []
+-- a form of texts that a command may want
+pub data Form : Type 0 where
+  BookForm : Form
 
--- the output of `verify` for the bytes read: a status and a text
-abbrev pub IsVerifyOutput : List ℕ → Status → List ℕ → Type 0
-IsVerifyOutput bytes Fine text = (length bytes ≤ INPUT_LIMIT) × IsLegalInput bytes × (text ≡ codes "legal\n")
-IsVerifyOutput bytes Found text = (length bytes ≤ INPUT_LIMIT) × IsIllegalInput bytes × (text ≡ codes "illegal\n")
-IsVerifyOutput bytes Refused text = ((INPUT_LIMIT < length bytes) ⊎ ¬ IsBookInput bytes) × (text ≡ codes "refused\n")
-IsVerifyOutput bytes _ text = ⊥
+-- the form of text that a command wants
+abbrev pub form_of : Command → Form
+form_of Verify = BookForm
 
--- The output of a command, for its words and the bytes read: a status and a text.
+-- the bytes are a text of this form
+abbrev pub IsTextOf : Form → List ℕ → Type 0
+IsTextOf BookForm bytes = IsBookInput bytes
+
+-- the first fault of bytes that are no text of this form
+abbrev pub IsFirstFaultOf : Form → List ℕ → TextFault → Type 0
+IsFirstFaultOf BookForm bytes fault = IsFirstBookFault Second bytes fault
+
+-- the command takes the bytes: there are few enough, and they are a text of the form that it wants
+abbrev pub IsTaken : Command → List ℕ → Type 0
+IsTaken command bytes = (length bytes ≤ INPUT_LIMIT) × IsTextOf (form_of command) bytes
+
+-- what `verify` says of the text of a book: a status and a text
+abbrev pub IsVerdict : List ℕ → Status → List ℕ → Type 0
+IsVerdict bytes Fine text = IsLegalInput bytes × (text ≡ codes "legal\n")
+IsVerdict bytes Found text = IsIllegalInput bytes × (text ≡ codes "illegal\n")
+IsVerdict bytes _ text = ⊥
+
+-- what a command says of an input that it takes: a status and a text, of which there may be more than one
+abbrev pub IsAnswerOf : Command → List ℕ → Status → List ℕ → Type 0
+IsAnswerOf Verify bytes status text = IsVerdict bytes status text
+
+-- the line and the name of the fault for which a command refuses the bytes
+abbrev pub IsRefusal : Command → List ℕ → List ℕ → Type 0
+IsRefusal command bytes text = (fault : TextFault) × IsRefusedFor (IsFirstFaultOf (form_of command)) bytes fault × (text ≡ refusal_text fault)
+
+-- The output of a command for the bytes read: a status and a text. Inputs are refused alike by all commands.
+abbrev pub IsOutputOf : Command → List ℕ → Status → List ℕ → Type 0
+IsOutputOf command bytes Refused text = IsRefusal command bytes text
+IsOutputOf command bytes status text = (length bytes ≤ INPUT_LIMIT) × IsAnswerOf command bytes status text
+
+-- all outputs of the command for these bytes have this status
+abbrev pub HasOneStatus : Command → List ℕ → Status → Type 0
+HasOneStatus command bytes status = (other : Status) (text : List ℕ) → IsOutputOf command bytes other text → other ≡ status
+
+-- the bytes leave the command no choice: it has one output for them
+abbrev pub IsDetermined : Command → Type 0
+IsDetermined command = (bytes : List ℕ) (status other : Status) (text text' : List ℕ)
+    → IsOutputOf command bytes status text → IsOutputOf command bytes other text' → (status ≡ other) × (text ≡ text')
+
+-- An output refuses the input exactly where the command doesn't take it.
+abbrev pub RefuseWhatIsNotTaken : Type 0
+RefuseWhatIsNotTaken = (command : Command) (bytes : List ℕ) (status : Status) (text : List ℕ)
+    → IsOutputOf command bytes status text → (status ≡ Refused) ↔ ¬ (IsTaken command bytes)
+
+-- the output where the command words aren't right
+abbrev pub IsUsage : Status → List ℕ → Type 0
+IsUsage status text = (status ≡ Usage) × (text ≡ codes "usage: selfcheck COMMAND\n")
+
+-- The output of the program, for its words and the bytes read: a status and a text.
 abbrev pub IsOutput : List (String Global) → List ℕ → Status → List ℕ → Type 0
-IsOutput words bytes status text = (IsVerify words × IsVerifyOutput bytes status text) ⊎ (¬ IsVerify words × (status ≡ Usage) × (text ≡ codes "usage: selfcheck COMMAND\n"))
+IsOutput words bytes status text = MatchOption (command_of words) (IsUsage status text) (λ command. IsOutputOf command bytes status text)
 
--- the bytes that a command reads: with right words the source's, else none
+-- the bytes that a command works on, of those that the source holds
+abbrev pub input_of : Command → List ℕ → List ℕ
+input_of command held = if reads_source command then read_of held else []
+
+-- the bytes that a command works on: the source's where it reads one, else none
+abbrev pub ReadsFor : Command → Option (List ℕ) → Option (List ℕ) → List ℕ → Type 0
+ReadsFor command old new bytes = MatchBool (reads_source command) (HasRead old new bytes) (Keeps old new × (bytes ≡ []))
+
+-- the bytes that the program works on; words that aren't right leave the source as it is
 abbrev pub Reads : List (String Global) → Option (List ℕ) → Option (List ℕ) → List ℕ → Type 0
-Reads words old new bytes = (IsVerify words → HasRead old new bytes) × (¬ IsVerify words → Keeps old new)
+Reads words old new bytes = MatchOption (command_of words) (Keeps old new) (λ command. ReadsFor command old new bytes)
 
 -- The program has ended with a status: what it read, of the bytes that the source had left, and what it wrote, after those that the sink had taken.
 abbrev pub Ends : List (String Global) → Status → Option (List ℕ) → Option (List ℕ) → Option (List ℕ) → Option (List ℕ) → Type 0
@@ -38,6 +98,13 @@ Ends words WriteFault left left' taken taken' =
 -- the output with this status is written whole
 Ends words status left left' taken taken' =
     (bytes : List ℕ) × (text : List ℕ) × Reads words left left' bytes × IsOutput words bytes status text × Appends taken taken' text
+
+-- A call that writes one of these outputs, and reads nothing, has ended with a status: what it wrote, after the bytes that the sink had taken.
+abbrev pub EndsWriting : (Status → List ℕ → Type 0) → Status → Option (List ℕ) → Option (List ℕ) → Type 0
+EndsWriting IsOne ReadFault taken taken' = ⊥
+EndsWriting IsOne NoMemory taken taken' = Keeps taken taken'
+EndsWriting IsOne WriteFault taken taken' = (status : Status) × (text : List ℕ) × IsOne status text × AppendsPart taken taken' text
+EndsWriting IsOne status taken taken' = (text : List ℕ) × IsOne status text × Appends taken taken' text
 
 -- a status that says that the output was not written whole
 abbrev pub IsUnfinished : Status → Type 0

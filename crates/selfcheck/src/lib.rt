@@ -1,8 +1,11 @@
 //! The top call: what it reads from, what it writes to, and the program's answer as a status.
 #![tactic(auto)]
 
+mod command;
 mod failed;
-mod judgement;
+mod fault_name;
+mod input;
+mod laws;
 mod memory_sink;
 mod memory_source;
 mod output;
@@ -15,8 +18,11 @@ mod std_source;
 mod steady_source;
 mod top;
 mod transfer;
+mod verify;
 
+pub use command::Command;
 pub use failed::{Failed, ReadAllError};
+pub use laws::{verify_has_one_output, what_is_not_taken_is_refused, words_have_their_command};
 pub use memory_sink::MemorySink;
 pub use memory_source::MemorySource;
 pub use sink::Sink;

@@ -1,43 +1,42 @@
-ghost use Rattle.std.specs.Prelude.{◌≡◌, ◌<◌, ◌↔◌, length, IfOk, IsTrue, string_bytes};
-ghost use Rattle.selfcheck.specs.Output.{IsVerify, IsVerifyOutput};
+ghost use Rattle.std.specs.Prelude.{◌≡◌, IfOk};
+ghost use Rattle.selfcheck.specs.Input.{refusal_text};
 
-use crate::INPUT_LIMIT;
-use crate::judgement::{Judgement, judgement_on};
+use crate::fault_name::name_of;
 use crate::status::Status;
-use book_base::NoMemory;
+use book_base::{NoMemory, TextFault};
+use seq_objects::put_number;
 use std::alloc::Global;
 
 /// The output of a command: what the program writes, and the status that it then ends with.
 #[derive(Debug, Drop)]
 pub(crate) struct Output {
     pub status: Status,
-    pub text: String,
+    pub text: Vec<u8>,
 }
 
-/// Whether the command words are the one word `verify`.
-pub(crate) fn is_verify(words: &[String]) -> bool
-    ensures { IsTrue result ↔ IsVerify words.now }
-{
-    match words {
-        [word] => word.as_str() == "verify",
-        _ => false,
+impl Output {
+    pub(crate) fn new(alloc: Global, status: Status, text: &[u8]) -> Result<Output, NoMemory>
+        ensures status { IfOk result (λ output. output.status ≡ status) }
+        ensures text { IfOk result (λ output. output.text.items ≡ text.now) }
+    {
+        let text = text.to_vec(alloc)?;
+        Ok(Output { status, text })
     }
-}
 
-/// The output of `verify` for the bytes read.
-pub(crate) fn verify(alloc: Global, bytes: &[u8]) -> Result<Output, NoMemory>
-    ensures { IfOk result (λ output. IsVerifyOutput bytes.now output.status (string_bytes output.text)) }
-{
-    let judgement = if bytes.len() > INPUT_LIMIT {
-        Judgement::Refused
-    } else {
-        judgement_on(alloc, bytes)?
-    };
-    let (status, text) = match judgement {
-        Judgement::Legal => (Status::Fine, "legal\n"),
-        Judgement::Illegal => (Status::Found, "illegal\n"),
-        Judgement::Refused => (Status::Refused, "refused\n"),
-    };
-    let text = String::from_str(alloc, text)?;
-    Ok(Output { status, text })
+    /// The output for an input that is refused for this fault.
+    #[tactic(auto, unfolding(crate::specs::Input::refusal_text))]
+    pub(crate) fn refusal(alloc: Global, fault: TextFault) -> Result<Output, NoMemory>
+        ensures status { IfOk result (λ output. output.status ≡ Status.Refused) }
+        ensures text { IfOk result (λ output. output.text.items ≡ refusal_text fault) }
+    {
+        let mut text = b"refused ".to_vec(alloc)?;
+        put_number(&mut text, fault.line)?;
+        text.extend_from_slice(b" ")?;
+        text.extend_from_slice(name_of(fault.what).as_bytes())?;
+        text.extend_from_slice(b"\n")?;
+        Ok(Output {
+            status: Status::Refused,
+            text,
+        })
+    }
 }

@@ -1,31 +1,38 @@
-ghost use Rattle.std.specs.Prelude.{◌≡◌, None};
+ghost use Rattle.std.specs.Prelude.{◌≡◌};
 
 use crate::failed::Failed;
 use crate::sink::Sink;
 use std::io;
 use std::io::{Printer, Write};
 
-/// Standard output, with a count of the writes that failed. It tells no bytes.
+/// A writer, with a count of the writes that failed. It tells the bytes that its writer tells.
 #[derive(Debug, Drop)]
-pub struct StdSink<'a, R> {
-    output: Printer<'a, R>,
+pub struct StdSink<W> {
+    output: W,
     faults: u64,
 }
 
-impl<'a, R: Print> StdSink<'a, R> {
-    /// A sink over the runtime's standard output.
-    pub fn new(rt: &'a R) -> StdSink<'a, R>
-        ensures no_fault { ⟦<StdSink<'a, R> as Sink>⟧.faults result ≡ 0 }
+impl<W: Write> StdSink<W> {
+    /// A sink over a writer.
+    pub fn over(output: W) -> StdSink<W>
+        ensures held { ⟦<StdSink<W> as Sink>⟧.taken result ≡ ⟦<W as Write>⟧.contents output }
+        ensures no_fault { ⟦<StdSink<W> as Sink>⟧.faults result ≡ 0 }
     {
-        StdSink {
-            output: io::writer(rt),
-            faults: 0,
-        }
+        StdSink { output, faults: 0 }
     }
 }
 
-impl<R: Print> Sink for StdSink<'_, R> {
-    ghost taken = { λ _. None };
+impl<'a, R: Print> StdSink<Printer<'a, R>> {
+    /// A sink over the runtime's standard output.
+    pub fn new(rt: &'a R) -> StdSink<Printer<'a, R>>
+        ensures no_fault { ⟦<StdSink<Printer<'a, R>> as Sink>⟧.faults result ≡ 0 }
+    {
+        StdSink::over(io::writer(rt))
+    }
+}
+
+impl<W: Write> Sink for StdSink<W> {
+    ghost taken = { λ s. ⟦<W as Write>⟧.contents s.output };
 
     ghost faults = { λ s. s.faults };
 

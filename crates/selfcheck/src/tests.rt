@@ -82,6 +82,28 @@ fn the_room_is_used_up(rt: HostRuntime) -> Result<(), Fail> {
 }
 
 #[test]
+fn all_that_is_left_is_offered_at_each_write(rt: HostRuntime) -> Result<(), Fail> {
+    let alloc = rt.alloc();
+    let text = vec![in alloc; b'x'; 5_001]?;
+    let mut sink = MemorySink::new(alloc, 6_000, [2].to_vec(alloc)?, usize::MAX)?;
+    assert_eq!(rt; write_all(&mut sink, &text), Ok(()));
+    assert_eq!(rt; sink.bytes(), text.as_slice());
+    Ok(())
+}
+
+#[test]
+fn limits_and_codes(rt: HostRuntime) {
+    assert_eq!(rt; INPUT_LIMIT, 1_048_576);
+    assert_eq!(rt; Status::Fine.code(), 0);
+    assert_eq!(rt; Status::Found.code(), 1);
+    assert_eq!(rt; Status::Usage.code(), 2);
+    assert_eq!(rt; Status::Refused.code(), 3);
+    assert_eq!(rt; Status::ReadFault.code(), 4);
+    assert_eq!(rt; Status::WriteFault.code(), 5);
+    assert_eq!(rt; Status::NoMemory.code(), 6);
+}
+
+#[test]
 fn wrong_words_read_nothing(rt: HostRuntime) -> Result<(), Fail> {
     let alloc = rt.alloc();
     let words = words(alloc, &WORDS)?;
@@ -113,7 +135,18 @@ fn a_long_input_is_refused(rt: HostRuntime) -> Result<(), Fail> {
     let mut sink = MemorySink::new(alloc, 100, Vec::new(alloc), 100)?;
     let status = over_steady_source(&rt, alloc, &words, &mut source, &mut sink);
     assert_eq!(rt; status, Status::Refused);
-    assert_eq!(rt; sink.bytes(), b"refused\n".as_slice());
+    assert_eq!(rt; sink.bytes(), b"refused 0 Long\n".as_slice());
+    Ok(())
+}
+
+#[test]
+fn a_sink_over_a_writer_hands_its_bytes_on(rt: HostRuntime) -> Result<(), Fail> {
+    let alloc = rt.alloc();
+    let mut bytes = Vec::new(alloc);
+    let mut sink = StdSink::over(&mut bytes);
+    assert_eq!(rt; sink.write(b"le"), Ok(2));
+    assert_eq!(rt; write_all(&mut sink, b"gal"), Ok(()));
+    assert_eq!(rt; bytes.as_slice(), b"legal".as_slice());
     Ok(())
 }
 

@@ -1,26 +1,27 @@
-ghost use Rattle.std.specs.Prelude.{◌≡◌, ℕ, ◌⊎◌, ◌≤◌, List, length, IfSome};
+ghost use Rattle.std.specs.Prelude.{◌≡◌, ℕ, ◌⊎◌, ◌≤◌, List, Some, IsNone, IsSomeAnd, IfOk, IsErrOf, IsTrue};
 ghost use Rattle.std.specs.Io.KnownBytes.{Appends};
+ghost use Rattle.selfcheck.specs.declared.command.Command.{Command};
 ghost use Rattle.selfcheck.specs.declared.status.Status.{Status};
-ghost use Rattle.selfcheck.specs.declared.TheConstants.{INPUT_LIMIT};
+ghost use Rattle.selfcheck.specs.Command.{command_of, reads_source};
 ghost use Rattle.selfcheck.specs.Fault.{Rose};
-ghost use Rattle.selfcheck.specs.Input.{IsBookInput};
-ghost use Rattle.selfcheck.specs.Output.{IsVerify, IsVerifyOutput, Ends, IsUnfinished};
-ghost use Rattle.selfcheck.specs.Told.{AppendsPart, read_of};
+ghost use Rattle.selfcheck.specs.Output.{IsTaken, IsOutputOf, HasOneStatus, ReadsFor, Ends, EndsWriting, IsUnfinished, input_of};
+ghost use Rattle.selfcheck.specs.Told.{AppendsPart};
 
-use crate::INPUT_LIMIT;
+use crate::command::Command;
 use crate::failed::{Failed, ReadAllError};
-use crate::output::{is_verify, verify};
 use crate::sink::Sink;
 use crate::source::Source;
 use crate::status::Status;
 use crate::transfer::{read_all, write_all};
+use crate::verify::verify;
+use book_base::NoMemory;
 use std::alloc::Global;
 use std::thread::Threads;
 
 /// What is written where the command words aren't right.
 const USAGE: &[u8] = b"usage: selfcheck COMMAND\n";
 
-/// Writes the text of an output, and answers its status where the sink took all of it.
+/// Writes a text, and answers its status where the sink took all of it.
 fn write_output<K: Sink>(sink: &mut K, status: Status, text: &[u8]) -> Status
     ensures written { ((result ≡ status) × Appends (K.taken sink.old) (K.taken sink.new) text.now)
         ⊎ ((result ≡ Status.WriteFault) × AppendsPart (K.taken sink.old) (K.taken sink.new) text.now
@@ -31,6 +32,49 @@ fn write_output<K: Sink>(sink: &mut K, status: Status, text: &[u8]) -> Status
     match write_all(sink, text) {
         Ok(()) => status,
         Err(Failed) => Status::WriteFault,
+    }
+}
+
+/// The bytes that a command works on: the source's where it reads one, else none.
+fn read_for<S: Source>(
+    command: Command,
+    alloc: Global,
+    source: &mut S,
+) -> Result<Vec<u8>, ReadAllError>
+    ensures read { IfOk result (λ bytes. ReadsFor command (S.left source.old) (S.left source.new) bytes.items) }
+    ensures unread { ¬ IsTrue (reads_source command) → source.new ≡ source.old }
+    ensures later { S.faults source.old ≤ S.faults source.new }
+    ensures cause { IsErrOf result ReadAllError.Fault → Rose (S.faults source.old) (S.faults source.new) }
+    ensures calm { ¬ IsErrOf result ReadAllError.Fault → S.faults source.new ≡ S.faults source.old }
+{
+    if command.reads_source() {
+        read_all(alloc, source)
+    } else {
+        Ok(Vec::new(alloc))
+    }
+}
+
+/// Does what a command is for with the bytes that it works on, and writes its output.
+fn answer<R: Threads + Sync, K: Sink>(
+    rt: &R,
+    alloc: Global,
+    command: Command,
+    bytes: &[u8],
+    sink: &mut K,
+) -> Status
+    ensures ends { EndsWriting (IsOutputOf command bytes.now) result (K.taken sink.old) (K.taken sink.new) }
+    ensures fault { result ≡ Status.WriteFault → Rose (K.faults sink.old) (K.faults sink.new) }
+    ensures calm { ¬ (result ≡ Status.WriteFault) → K.faults sink.new ≡ K.faults sink.old }
+    ensures unwritten { result ≡ Status.NoMemory → sink.new ≡ sink.old }
+    ensures later { K.faults sink.old ≤ K.faults sink.new }
+{
+    let _ = rt;
+    let output = match command {
+        Command::Verify => verify(alloc, bytes),
+    };
+    match output {
+        Ok(output) => write_output(sink, output.status, &output.text),
+        Err(NoMemory) => Status::NoMemory,
     }
 }
 
@@ -45,16 +89,20 @@ pub fn selfcheck<R: Threads + Sync, S: Source, K: Sink>(
     // What was read and written, by the status.
     ensures ends { Ends words.now result (S.left source.old) (S.left source.new) (K.taken sink.old) (K.taken sink.new) }
 
-    // Words that aren't right are answered whatever the input and the memory: nothing is read.
-    ensures usage { ¬ IsVerify words.now → (result ≡ Status.Usage) ⊎ (result ≡ Status.WriteFault) }
-    ensures unread { ¬ IsVerify words.now → source.new ≡ source.old }
+    // Words that aren't right are answered whatever the input and the memory.
+    ensures usage { IsNone (command_of words.now) → (result ≡ Status.Usage) ⊎ (result ≡ Status.WriteFault) }
+    ensures unread { ¬ IsSomeAnd (command_of words.now) (λ command. IsTrue (reads_source command)) → source.new ≡ source.old }
 
-    // The status is that of the output, faults and want of memory aside.
-    ensures exact { IsVerify words.now → IfSome (S.left source.old) (λ held. (status : Status) (text : List ℕ) →
-        IsVerifyOutput (read_of held) status text → (result ≡ status) ⊎ IsUnfinished result) }
-    ensures complete { IsVerify words.now → IfSome (S.left source.old) (λ held. length held ≤ INPUT_LIMIT → IsBookInput held →
+    // Where all outputs for the bytes have one status, it is the answer, faults and want of memory aside.
+    ensures exact { (command : Command) (held : List ℕ) (status : Status) → command_of words.now ≡ Some command →
+        S.left source.old ≡ Some held → HasOneStatus command (input_of command held) status →
+        (result ≡ status) ⊎ IsUnfinished result }
+
+    // An input that the command takes is answered.
+    ensures complete { (command : Command) (held : List ℕ) → command_of words.now ≡ Some command →
+        S.left source.old ≡ Some held → IsTaken command (input_of command held) →
         ¬ Rose (S.faults source.old) (S.faults source.new) → ¬ Rose (K.faults sink.old) (K.faults sink.new) →
-        (result ≡ Status.Fine) ⊎ (result ≡ Status.Found) ⊎ (result ≡ Status.NoMemory)) }
+        (result ≡ Status.Fine) ⊎ (result ≡ Status.Found) ⊎ (result ≡ Status.NoMemory) }
 
     // A fault has its cause in a count that rose in this call, and every other answer comes where none rose.
     ensures read_fault { result ≡ Status.ReadFault → Rose (S.faults source.old) (S.faults source.new) }
@@ -65,17 +113,12 @@ pub fn selfcheck<R: Threads + Sync, S: Source, K: Sink>(
     ensures source_later { S.faults source.old ≤ S.faults source.new }
     ensures sink_later { K.faults sink.old ≤ K.faults sink.new }
 {
-    let _ = rt;
-    if !is_verify(words) {
+    let Some(command) = Command::from_words(words) else {
         return write_output(sink, Status::Usage, USAGE);
-    }
-    let bytes = match read_all(alloc, source) {
-        Ok(bytes) => bytes,
-        Err(ReadAllError::Fault) => return Status::ReadFault,
-        Err(ReadAllError::NoMemory) => return Status::NoMemory,
     };
-    match verify(alloc, &bytes) {
-        Ok(output) => write_output(sink, output.status, output.text.as_bytes()),
-        Err(_) => Status::NoMemory,
+    match read_for(command, alloc, source) {
+        Ok(bytes) => answer(rt, alloc, command, &bytes, sink),
+        Err(ReadAllError::Fault) => Status::ReadFault,
+        Err(ReadAllError::NoMemory) => Status::NoMemory,
     }
 }

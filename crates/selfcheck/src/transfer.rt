@@ -12,14 +12,14 @@ use std::alloc::Global;
 /// The greatest number of bytes that one read asks for.
 const PIECE: usize = 4096;
 
-/// Reads once, at most `room` bytes, and appends what came: how much, or 0 at the end of input.
+/// Reads once, into the piece, and appends what came: how much, or 0 at the end of input.
 fn read_more<S: Source>(
     source: &mut S,
     bytes: &mut Vec<u8>,
-    room: usize,
+    piece: &mut [u8],
 ) -> Result<usize, ReadAllError>
-    requires { 0 < room }
-    ensures bound { IfOk result (λ count. count ≤ room) }
+    requires { 0 < length piece.old }
+    ensures bound { IfOk result (λ count. count ≤ length piece.old) }
     ensures bytes { IfOk result (λ count. (given : List ℕ) × (length given ≡ count) × (bytes.new.items ≡ bytes.old.items ++ given)
         × Consumes (S.left source.old) (S.left source.new) given) }
     ensures end { IfOk result (λ count. count ≡ 0 → IsAtEnd (S.left source.new)) }
@@ -28,8 +28,6 @@ fn read_more<S: Source>(
     ensures cause { IsErrOf result ReadAllError.Fault → Rose (S.faults source.old) (S.faults source.new) }
     ensures calm { ¬ IsErrOf result ReadAllError.Fault → S.faults source.new ≡ S.faults source.old }
 {
-    let mut buffer = [0; PIECE];
-    let piece = &mut buffer[..room.min(PIECE)];
     let count = source.read(piece)?;
     bytes.extend_from_slice(&piece[..count])?;
     Ok(count)
@@ -47,9 +45,10 @@ pub fn read_all<S: Source>(alloc: Global, source: &mut S) -> Result<Vec<u8>, Rea
     ensures calm { ¬ IsErrOf result ReadAllError.Fault → S.faults source.new ≡ S.faults source.old }
 {
     let mut bytes = Vec::new(alloc);
+    let mut piece = [0; PIECE];
     while bytes.len() <= INPUT_LIMIT {
         let room = INPUT_LIMIT + 1 - bytes.len();
-        if read_more(source, &mut bytes, room)? == 0 {
+        if read_more(source, &mut bytes, &mut piece[..room.min(PIECE)])? == 0 {
             break;
         }
     }
