@@ -6,3 +6,5 @@ pub mod Texts
 pub mod WholeDigits
 pub mod Arguments
 pub mod MapPlaces
+pub mod Leaving
+pub mod MapReading

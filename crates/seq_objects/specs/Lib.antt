@@ -13,3 +13,4 @@ pub mod Objects
 pub mod EntryView
 pub mod ReplyView
 pub mod WorkedSteps
+pub mod MapLaws

@@ -1,4 +1,5 @@
-ghost use Rattle.std.specs.Prelude.{◌≡◌, ◌<◌, [], ◌∷◌, length};
+ghost use Rattle.std.specs.Prelude.{◌≡◌, ◌<◌, [], ◌∷◌, length, ◌↔◌, IsTrue};
+ghost use Rattle.book_base.specs.Foresight.{Leaves};
 ghost use Rattle.seq_objects.specs.declared.kind.Kind.TheVariants as kinds;
 ghost use Rattle.seq_objects.specs.Words.{is_known_word};
 ghost use Rattle.seq_objects.specs.Items.{length-one};
@@ -90,6 +91,17 @@ impl SeqObject for CasRegister {
                 compare_and_set(state, expected, new)
             }
             None => BAD,
+        }
+    }
+
+    fn leaves(&self, op: OpWord, reply: u64) -> bool
+        ensures { IsTrue result ↔ Leaves (λ list op. cas_register_after list (cas_register_operation op)) op reply }
+    {
+        match CasRegisterOperation::from_word(op) {
+            Some(CasRegisterOperation::Write(_)) => reply != DONE,
+            Some(CasRegisterOperation::Read) => true,
+            Some(CasRegisterOperation::CompareAndSet(_, _)) => reply != YES,
+            None => true,
         }
     }
 }

@@ -1,4 +1,5 @@
-ghost use Rattle.std.specs.Prelude.{[], ◌∷◌, ◌≡◌};
+ghost use Rattle.std.specs.Prelude.{[], ◌∷◌, ◌≡◌, ◌↔◌, IsTrue};
+ghost use Rattle.book_base.specs.Foresight.{Leaves};
 ghost use Rattle.seq_objects.specs.declared.kind.Kind.TheVariants as kinds;
 ghost use Rattle.seq_objects.specs.Words.{is_known_word};
 ghost use Rattle.seq_objects.specs.Items.{length-one};
@@ -7,7 +8,7 @@ ghost use Rattle.seq_objects.specs.CounterSteps.{counter_operation, counter_afte
 use crate::entry::INC;
 use crate::items::{first_or_zero, set_only};
 use crate::kind::Kind;
-use crate::reply::value_reply;
+use crate::reply::{is_value, value_reply};
 use book_base::{BAD, OpWord, SeqObject, State};
 
 /// How many counts there are.
@@ -66,6 +67,15 @@ impl SeqObject for Counter {
                 value_reply(count)
             }
             None => BAD,
+        }
+    }
+
+    fn leaves(&self, op: OpWord, reply: u64) -> bool
+        ensures { IsTrue result ↔ Leaves (λ list op. counter_after list (counter_operation op)) op reply }
+    {
+        match CounterOperation::from_word(op) {
+            Some(CounterOperation::Increment) => !is_value(reply),
+            None => true,
         }
     }
 }

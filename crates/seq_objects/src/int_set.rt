@@ -1,4 +1,5 @@
-ghost use Rattle.std.specs.Prelude.{◌≡◌, ◌<◌, [], length};
+ghost use Rattle.std.specs.Prelude.{◌≡◌, ◌<◌, [], length, ◌↔◌, IsTrue};
+ghost use Rattle.book_base.specs.Foresight.{Leaves};
 ghost use Rattle.seq_objects.specs.declared.kind.Kind.TheVariants as kinds;
 ghost use Rattle.seq_objects.specs.Words.{is_known_word};
 ghost use Rattle.seq_objects.specs.Items.{length-none};
@@ -97,6 +98,17 @@ impl SeqObject for IntSet {
                 }
             }
             None => BAD,
+        }
+    }
+
+    fn leaves(&self, op: OpWord, reply: u64) -> bool
+        ensures { IsTrue result ↔ Leaves (λ list op. set_after list (set_operation op)) op reply }
+    {
+        match IntSetOperation::from_word(op) {
+            Some(IntSetOperation::Add(_)) => reply != YES,
+            Some(IntSetOperation::Remove(_)) => reply != YES,
+            Some(IntSetOperation::Has(_)) => true,
+            None => true,
         }
     }
 }

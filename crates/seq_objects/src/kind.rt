@@ -1,4 +1,5 @@
-ghost use Rattle.std.specs.Prelude.{◌≡◌, ◌≢◌, ℕ, ◌∷◌, ◌++◌, true, false, IfSome, IfNone, OnOk, OnErr, option_copied};
+ghost use Rattle.std.specs.Prelude.{◌≡◌, ◌≢◌, ℕ, ◌∷◌, ◌++◌, true, false, ◌↔◌, IfSome, IfNone, IsTrue, OnOk, OnErr, option_copied};
+ghost use Rattle.book_base.specs.Foresight.{Leaves};
 ghost use Rattle.book_base.specs.OperationWord.{IsOperationWord};
 ghost use Rattle.seq_objects.specs.declared.kind.Kind.{Kind};
 ghost use Rattle.seq_objects.specs.Objects.{kind_init, kind_next, length-kind_init, length-kind_next, kind_next-unknown};
@@ -161,6 +162,24 @@ impl SeqObject for Kind {
             Kind::Pqueue => Pqueue.step(state, op),
             Kind::CasRegister => CasRegister.step(state, op),
             Kind::Map => Map.step(state, op),
+        }
+    }
+
+    /// Whether an operation with this reply leaves every list as it is. A reply that the operation
+    /// never gives does so too, since no list is changed with it.
+    #[tactic(auto, unfolding(crate::specs::Objects::kind_next))]
+    fn leaves(&self, op: OpWord, reply: u64) -> bool
+        ensures { IsTrue result ↔ Leaves (kind_next self.now) op reply }
+    {
+        match self {
+            Kind::Queue => Queue.leaves(op, reply),
+            Kind::Stack => Stack.leaves(op, reply),
+            Kind::Register => Register.leaves(op, reply),
+            Kind::Counter => Counter.leaves(op, reply),
+            Kind::IntSet => IntSet.leaves(op, reply),
+            Kind::Pqueue => Pqueue.leaves(op, reply),
+            Kind::CasRegister => CasRegister.leaves(op, reply),
+            Kind::Map => Map.leaves(op, reply),
         }
     }
 }

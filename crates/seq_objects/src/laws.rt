@@ -3,6 +3,7 @@ ghost use Rattle.book_base.specs.OperationWord.{IsOperationWord};
 ghost use Rattle.seq_objects.specs.declared.kind.Kind.{Kind};
 ghost use Rattle.seq_objects.specs.Words.{kind_name, operation_words, operation_text, Spells, IsWord};
 ghost use Rattle.seq_objects.specs.Replies.{reply_word};
+ghost use Rattle.seq_objects.specs.MapLaws.{PutIsGot, PutLeavesOthers, DeleteLeavesOthers, DeletedIsNone, KeysStayOnce};
 
 /// Each kind has one name, which is a word.
 pub fn one_name_per_kind()
@@ -27,4 +28,14 @@ pub fn one_text_per_operation()
 pub fn one_text_per_reply()
     ensures text { (a b : ℕ) → a < 2 ^ 64 → b < 2 ^ 64 → reply_word a ≡ reply_word b → a ≡ b }
     ensures word { (reply : ℕ) → reply < 2 ^ 64 → IsWord (reply_word reply) }
+{}
+
+/// A map keeps what is put: a get gives the last value that was put for its key, and none after the
+/// key was deleted, whatever was done to other keys.
+pub fn maps_keep_what_is_put()
+    ensures put { PutIsGot }
+    ensures put_leaves_others { PutLeavesOthers }
+    ensures delete_leaves_others { DeleteLeavesOthers }
+    ensures deleted { DeletedIsNone }
+    ensures once { KeysStayOnce }
 {}

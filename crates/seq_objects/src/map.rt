@@ -1,4 +1,5 @@
-ghost use Rattle.std.specs.Prelude.{◌≡◌, ◌<◌, [], length};
+ghost use Rattle.std.specs.Prelude.{◌≡◌, ◌<◌, [], length, ◌↔◌, IsTrue};
+ghost use Rattle.book_base.specs.Foresight.{Leaves};
 ghost use Rattle.seq_objects.specs.declared.kind.Kind.TheVariants as kinds;
 ghost use Rattle.seq_objects.specs.Words.{is_known_word};
 ghost use Rattle.seq_objects.specs.Items.{length-none};
@@ -8,7 +9,7 @@ ghost use Rattle.seq_objects.specs.MapSteps.{map_operation, map_after, length-ma
 use crate::entry::{DEL, GET, PUT, argument_of, extra_of};
 use crate::items::insert_in_order;
 use crate::kind::Kind;
-use crate::reply::{NONE, value_reply};
+use crate::reply::{NONE, is_value, value_reply};
 use book_base::{BAD, OpWord, SeqObject, State};
 
 /// How many values a key can have.
@@ -125,6 +126,20 @@ impl SeqObject for Map {
             Some(MapOperation::Get(key)) => get(state, key),
             Some(MapOperation::Delete(key)) => delete(state, key),
             None => BAD,
+        }
+    }
+
+    fn leaves(&self, op: OpWord, reply: u64) -> bool
+        ensures { IsTrue result ↔ Leaves (λ list op. map_after list (map_operation op)) op reply }
+    {
+        match MapOperation::from_word(op) {
+            // A put that replies the very value that it puts found it there.
+            Some(MapOperation::Put(_, value)) => {
+                reply == value_reply(u64::from(value)) || reply != NONE && !is_value(reply)
+            }
+            Some(MapOperation::Get(_)) => true,
+            Some(MapOperation::Delete(_)) => !is_value(reply),
+            None => true,
         }
     }
 }

@@ -1,4 +1,5 @@
-ghost use Rattle.std.specs.Prelude.{[], ◌≡◌};
+ghost use Rattle.std.specs.Prelude.{[], ◌≡◌, ◌↔◌, IsTrue};
+ghost use Rattle.book_base.specs.Foresight.{Leaves};
 ghost use Rattle.seq_objects.specs.declared.kind.Kind.TheVariants as kinds;
 ghost use Rattle.seq_objects.specs.Words.{is_known_word};
 ghost use Rattle.seq_objects.specs.Items.{length-none};
@@ -7,7 +8,7 @@ ghost use Rattle.seq_objects.specs.PqueueSteps.{pqueue_operation, pqueue_after, 
 use crate::entry::{INSERT, MIN, argument_of};
 use crate::items::{insert_in_order, take_first};
 use crate::kind::Kind;
-use crate::reply::DONE;
+use crate::reply::{DONE, is_value};
 use book_base::{BAD, OpWord, SeqObject, State};
 
 /// A priority queue, which gives the least item first.
@@ -65,6 +66,16 @@ impl SeqObject for Pqueue {
             }
             Some(PqueueOperation::Min) => take_first(state),
             None => BAD,
+        }
+    }
+
+    fn leaves(&self, op: OpWord, reply: u64) -> bool
+        ensures { IsTrue result ↔ Leaves (λ list op. pqueue_after list (pqueue_operation op)) op reply }
+    {
+        match PqueueOperation::from_word(op) {
+            Some(PqueueOperation::Insert(_)) => reply != DONE,
+            Some(PqueueOperation::Min) => !is_value(reply),
+            None => true,
         }
     }
 }

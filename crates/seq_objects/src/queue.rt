@@ -1,4 +1,5 @@
-ghost use Rattle.std.specs.Prelude.{[], ◌≡◌};
+ghost use Rattle.std.specs.Prelude.{[], ◌≡◌, ◌↔◌, IsTrue};
+ghost use Rattle.book_base.specs.Foresight.{Leaves};
 ghost use Rattle.seq_objects.specs.declared.kind.Kind.TheVariants as kinds;
 ghost use Rattle.seq_objects.specs.Words.{is_known_word};
 ghost use Rattle.seq_objects.specs.Items.{length-none};
@@ -7,7 +8,7 @@ ghost use Rattle.seq_objects.specs.QueueSteps.{queue_operation, queue_after, len
 use crate::entry::{DEQ, ENQ, argument_of};
 use crate::items::take_first;
 use crate::kind::Kind;
-use crate::reply::DONE;
+use crate::reply::{DONE, is_value};
 use book_base::{BAD, OpWord, SeqObject, State};
 
 /// A first-in first-out queue.
@@ -65,6 +66,16 @@ impl SeqObject for Queue {
             }
             Some(QueueOperation::Dequeue) => take_first(state),
             None => BAD,
+        }
+    }
+
+    fn leaves(&self, op: OpWord, reply: u64) -> bool
+        ensures { IsTrue result ↔ Leaves (λ list op. queue_after list (queue_operation op)) op reply }
+    {
+        match QueueOperation::from_word(op) {
+            Some(QueueOperation::Enqueue(_)) => reply != DONE,
+            Some(QueueOperation::Dequeue) => !is_value(reply),
+            None => true,
         }
     }
 }

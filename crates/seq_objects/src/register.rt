@@ -1,4 +1,5 @@
-ghost use Rattle.std.specs.Prelude.{[], ◌∷◌, ◌≡◌};
+ghost use Rattle.std.specs.Prelude.{[], ◌∷◌, ◌≡◌, ◌↔◌, IsTrue};
+ghost use Rattle.book_base.specs.Foresight.{Leaves};
 ghost use Rattle.seq_objects.specs.declared.kind.Kind.TheVariants as kinds;
 ghost use Rattle.seq_objects.specs.Words.{is_known_word};
 ghost use Rattle.seq_objects.specs.Items.{length-one};
@@ -66,6 +67,16 @@ impl SeqObject for Register {
             }
             Some(RegisterOperation::Read) => value_reply(first_or_zero(state)),
             None => BAD,
+        }
+    }
+
+    fn leaves(&self, op: OpWord, reply: u64) -> bool
+        ensures { IsTrue result ↔ Leaves (λ list op. register_after list (register_operation op)) op reply }
+    {
+        match RegisterOperation::from_word(op) {
+            Some(RegisterOperation::Write(_)) => reply != DONE,
+            Some(RegisterOperation::Read) => true,
+            None => true,
         }
     }
 }

@@ -90,7 +90,7 @@ pub fn value_reply(item: u64) -> u64
 }
 
 /// Whether a reply word gives a value.
-fn is_value(reply: u64) -> bool
+pub fn is_value(reply: u64) -> bool
     ensures { result ≡ is_value reply }
 {
     reply / VALUES == VALUE_TAG

@@ -1,4 +1,5 @@
-ghost use Rattle.std.specs.Prelude.{[], ◌≡◌};
+ghost use Rattle.std.specs.Prelude.{[], ◌≡◌, ◌↔◌, IsTrue};
+ghost use Rattle.book_base.specs.Foresight.{Leaves};
 ghost use Rattle.seq_objects.specs.declared.kind.Kind.TheVariants as kinds;
 ghost use Rattle.seq_objects.specs.Words.{is_known_word};
 ghost use Rattle.seq_objects.specs.Items.{length-none};
@@ -7,7 +8,7 @@ ghost use Rattle.seq_objects.specs.StackSteps.{stack_operation, stack_after, len
 use crate::entry::{POP, PUSH, argument_of};
 use crate::items::take_last;
 use crate::kind::Kind;
-use crate::reply::DONE;
+use crate::reply::{DONE, is_value};
 use book_base::{BAD, OpWord, SeqObject, State};
 
 /// A last-in first-out stack.
@@ -65,6 +66,16 @@ impl SeqObject for Stack {
             }
             Some(StackOperation::Pop) => take_last(state),
             None => BAD,
+        }
+    }
+
+    fn leaves(&self, op: OpWord, reply: u64) -> bool
+        ensures { IsTrue result ↔ Leaves (λ list op. stack_after list (stack_operation op)) op reply }
+    {
+        match StackOperation::from_word(op) {
+            Some(StackOperation::Push(_)) => reply != DONE,
+            Some(StackOperation::Pop) => !is_value(reply),
+            None => true,
         }
     }
 }
