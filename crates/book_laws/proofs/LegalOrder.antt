@@ -65,7 +65,7 @@ pub within_cut : (book : List Page) (cut : List ℕ) (call : Call) → length bo
 within_cut book cut call wide h = let below : call.caller < length book = caller_from_call book call.caller call.number h in omega arith
 
 -- places with the same call and reply are one
-same_place : (a b : Place) → a.caller ≡ b.caller → a.number ≡ b.number → a.reply ≡ b.reply → a ≡ b
+pub same_place : (a b : Place) → a.caller ≡ b.caller → a.number ≡ b.number → a.reply ≡ b.reply → a ≡ b
 same_place a b caller number reply =
     let made : ℕ → ℕ → ℕ → Place = λ i n r. record { caller = i; number = n; reply = r } in
     ap (λ (i : ℕ). made i a.number a.reply) caller ∙ (ap (λ (n : ℕ). made b.caller n a.reply) number ∙ ap (made b.caller b.number) reply)
