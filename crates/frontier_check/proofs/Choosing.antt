@@ -1,8 +1,9 @@
 -- What may be tried after the calls of a cut, and that nothing else goes on from there.
-use Rattle.std.proofs.Common.{◌≡◌, ℕ, zero, suc, ◌+◌, ◌<◌, ◌≤◌, ◌∙◌, ◌↔◌, Bool, IsTrue, List, [], ◌∷◌, ◌++◌, length, get_or, Option, None, Some, unwrap_or, refl, sym, ap, subst, inl, inr, arith}
+use Rattle.std.proofs.Common.{◌≡◌, ℕ, zero, suc, ◌+◌, ◌<◌, ◌≤◌, ◌∙◌, ◌↔◌, Bool, IsTrue, List, [], ◌∷◌, ◌++◌, length, get_or, set, Option, None, Some, unwrap_or, refl, sym, ap, subst, inl, inr, arith}
 use Rattle.std.specs.List.{AllByRecursion, insert}
 use Rattle.std.specs.Option.{IsSomeAnd, IfSome, IfNone}
 use Rattle.std.proofs.lemmas.Bool.{cases_lt}
+use Rattle.std.proofs.lemmas.List.{get_or-set_same, get_or-set_other}
 use Rattle.std.proofs.lemmas.Option.{same_Some, slice_get_within}
 use Rattle.list_laws.proofs.Options.{some_from_is_some_and}
 use Rattle.book_base.specs.declared.call.Call.{Call}
@@ -10,14 +11,17 @@ use Rattle.book_base.specs.declared.call.Place.{Place}
 use Rattle.book_base.specs.declared.call.Record.{Record}
 use Rattle.book_base.specs.Cut.{Holds, IsWithin}
 use Rattle.book_base.specs.Book.{Page, IsValid, IsCall, IsAnswered, operation_of, record_of, Precedes}
-use Rattle.book_base.specs.Order.{call_at, step_at}
+use Rattle.book_base.specs.Order.{call_at, step_at, IsLegalOrder}
+use Rattle.book_base.specs.Foresight.{Leaves, IsHopeless}
 use Rattle.book_base.proofs.PageLemmas.{caller_from_call, caller_from_answer}
 use Rattle.book_base.proofs.GrowthLemmas.{below_calls}
 use Rattle.book_laws.specs.Next.{next_call, raised, list_after, HoldsAnswered, MayComeNext, MayStandNext, Continues}
-use Rattle.book_laws.proofs.LegalOrder.{same_call, answer_stands}
+use Rattle.book_laws.proofs.LegalOrder.{same_call, same_place, answer_stands}
 use Rattle.book_laws.proofs.Precedence.{may_come_next-from_first}
+use Rattle.history_rules.specs.Standing.{MayStandAtOnce, answered_place, word_of}
+use Rattle.history_rules.proofs.Exchange.{goes_on_with_it}
 use Rattle.frontier_check.specs.declared.choice.Choice.{Choice}
-use Rattle.frontier_check.specs.Search.{ViewsAreWithin, IsLeast, IsAmong, places_of, AreChosen, IsOpen, IsDeadEnd}
+use Rattle.frontier_check.specs.Search.{ViewsAreWithin, IsLeast, IsAmong, places_of, AreChosen, IsOpen, IsDeadEnd, GoesOnBy, StandsAtOnce, IsReached}
 
 -- a place among the places of choices, with one more choice
 
@@ -56,14 +60,8 @@ pub open-last : (book : List Page) (next : List ℕ → ℕ → List ℕ × ℕ)
 open-last book next cut list choices last h = record {
   unended = h.unended;
   sound = all-last (MayStandNext book next cut list) choices last h.sound;
-  covered = λ place rest goes. among-last choices last place (h.covered place rest goes);
+  covered = λ rest goes. let found = h.covered rest goes in (found.0, found.1, among-last choices last found.0 found.2, found.3);
 }
-
--- places with the same call and reply are one
-same_place : (a b : Place) → a.caller ≡ b.caller → a.number ≡ b.number → a.reply ≡ b.reply → a ≡ b
-same_place a b caller number reply =
-    let made : ℕ → ℕ → ℕ → Place = λ i n r. record { caller = i; number = n; reply = r } in
-    ap (λ (i : ℕ). made i a.number a.reply) caller ∙ (ap (λ (n : ℕ). made b.caller n a.reply) number ∙ ap (made b.caller b.number) reply)
 
 -- Of each caller one place may stand next.
 pub same_next : (book : List Page) (next : List ℕ → ℕ → List ℕ × ℕ) (cut list : List ℕ) (a b : Place) → MayStandNext book next cut list a → MayStandNext book next cut list b
@@ -79,26 +77,27 @@ pub open-rest : (book : List Page) (next : List ℕ → ℕ → List ℕ × ℕ)
 open-rest book next cut list place places dead h = record {
   unended = h.unended;
   sound = h.sound.1;
-  covered = λ (other : Place) (rest : List Place) (goes : Continues book next cut list (other ∷ rest)). elim (h.covered other rest goes) [
-    | inl same ↦ absurd (dead rest (subst (λ (p : Place). Continues book next (raised cut p.caller) (list_after book next list p) rest) same goes.1))
-    | inr there ↦ there
-  ];
+  covered = λ (rest : List Place) (goes : Continues book next cut list rest).
+      let found = h.covered rest goes in
+      elim found.2 [
+        | inl same ↦ absurd (dead found.1 (subst (λ (p : Place). Continues book next (raised cut p.caller) (list_after book next list p) found.1) same found.3.1))
+        | inr there ↦ (found.0, found.1, there, found.3)
+      ];
 }
 
 -- Where nothing is left to be tried, there is a dead end.
 pub dead_end : (book : List Page) (next : List ℕ → ℕ → List ℕ × ℕ) (cut list : List ℕ) → IsOpen book next cut list [] → IsDeadEnd book next cut list
-dead_end book next cut list h [] goes = absurd (h.unended goes)
-dead_end book next cut list h (place ∷ rest) goes = absurd (h.covered place rest goes)
+dead_end book next cut list h rest goes = absurd (h.covered rest goes).2
 
 -- one caller after another
 
 pub chosen-more : (book : List Page) (next : List ℕ → ℕ → List ℕ × ℕ) (cut list : List ℕ) (caller : ℕ) (places : List Place) → AreChosen book next cut list caller places
-    → ((place : Place) → place.caller ≡ caller → MayStandNext book next cut list place → ⊥) → AreChosen book next cut list (caller + 1) places
+    → ((place : Place) (rest : List Place) → place.caller ≡ caller → Continues book next cut list (place ∷ rest) → ⊥) → AreChosen book next cut list (caller + 1) places
 chosen-more book next cut list caller places h none = record {
   sound = h.sound;
   covered = λ (place : Place) (rest : List Place) (below : place.caller < caller + 1) (goes : Continues book next cut list (place ∷ rest)). elim (cases_lt place.caller caller) [
     | inl early ↦ h.covered place rest early goes
-    | inr here ↦ absurd (none place (omega arith) goes.0)
+    | inr here ↦ absurd (none place rest (omega arith) goes)
   ];
 }
 
@@ -170,15 +169,55 @@ may_not_come-from_least book cut first view below call h is past may =
     let held : get_or cut first 0 < get_or cut first 0 = may.preceded (next_call cut first) before in
     absurd (omega arith)
 
+-- Where the caller's first call outside a cut has the least view, it is answered and stands outside.
+pub unended-from_least : (book : List Page) (cut : List ℕ) (first : ℕ) → IsLeast book cut (length book) first → HoldsAnswered book cut → ⊥
+unended-from_least book cut first least all = let held : get_or cut first 0 < get_or cut first 0 = all (next_call cut first) least.answered in absurd (omega arith)
+
+goes_on-by : (book : List Page) (next : List ℕ → ℕ → List ℕ × ℕ) (cut list : List ℕ) (places : List Place) → (HoldsAnswered book cut → ⊥)
+    → AreChosen book next cut list (length book) places → (rest : List Place) → Continues book next cut list rest → GoesOnBy book next cut list places
+goes_on-by book next cut list places unended h [] goes = absurd (unended goes)
+goes_on-by book next cut list places unended h (place ∷ rest) goes =
+    (place, rest, h.covered place rest (caller_from_call book place.caller place.number goes.0.may_come.is_call) goes, goes)
+
 -- Once all callers are looked at, what is chosen is all that may be tried.
 pub open-from_chosen : (book : List Page) (next : List ℕ → ℕ → List ℕ × ℕ) (cut list : List ℕ) (first : ℕ) (places : List Place) → IsLeast book cut (length book) first
     → AreChosen book next cut list (length book) places → IsOpen book next cut list places
 open-from_chosen book next cut list first places least h = record {
-  unended = λ (all : HoldsAnswered book cut). let held : get_or cut first 0 < get_or cut first 0 = all (next_call cut first) least.answered in absurd (omega arith);
+  unended = unended-from_least book cut first least;
   sound = h.sound;
-  covered = λ (place : Place) (rest : List Place) (goes : Continues book next cut list (place ∷ rest)).
-      h.covered place rest (caller_from_call book place.caller place.number goes.0.may_come.is_call) goes;
+  covered = goes_on-by book next cut list places (unended-from_least book cut first least) h;
 }
+
+-- What may stand at once is all that has to be tried.
+pub open-from_once : (book : List Page) (next : List ℕ → ℕ → List ℕ × ℕ) (cut list : List ℕ) (first : ℕ) (place : Place) → IsLeast book cut (length book) first
+    → StandsAtOnce book next cut list place → IsOpen book next cut list (place ∷ [])
+open-from_once book next cut list first place least h = record {
+  unended = unended-from_least book cut first least;
+  sound = (h.may_stand, tt);
+  covered = λ rest goes. let found = h.goes_on rest goes in (place, found.0, inl refl, found.1);
+}
+
+-- An answered call that may come next, gives its recorded reply and leaves every list with it may stand at once.
+pub at_once : (book : List Page) (next : List ℕ → ℕ → List ℕ × ℕ) (cut list : List ℕ) (place : Place) (r : Record) (op : ℕ) → length cut ≡ length book
+    → MayComeNext book cut (next_call cut place.caller) → place.number ≡ get_or cut place.caller 0 → record_of book (call_at place) ≡ Some r → operation_of book (call_at place) ≡ Some op
+    → r.reply ≡ place.reply → (next list op).1 ≡ place.reply → Leaves next op place.reply → StandsAtOnce book next cut list place
+at_once book next cut list place r op wide may number known made reply gives leaves =
+    let same : call_at place ≡ next_call cut place.caller = same_call (call_at place) (next_call cut place.caller) refl number in
+    let word : word_of book (call_at place) ≡ op = ap (λ (o : Option ℕ). unwrap_or o 0) made in
+    let comes : MayComeNext book cut (call_at place) = subst (λ (c : Call). MayComeNext book cut c) (sym same) may in
+    let there : answered_place (call_at place) r ≡ place = same_place (answered_place (call_at place) r) place refl refl reply in
+    let once : MayStandAtOnce book next cut list (call_at place) r = record {
+      may_come = comes;
+      known = known;
+      gives = ap (λ (w : ℕ). (next list w).1) word ∙ (gives ∙ sym reply);
+      leaves = subst (λ (w : ℕ). Leaves next w r.reply) (sym word) (subst (λ (n : ℕ). Leaves next op n) (sym reply) leaves);
+    } in
+    record {
+      may_stand = may_stand-from_step book next cut list place op comes made (λ (s : Record) at. ap (λ (x : Record). x.reply) (same_Some s r (sym at ∙ known)) ∙ reply) (sym gives);
+      goes_on = λ (rest : List Place) (goes : Continues book next cut list rest).
+          let found = goes_on_with_it book next cut list (call_at place) r rest (omega (arith, wide)) once goes in
+          (found.0, subst (λ (p : Place). Continues book next cut list (p ∷ found.0)) there found.1);
+    }
 
 -- one more caller for the least view
 
@@ -330,18 +369,18 @@ pub considered-skip : (book : List Page) (next : List ℕ → ℕ → List ℕ �
     → AreChosen book next cut list (call.caller + 1) places
 considered-skip book next cut list places call op reply h number known gives not =
     let same : call ≡ next_call cut call.caller = same_call call (next_call cut call.caller) refl number in
-    chosen-more book next cut list call.caller places h (λ (place : Place) (by : place.caller ≡ call.caller) (may : MayStandNext book next cut list place).
+    chosen-more book next cut list call.caller places h (λ (place : Place) (rest : List Place) (by : place.caller ≡ call.caller) (goes : Continues book next cut list (place ∷ rest)).
     not (λ (r : Record) (there : record_of book call ≡ Some r).
-    recorded-from_may book next cut list call.caller op reply place (sym (ap (operation_of book) same) ∙ known) gives by may r (sym (ap (record_of book) same) ∙ there)))
+    recorded-from_may book next cut list call.caller op reply place (sym (ap (operation_of book) same) ∙ known) gives by goes.0 r (sym (ap (record_of book) same) ∙ there)))
 
 -- A caller whose next call the least view doesn't hold has none that may come next.
 pub outside-skip : (book : List Page) (next : List ℕ → ℕ → List ℕ × ℕ) (cut list : List ℕ) (places : List Place) (first caller : ℕ) (view : List ℕ) → IsLeast book cut (length book) first
     → ((r : Record) → record_of book (next_call cut first) ≡ Some r → r.view ≡ view) → AreChosen book next cut list caller places → get_or view caller 0 ≤ get_or cut caller 0
     → AreChosen book next cut list (caller + 1) places
 outside-skip book next cut list places first caller view least is h past =
-    chosen-more book next cut list caller places h (λ (place : Place) (by : place.caller ≡ caller) (may : MayStandNext book next cut list place).
+    chosen-more book next cut list caller places h (λ (place : Place) (rest : List Place) (by : place.caller ≡ caller) (goes : Continues book next cut list (place ∷ rest)).
     let late : get_or view place.caller 0 ≤ get_or cut place.caller 0 = subst (λ (i : ℕ). get_or view i 0 ≤ get_or cut i 0) (sym by) past in
-    may_not_come-from_least book cut first view (length book) (call_at place) least is late may.may_come)
+    may_not_come-from_least book cut first view (length book) (call_at place) least is late goes.0.may_come)
 
 -- the view of the record of a caller's first call outside a cut
 pub view-of : (book : List Page) (cut : List ℕ) (first number : ℕ) (found : Record) → number ≡ get_or cut first 0 → record_of book (record { caller = first; number = number }) ≡ Some found
@@ -349,3 +388,29 @@ pub view-of : (book : List Page) (cut : List ℕ) (first number : ℕ) (found : 
 view-of book cut first number found is at r there =
     let made : ℕ → Call = λ n. record { caller = first; number = n } in
     ap (λ (x : Record). x.view) (same_Some r found (sym there ∙ (sym (ap (λ (n : ℕ). record_of book (made n)) is) ∙ at)))
+
+-- Nothing goes on with a call that is hopeless where an order from the start reaches,
+pub hopeless-ends : (init : List ℕ) (next : List ℕ → ℕ → List ℕ × ℕ) (book : List Page) (cut list : List ℕ) (place : Place) (rest : List Place) → IsReached init next book cut list
+    → IsHopeless init next book cut list (next_call cut place.caller) → Continues book next cut list (place ∷ rest) → ⊥
+hopeless-ends init next book cut list place rest reached hopeless goes =
+    let made : ℕ → Place = λ n. record { caller = place.caller; number = n; reply = place.reply } in
+    hopeless reached.before rest place.reply reached.reaches
+    (subst (λ (n : ℕ). IsLegalOrder init next book (reached.before ++ made n ∷ rest)) goes.0.may_come.next (reached.legal (place ∷ rest) goes))
+
+-- so that its caller has no place that is to be tried.
+pub hopeless-skip : (init : List ℕ) (next : List ℕ → ℕ → List ℕ × ℕ) (book : List Page) (cut list : List ℕ) (places : List Place) (caller : ℕ) → IsReached init next book cut list
+    → AreChosen book next cut list caller places → IsHopeless init next book cut list (next_call cut caller) → AreChosen book next cut list (caller + 1) places
+hopeless-skip init next book cut list places caller reached h hopeless =
+    chosen-more book next cut list caller places h (λ (place : Place) (rest : List Place) (by : place.caller ≡ caller) (goes : Continues book next cut list (place ∷ rest)).
+    hopeless-ends init next book cut list place rest reached (subst (λ (i : ℕ). IsHopeless init next book cut list (next_call cut i)) (sym by) hopeless) goes)
+
+-- one more count is copied
+pub copied-more : (cut new counts : List ℕ) (i n : ℕ) → length cut ≡ length counts → i < length counts → n ≡ get_or counts i 0 → new ≡ set cut i n
+    → ((j : ℕ) → j < i → get_or cut j 0 ≡ get_or counts j 0) → (j : ℕ) → j < i + 1 → get_or new j 0 ≡ get_or counts j 0
+copied-more cut new counts i n long inside is made same j below =
+    ap (λ (l : List ℕ). get_or l j 0) made ∙ elim (cases_lt j i) [
+      | inl early ↦ get_or-set_other cut i j n 0 (λ (e : j ≡ i). absurd (omega arith)) ∙ same j early
+      | inr here ↦
+          let at : j ≡ i = omega arith in
+          ap (λ (k : ℕ). get_or (set cut i n) k 0) at ∙ (get_or-set_same cut i n 0 (omega arith) ∙ (is ∙ sym (ap (λ (k : ℕ). get_or counts k 0) at)))
+    ]

@@ -2,7 +2,7 @@
 use Rattle.std.proofs.Common.{◌≡◌, ℕ, ◌+◌, ◌*◌, ◌<◌, ◌≤◌, ◌∙◌, List, [], ◌∷◌, ◌++◌, length, get_or, set, sum, replicate, refl, sym, ap, subst, inl, inr, arith}
 use Rattle.std.specs.List.{All}
 use Rattle.std.proofs.lemmas.Bool.{cases_eq}
-use Rattle.std.proofs.lemmas.List.{length-set, length-replicate, set-set, set-get_or}
+use Rattle.std.proofs.lemmas.List.{append-nil, append_assoc, length-set, length-replicate, set-set, set-get_or}
 use Rattle.std.proofs.lemmas.List.Sums.{sum_by-set, sum_by-le}
 use Rattle.std.proofs.lemmas.List.Elements.{All-from_get_or}
 use Rattle.list_laws.proofs.Places.{get_or-replicate_default}
@@ -11,12 +11,14 @@ use Rattle.book_base.specs.declared.call.Place.{Place}
 use Rattle.book_base.specs.declared.TheConstants.{MAX_CALLERS, MAX_CALLS}
 use Rattle.book_base.specs.Book.{Page, calls_of, IsSmall}
 use Rattle.book_base.specs.Order.{call_at, step_at, IsLegalOrder, HasLegalOrder}
+use Rattle.book_base.specs.Foresight.{Reaches}
+use Rattle.book_base.proofs.ReachingLemmas.{no_places_reach_the_start, one_more_place_reaches_on}
 use Rattle.book_base.proofs.PageLemmas.{caller_from_call}
 use Rattle.book_laws.specs.Next.{raised, list_after, HoldsAnswered, MayComeNext, Continues}
-use Rattle.book_laws.proofs.LegalOrder.{raised_same, raised_other, legal_order_from_continues, continues_from_legal_order}
+use Rattle.book_laws.proofs.LegalOrder.{raised_same, raised_other, within_cut, legal_order_from_continues, continues_from_legal_order}
 use Rattle.frontier_check.specs.declared.walk.Level.{Level}
 use Rattle.frontier_check.specs.declared.walk.TheConstants.{ROOM}
-use Rattle.frontier_check.specs.Search.{no_calls, places_of, IsOpen, IsDeadEnd, Leads, Fits, order_of}
+use Rattle.frontier_check.specs.Search.{no_calls, places_of, IsOpen, IsDeadEnd, Leads, Fits, IsReached, order_of}
 
 -- one level more
 pub leads-push : (book : List Page) (next : List ℕ → ℕ → List ℕ × ℕ) (cut list : List ℕ) (levels : List Level) (to_cut to_list : List ℕ) (level : Level)
@@ -59,6 +61,47 @@ leads-continues : (book : List Page) (next : List ℕ → ℕ → List ℕ × �
 leads-continues book next cut list [] to_cut to_list (same_cut, same_list) all = subst (λ (c : List ℕ). HoldsAnswered book c) (sym same_cut) all
 leads-continues book next cut list (first ∷ levels) to_cut to_list (words, here, later) all =
     (here.sound.0, leads-continues book next (raised cut first.place.caller) (list_after book next list first.place) levels to_cut to_list later all)
+
+-- the cut without calls
+pub zeros : (book : List Page) (i : ℕ) → get_or (no_calls book) i 0 ≡ 0
+zeros book i = get_or-replicate_default (length book) i 0
+
+-- what goes on from where the levels lead to goes on, after them, from where they begin
+leads-more : (book : List Page) (next : List ℕ → ℕ → List ℕ × ℕ) (cut list : List ℕ) (levels : List Level) (to_cut to_list : List ℕ) (rest : List Place)
+    → Leads book next cut list levels to_cut to_list → Continues book next to_cut to_list rest → Continues book next cut list (order_of levels ++ rest)
+leads-more book next cut list [] to_cut to_list rest (same_cut, same_list) goes =
+    subst (λ (c : List ℕ). Continues book next c list rest) (sym same_cut) (subst (λ (l : List ℕ). Continues book next to_cut l rest) (sym same_list) goes)
+leads-more book next cut list (first ∷ levels) to_cut to_list rest (words, here, later) goes =
+    (here.sound.0, leads-more book next (raised cut first.place.caller) (list_after book next list first.place) levels to_cut to_list rest later goes)
+
+-- what the levels lead to is reached by their places, where it is reached from where they begin
+leads-reaches : (init : List ℕ) (next : List ℕ → ℕ → List ℕ × ℕ) (book : List Page) (before : List Place) (cut list : List ℕ) (levels : List Level) (to_cut to_list : List ℕ)
+    → length book ≤ length cut → Reaches init next book before cut list → Leads book next cut list levels to_cut to_list
+    → Reaches init next book (before ++ order_of levels) to_cut to_list
+leads-reaches init next book before cut list [] to_cut to_list wide reaches (same_cut, same_list) =
+    subst (λ (order : List Place). Reaches init next book order to_cut to_list) (sym (append-nil before))
+    (subst (λ (c : List ℕ). Reaches init next book before c to_list) same_cut (subst (λ (l : List ℕ). Reaches init next book before cut l) same_list reaches))
+leads-reaches init next book before cut list (first ∷ levels) to_cut to_list wide reaches (words, here, later) =
+    let may : MayComeNext book cut (call_at first.place) = here.sound.0.may_come in
+    let inside : first.place.caller < length cut = within_cut book cut (call_at first.place) wide may.is_call in
+    let longer : length (raised cut first.place.caller) ≡ length cut = length-set cut first.place.caller (get_or cut first.place.caller 0 + 1) in
+    let one : Reaches init next book (before ++ first.place ∷ []) (raised cut first.place.caller) (list_after book next list first.place) =
+    subst (λ (n : ℕ). Reaches init next book (before ++ first.place ∷ []) (set cut first.place.caller (n + 1)) (list_after book next list first.place)) may.next
+    (one_more_place_reaches_on init next book before cut list first.place reaches inside may.next) in
+    subst (λ (order : List Place). Reaches init next book order to_cut to_list) (append_assoc before (first.place ∷ []) (order_of levels))
+    (leads-reaches init next book (before ++ first.place ∷ []) (raised cut first.place.caller) (list_after book next list first.place) levels to_cut to_list (omega arith) one later)
+
+-- The levels that lead from the start to a cut and a list reach them.
+pub reached-from_leads : (init : List ℕ) (next : List ℕ → ℕ → List ℕ × ℕ) (book : List Page) (levels : List Level) (cut list : List ℕ) → Leads book next (no_calls book) init levels cut list
+    → IsReached init next book cut list
+reached-from_leads init next book levels cut list leads =
+    let long : length (no_calls book) ≡ length book = length-replicate (length book) 0 in
+    record {
+      before = order_of levels;
+      reaches = leads-reaches init next book [] (no_calls book) init levels cut list (omega arith) (no_places_reach_the_start init next book (length book)) leads;
+      legal = λ rest goes. legal_order_from_continues book init next (no_calls book) (order_of levels ++ rest) (omega arith) (zeros book)
+          (leads-more book next (no_calls book) init levels cut list rest leads goes);
+    }
 
 -- a raised cut holds one call more
 pub sum_raised : (cut : List ℕ) (i : ℕ) → i < length cut → sum (raised cut i) ≡ sum cut + 1
@@ -109,10 +152,6 @@ sum_small book counts small wide within =
     let few : All (λ (n : ℕ). n ≤ MAX_CALLS) counts = All-from_get_or (λ (n : ℕ). n ≤ MAX_CALLS) counts 0 (λ (i : ℕ) (lt : i < length counts). let a = within i in let b = small.calls i in omega (arith, a, b)) in
     let callers = small.callers in
     omega (arith, sum_by-le (λ (n : ℕ). n) MAX_CALLS counts few)
-
--- the cut without calls
-pub zeros : (book : List Page) (i : ℕ) → get_or (no_calls book) i 0 ≡ 0
-zeros book i = get_or-replicate_default (length book) i 0
 
 sum-zeros : (n : ℕ) → sum (replicate n 0) ≡ 0
 sum-zeros n = let all : All (λ (m : ℕ). m ≤ 0) (replicate n 0) = All-from_get_or (λ (m : ℕ). m ≤ 0) (replicate n 0) 0 (λ (i : ℕ) (lt : i < length (replicate n 0)). omega (arith, get_or-replicate_default {X = ℕ} n i 0)) in

@@ -14,9 +14,9 @@ use Rattle.frontier_check.specs.declared.walk.Level.{Level}
 use Rattle.frontier_check.specs.declared.walk.Walk.{Walk}
 use Rattle.frontier_check.specs.declared.walk.TheConstants.{ROOM}
 use Rattle.frontier_check.specs.Memo.{IsMemo, Remembers}
-use Rattle.frontier_check.specs.Search.{no_calls, places_of, Fits, IsLeast, IsOpen, IsDeadEnd, Leads, IsWalk, order_of, weigh, weight}
+use Rattle.frontier_check.specs.Search.{no_calls, places_of, Fits, IsLeast, IsOpen, IsDeadEnd, IsReached, Leads, IsWalk, order_of, weigh, weight}
 use Rattle.frontier_check.proofs.Choosing.{may_come-from_least, open-last, open-rest, dead_end}
-use Rattle.frontier_check.proofs.Leading.{leads-push, leads-pop, standing, legal-from_leads, none-from_dead, lowered}
+use Rattle.frontier_check.proofs.Leading.{leads-push, leads-pop, standing, reached-from_leads, legal-from_leads, none-from_dead, lowered}
 use Rattle.frontier_check.proofs.Weighing.{weigh-push, weigh-skip, weigh-pop}
 
 -- what a walk leads to, in the words of another with the same levels, counts and list
@@ -143,24 +143,39 @@ pub walk-found : (book : List Page) (init : List ℕ) (next : List ℕ → ℕ �
     → IsLegalOrder init next book (order_of new.levels.items)
 walk-found book init next old new level h d all = legal-from_leads book init next new.levels.items new.counts.items new.here.words (deeper-leads book init next old new level h d) all
 
+-- Where a place that is put next leads to.
+pub record LeadsTo (book : List Page) (next : List ℕ → ℕ → List ℕ × ℕ) (old : Walk) (level : Level) (cut list : List ℕ) : Type 0 where
+  pub words : level.words.items ≡ old.here.words
+  pub choices : level.choices.items ≡ old.choices.items
+  pub cut_is : cut ≡ raised old.counts.items level.place.caller
+  pub list_is : list ≡ list_after book next old.here.words level.place
+
+leads-to : (book : List Page) (init : List ℕ) (next : List ℕ → ℕ → List ℕ × ℕ) (old : Walk) (level : Level) (cut list : List ℕ)
+    → IsWalk book init next old (level.place ∷ places_of old.choices.items) → LeadsTo book next old level cut list
+    → Leads book next (no_calls book) init (old.levels.items ++ level ∷ []) cut list
+leads-to book init next old level cut list h to =
+    let here : IsOpen book next old.counts.items old.here.words (level.place ∷ places_of level.choices.items) =
+    subst (λ (cs : List Choice). IsOpen book next old.counts.items old.here.words (level.place ∷ places_of cs)) (sym to.choices) h.here in
+    same_leads book next (no_calls book) init (old.levels.items ++ level ∷ []) (old.levels.items ++ level ∷ []) (raised old.counts.items level.place.caller) cut
+    (list_after book next old.here.words level.place) list refl to.cut_is to.list_is
+    (leads-push book next (no_calls book) init old.levels.items old.counts.items old.here.words level h.leads to.words here)
+
 -- Where a place leads to a pair that isn't the end, one more word fits the list there.
 pub deeper-fits : (book : List Page) (init : List ℕ) (next : List ℕ → ℕ → List ℕ × ℕ) (old : Walk) (level : Level) (cut list : List ℕ) (first : ℕ) → IsValid book → IsSmall book
     → length init ≤ 1 → ((list : List ℕ) (op : ℕ) → length (next list op).0 ≤ length list + 1) → IsWalk book init next old (level.place ∷ places_of old.choices.items)
-    → level.words.items ≡ old.here.words → level.choices.items ≡ old.choices.items → cut ≡ raised old.counts.items level.place.caller → list ≡ list_after book next old.here.words level.place
-    → IsLeast book cut (length book) first → Fits cut list
-deeper-fits book init next old level cut list first valid small begins grows h words choices cut_is list_is least =
-    let here : IsOpen book next old.counts.items old.here.words (level.place ∷ places_of level.choices.items) =
-    subst (λ (cs : List Choice). IsOpen book next old.counts.items old.here.words (level.place ∷ places_of cs)) (sym choices) h.here in
-    let leads : Leads book next (no_calls book) init (old.levels.items ++ level ∷ []) cut list =
-    same_leads book next (no_calls book) init (old.levels.items ++ level ∷ []) (old.levels.items ++ level ∷ []) (raised old.counts.items level.place.caller) cut
-    (list_after book next old.here.words level.place) list refl cut_is list_is
-    (leads-push book next (no_calls book) init old.levels.items old.counts.items old.here.words level h.leads words here) in
+    → LeadsTo book next old level cut list → IsLeast book cut (length book) first → Fits cut list
+deeper-fits book init next old level cut list first valid small begins grows h to least =
     let place : Place = record { caller = first; number = get_or cut first 0; reply = 0 } in
     let there = answer_stands book (next_call cut first) least.answered in
     let own = valid.own (next_call cut first) there.0 there.1 in
     let may : MayComeNext book cut (next_call cut first) =
     may_come-from_least book cut first first there.0.view valid least (λ (r : Record) at. ap (λ (x : Record). x.view) (same_Some r there.0 (sym at ∙ there.1))) (omega (arith, own)) in
-    (standing book init next (old.levels.items ++ level ∷ []) cut list place small begins grows leads may).fits
+    (standing book init next (old.levels.items ++ level ∷ []) cut list place small begins grows (leads-to book init next old level cut list h to) may).fits
+
+-- An order from the start reaches where a place leads to.
+pub deeper-reached : (book : List Page) (init : List ℕ) (next : List ℕ → ℕ → List ℕ × ℕ) (old : Walk) (level : Level) (cut list : List ℕ)
+    → IsWalk book init next old (level.place ∷ places_of old.choices.items) → LeadsTo book next old level cut list → IsReached init next book cut list
+deeper-reached book init next old level cut list h to = reached-from_leads init next book (old.levels.items ++ level ∷ []) cut list (leads-to book init next old level cut list h to)
 
 -- one level back from a dead end
 pub walk-back : (book : List Page) (init : List ℕ) (next : List ℕ → ℕ → List ℕ × ℕ) (old new : Walk) (level : Level)

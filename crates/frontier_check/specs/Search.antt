@@ -1,5 +1,5 @@
 -- The search for a legal order: where it stands, and what is known there.
-use Rattle.std.specs.Prelude.{◌≡◌, ℕ, zero, suc, ◌+◌, ◌*◌, ◌-◌, ◌<◌, ◌≤◌, ◌⊎◌, List, [], ◌∷◌, length, map, replicate, Some}
+use Rattle.std.specs.Prelude.{◌≡◌, ℕ, zero, suc, ◌+◌, ◌*◌, ◌-◌, ◌<◌, ◌≤◌, ◌⊎◌, List, [], ◌∷◌, ◌++◌, length, map, replicate, Some}
 use Rattle.std.specs.List.{AllByRecursion}
 use Rattle.book_base.specs.declared.call.Call.{Call}
 use Rattle.book_base.specs.declared.call.Record.{Record}
@@ -8,6 +8,7 @@ use Rattle.book_base.specs.declared.TheConstants.{MAX_CALLERS}
 use Rattle.book_base.specs.Cut.{IsWithin}
 use Rattle.book_base.specs.Order.{IsLegalOrder, HasLegalOrder}
 use Rattle.book_base.specs.Book.{Page, IsAnswered, record_of}
+use Rattle.book_base.specs.Foresight.{Reaches}
 use Rattle.book_laws.specs.Next.{next_call, raised, list_after, HoldsAnswered, MayStandNext, Continues}
 use Rattle.frontier_check.specs.declared.choice.Choice.{Choice}
 use Rattle.frontier_check.specs.declared.walk.Level.{Level}
@@ -48,14 +49,29 @@ IsAmong place (first ∷ places) = (place ≡ first) ⊎ IsAmong place places
 abbrev pub places_of : List Choice → List Place
 places_of choices = map (λ choice. choice.place) choices
 
+-- An order goes on from a cut and a list by one of these places.
+abbrev pub GoesOnBy : List Page → (List ℕ → ℕ → List ℕ × ℕ) → List ℕ → List ℕ → List Place → Type 0
+GoesOnBy book next cut list places = (place : Place) × (rest : List Place) × IsAmong place places × Continues book next cut list (place ∷ rest)
+
 -- What is known of a cut and a list where these places are still to be tried: not all answered calls stand, each of the places may
--- stand next, and a legal order goes on by one of them.
+-- stand next, and where an order goes on at all, one goes on by one of them.
 pub record IsOpen (book : List Page) (next : List ℕ → ℕ → List ℕ × ℕ) (cut list : List ℕ) (places : List Place) : Type 0 where
   pub unended : HoldsAnswered book cut → ⊥
   pub sound : AllByRecursion (MayStandNext book next cut list) places
-  pub covered : (place : Place) (rest : List Place) → Continues book next cut list (place ∷ rest) → IsAmong place places
+  pub covered : (rest : List Place) → Continues book next cut list rest → GoesOnBy book next cut list places
 
--- The places that were chosen so far, of the callers below a number: each may stand next, and a legal order that goes on by one of
+-- A place may stand at once: it may stand next, and where an order goes on at all, one goes on by it.
+pub record StandsAtOnce (book : List Page) (next : List ℕ → ℕ → List ℕ × ℕ) (cut list : List ℕ) (place : Place) : Type 0 where
+  pub may_stand : MayStandNext book next cut list place
+  pub goes_on : (rest : List Place) → Continues book next cut list rest → (other : List Place) × Continues book next cut list (place ∷ other)
+
+-- An order from the start reaches a cut and a list, and makes a legal order with all that goes on from there.
+pub record IsReached (init : List ℕ) (next : List ℕ → ℕ → List ℕ × ℕ) (book : List Page) (cut list : List ℕ) : Type 0 where
+  pub before : List Place
+  pub reaches : Reaches init next book before cut list
+  pub legal : (rest : List Place) → Continues book next cut list rest → IsLegalOrder init next book (before ++ rest)
+
+-- The places that were chosen so far, of the callers below a number: each may stand next, and an order that goes on by one of
 -- these callers goes on by one of them.
 pub record AreChosen (book : List Page) (next : List ℕ → ℕ → List ℕ × ℕ) (cut list : List ℕ) (below : ℕ) (places : List Place) : Type 0 where
   pub sound : AllByRecursion (MayStandNext book next cut list) places

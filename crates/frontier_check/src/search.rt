@@ -3,14 +3,16 @@ ghost use Rattle.book_base.specs.declared.call.Place.{Place};
 ghost use Rattle.book_base.specs.declared.call.Record.{Record};
 ghost use Rattle.book_base.specs.Book.{IsValid, IsSmall, IsCall, IsAnswered, record_of};
 ghost use Rattle.book_base.specs.Order.{IsLegalOrder, HasLegalOrder};
+ghost use Rattle.book_base.specs.Foresight.{IsForesight, IsHopeless};
+ghost use Rattle.book_base.specs.declared.TheConstants.{MAX_CALLERS};
 ghost use Rattle.book_laws.specs.Next.{next_call, raised, list_after, HoldsAnswered, MayComeNext};
-ghost use Rattle.frontier_check.specs.Search.{IsLeast, ViewsAreWithin, places_of, AreChosen, IsOpen, IsWalk, IsRightOutcome, Fits, weigh, weight};
+ghost use Rattle.frontier_check.specs.Search.{IsLeast, ViewsAreWithin, places_of, AreChosen, IsOpen, IsReached, IsWalk, IsRightOutcome, StandsAtOnce, Fits, weigh, weight};
 
 use crate::choice::Choice;
 use crate::memo::Memo;
 use crate::plan::Plan;
 use crate::walk::{Level, Outcome, ROOM, Walk, load, places, set_count};
-use book_base::{Book, Call, Cut, MAX_CALLERS, NoMemory, Place, SeqObject, State};
+use book_base::{Book, Call, Cut, Foresight, NoMemory, Place, SeqObject, State};
 use std::alloc::Global;
 use std::mem;
 
@@ -19,6 +21,7 @@ pub struct Search<'a, S> {
     pub alloc: Global,
     pub object: &'a S,
     pub book: &'a Book,
+    pub known: &'a Foresight,
     pub plan: &'a Plan,
 }
 
@@ -28,6 +31,7 @@ impl<S> Drop for Search<'_, S> {
             alloc: _,
             object: _,
             book: _,
+            known: _,
             plan: _,
         } = self;
     }
@@ -36,6 +40,7 @@ impl<S> Drop for Search<'_, S> {
 impl<S: SeqObject> Search<'_, S> {
     /// Finds the places of a legal order, if there is one.
     pub fn run(&self) -> Result<Option<Vec<Place>>, NoMemory>
+        requires foresight { IsForesight (S.init self.now.object.now) (S.next self.now.object.now) self.now.book.now self.now.known.now }
         ensures found { IfOk result (λ found. IfSome found (λ order. IsLegalOrder (S.init self.now.object.now) (S.next self.now.object.now) self.now.book.now order.items)) }
         ensures none { IfOk result (λ found. IfNone found (HasLegalOrder (S.init self.now.object.now) (S.next self.now.object.now) self.now.book.now → ⊥)) }
     {
@@ -60,6 +65,7 @@ impl<S: SeqObject> Search<'_, S> {
 
     // Goes on with a walk until it has found a legal order, or all is tried.
     fn go_on(&self, walk: &mut Walk, spare: &mut State) -> Result<Option<Vec<Place>>, NoMemory>
+        requires foresight { IsForesight (S.init self.now.object.now) (S.next self.now.object.now) self.now.book.now self.now.known.now }
         requires valid { IsValid self.now.book.now }
         requires small { IsSmall self.now.book.now }
         requires walk { IsWalk self.now.book.now (S.init self.now.object.now) (S.next self.now.object.now) walk.old (places_of walk.old.choices.items) }
@@ -78,6 +84,7 @@ impl<S: SeqObject> Search<'_, S> {
 
     // Tries the best choice that is left, or leaves a dead end.
     fn advance(&self, walk: &mut Walk, spare: &mut State) -> Result<Outcome, NoMemory>
+        requires foresight { IsForesight (S.init self.now.object.now) (S.next self.now.object.now) self.now.book.now self.now.known.now }
         requires valid { IsValid self.now.book.now }
         requires small { IsSmall self.now.book.now }
         requires walk { IsWalk self.now.book.now (S.init self.now.object.now) (S.next self.now.object.now) walk.old (places_of walk.old.choices.items) }
@@ -97,6 +104,7 @@ impl<S: SeqObject> Search<'_, S> {
 
     // Puts a place next, unless that leads to a remembered dead end.
     fn enter(&self, walk: &mut Walk, spare: &mut State, place: Place) -> Result<Outcome, NoMemory>
+        requires foresight { IsForesight (S.init self.now.object.now) (S.next self.now.object.now) self.now.book.now self.now.known.now }
         requires valid { IsValid self.now.book.now }
         requires small { IsSmall self.now.book.now }
         requires walk { IsWalk self.now.book.now (S.init self.now.object.now) (S.next self.now.object.now) walk.old (place ∷ places_of walk.old.choices.items) }
@@ -176,9 +184,10 @@ impl<S: SeqObject> Search<'_, S> {
         Outcome::GoesOn
     }
 
-    // What may be tried after the calls of a cut, at a list of the object: each place that may stand next,
-    // the best one last. The caller's first call outside the cut has the least view of all such calls, so
-    // that a call may come next exactly where this view holds it.
+    // What is to be tried after the calls of a cut, at a list of the object: each place that may stand
+    // next and isn't known to be hopeless, the best one last; or one alone that may stand at once. The
+    // caller's first call outside the cut has the least view of all such calls, so that a call may come
+    // next exactly where this view holds it.
     fn choices(
         &self,
         counts: &[u16],
@@ -186,7 +195,8 @@ impl<S: SeqObject> Search<'_, S> {
         spare: &mut State,
         first: u32,
     ) -> Result<Vec<Choice>, NoMemory>
-        requires small { IsSmall self.now.book.now }
+        requires foresight { IsForesight (S.init self.now.object.now) (S.next self.now.object.now) self.now.book.now self.now.known.now }
+        requires reached { IsReached (S.init self.now.object.now) (S.next self.now.object.now) self.now.book.now counts.now here.now.words }
         requires wide { length counts.now ≡ length self.now.book.now }
         requires first { IsLeast self.now.book.now counts.now (length self.now.book.now) first }
         requires fits { Fits counts.now here.now.words }
@@ -195,21 +205,95 @@ impl<S: SeqObject> Search<'_, S> {
         ensures open { IfOk result (λ choices. IsOpen self.now.book.now (S.next self.now.object.now) counts.now here.now.words (places_of choices.items)) }
         ensures few { IfOk result (λ choices. length choices.items ≤ length self.now.book.now) }
     {
-        let number = u64::from(counts[first as usize]);
-        let view = self
-            .book
-            .record(Call {
-                caller: first,
-                number,
-            })
-            .view;
+        let view = self.first_view(counts, first);
         let mut choices = Vec::new(self.alloc);
+        if let Some(place) = self.at_once(counts, &view, here, spare, first) {
+            choices.push(Choice { turn: 0, place })?;
+            return Ok(choices);
+        }
+        let cut = cut_of(counts);
         for caller in 0..self.book.callers() {
-            if u64::from(counts[caller as usize]) < view.get(caller) {
+            if u64::from(counts[caller as usize]) < view.get(caller)
+                && !self.is_hopeless(&cut, here, caller)
+            {
                 self.consider(counts, caller, here, spare, &mut choices)?;
             }
         }
         Ok(choices)
+    }
+
+    // The place of an answered call that may stand at once after the calls of a cut, if there is one.
+    fn at_once(
+        &self,
+        counts: &[u16],
+        view: &Cut,
+        here: &State,
+        spare: &mut State,
+        first: u32,
+    ) -> Option<Place>
+        requires wide { length counts.now ≡ length self.now.book.now }
+        requires first { IsLeast self.now.book.now counts.now (length self.now.book.now) first }
+        requires view { (r : Record) → record_of self.now.book.now (next_call counts.now first) ≡ Some r → r.view ≡ view.now }
+        requires views { length view.now ≡ length self.now.book.now }
+        requires fits { Fits counts.now here.now.words }
+        requires room { spare.old.room ≡ ROOM }
+        ensures room { spare.new.room ≡ ROOM }
+        ensures some { IfSome result (StandsAtOnce self.now.book.now (S.next self.now.object.now) counts.now here.now.words) }
+    {
+        for caller in 0..self.book.callers() {
+            if u64::from(counts[caller as usize]) < view.get(caller) {
+                let place = self.leaving(counts, caller, here, spare);
+                if place.is_some() {
+                    return place;
+                }
+            }
+        }
+        None
+    }
+
+    // The place of a caller's next call, which may come next, where it is answered, leaves every list with
+    // its recorded reply, and the object gives this reply. Only an object that says so is asked for a step.
+    fn leaving(&self, counts: &[u16], caller: u32, here: &State, spare: &mut State) -> Option<Place>
+        requires wide { length counts.now ≡ length self.now.book.now }
+        requires caller { caller < length counts.now }
+        requires may { MayComeNext self.now.book.now counts.now (next_call counts.now caller) }
+        requires fits { Fits counts.now here.now.words }
+        requires room { spare.old.room ≡ ROOM }
+        ensures room { spare.new.room ≡ ROOM }
+        ensures some { IfSome result (StandsAtOnce self.now.book.now (S.next self.now.object.now) counts.now here.now.words) }
+    {
+        let number = u64::from(counts[caller as usize]);
+        if number >= self.book.answers(caller) {
+            return None;
+        }
+        let call = Call { caller, number };
+        let op = self.book.op(call);
+        let reply = self.book.record(call).reply;
+        if !self.object.leaves(op, reply) {
+            return None;
+        }
+        spare.copy_from(here);
+        if self.object.step(spare, op) != reply {
+            return None;
+        }
+        Some(Place {
+            caller,
+            number,
+            reply,
+        })
+    }
+
+    // Whether a caller's next call after a cut is known to be hopeless there.
+    fn is_hopeless(&self, cut: &Cut, here: &State, caller: u32) -> bool
+        requires caller { caller < length cut.now }
+        requires foresight { IsForesight (S.init self.now.object.now) (S.next self.now.object.now) self.now.book.now self.now.known.now }
+        ensures { IsTrue result → IsHopeless (S.init self.now.object.now) (S.next self.now.object.now) self.now.book.now cut.now here.now.words (next_call cut.now caller) }
+    {
+        let call = Call {
+            caller,
+            number: cut.get(caller),
+        };
+        self.known.forbids(cut.counts(), here.words(), call)
     }
 
     // Adds the place of a caller's next call, which may come next, if the object gives the recorded reply.
@@ -293,6 +377,20 @@ impl<S: SeqObject> Search<'_, S> {
         let number = u64::from(counts[caller as usize]);
         self.book.record(Call { caller, number }).view
     }
+}
+
+// The cut with these counts.
+fn cut_of(counts: &[u16]) -> Cut
+    requires some { 1 ≤ length counts.now }
+    requires few { length counts.now ≤ MAX_CALLERS }
+    ensures { result ≡ counts.now }
+{
+    let callers = counts.len() as u32;
+    let mut cut = Cut::zero(callers);
+    for caller in 0..callers {
+        cut.set(caller, u64::from(counts[caller as usize]));
+    }
+    cut
 }
 
 // Where a choice with this turn goes among others, the least turn last.

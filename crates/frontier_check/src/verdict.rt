@@ -40,11 +40,13 @@ pub fn check_from<S: SeqObject>(
     ensures verdict { IfOk result (λ verdict. IsRight (S.init object.now) (S.next object.now) book.now verdict) }
     ensures guide { IfOk result (IsKept guide.old guide.new) }
 {
+    let known = object.foresee(alloc, book)?;
     let plan = Plan::new(alloc, book, guide.places())?;
     let search = Search {
         alloc,
         object,
         book,
+        known: &known,
         plan: &plan,
     };
     match search.run()? {

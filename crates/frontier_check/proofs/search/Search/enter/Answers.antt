@@ -8,7 +8,7 @@ use Rattle.frontier_check.specs.Search.{places_of, IsOpen, IsLeast}
 use Rattle.frontier_check.specs.Memo.{Remembers}
 use Rattle.frontier_check.proofs.Pairs.{remembers-moved}
 use Rattle.frontier_check.proofs.Leading.{standing, lowered}
-use Rattle.frontier_check.proofs.Walking.{walk-skip, IsDeeper, walk-deeper, walk-found, deeper-fits, same_open}
+use Rattle.frontier_check.proofs.Walking.{walk-skip, IsDeeper, walk-deeper, walk-found, LeadsTo, deeper-fits, deeper-reached, same_open}
 use Rattle.frontier_check.proofs.search.Search.enter.Goals as goal
 
 pub set_count-requires-clause-caller : goal.set_count-requires-clause-caller
@@ -64,6 +64,22 @@ choices-requires-clause-wide g c =
     c.requires.small (g.met.S.SeqObject.begins_small object) (g.met.S.SeqObject.grows_by_one object) w.leads w.here.sound.0.may_come in
     ap length (c.deref-in-Some.ensures.value ∙ c.step.ensures.counts) ∙ (length-set old.counts.items c.args.place.caller (get_or old.counts.items c.args.place.caller 0 + 1) ∙ s.wide)
 
+pub choices-requires-clause-reached : goal.choices-requires-clause-reached
+choices-requires-clause-reached g c =
+    let book = c.args.self.now.book.now in
+    let object = c.args.self.now.object.now in
+    let next = g.S.SeqObject.next object in
+    let old = c.args.walk.now in
+    let e = c.step.ensures in
+    let level : Level = record { place = c.args.place; words = c.in_ok-words.words; choices = old.choices } in
+    let to : LeadsTo book next old level c.deref-in-Some.result.now c.step.new.walk.here.words = record {
+      words = c.in_ok-words.ensures.items ∙ (c.words-2.ensures ∙ ap (λ (s : Contents). s.words) e.spare);
+      choices = refl;
+      cut_is = c.deref-in-Some.ensures.value ∙ e.counts;
+      list_is = ap (λ (s : Contents). s.words) e.here;
+    } in
+    deeper-reached book (g.S.SeqObject.init object) next old level c.deref-in-Some.result.now c.step.new.walk.here.words c.requires.walk to
+
 pub choices-requires-clause-fits : goal.choices-requires-clause-fits
 choices-requires-clause-fits g c =
     let book = c.args.self.now.book.now in
@@ -74,9 +90,14 @@ choices-requires-clause-fits g c =
     let level : Level = record { place = c.args.place; words = c.in_ok-words.words; choices = old.choices } in
     let least : IsLeast book c.deref-in-Some.result.now (length book) c.in-Some.first =
     subst (λ (cut : List ℕ). IsLeast book cut (length book) c.in-Some.first) (c.deref-2.ensures.value ∙ sym c.deref-in-Some.ensures.value) c.in-Some.ensures.least in
+    let to : LeadsTo book next old level c.deref-in-Some.result.now c.step.new.walk.here.words = record {
+      words = c.in_ok-words.ensures.items ∙ (c.words-2.ensures ∙ ap (λ (s : Contents). s.words) e.spare);
+      choices = refl;
+      cut_is = c.deref-in-Some.ensures.value ∙ e.counts;
+      list_is = ap (λ (s : Contents). s.words) e.here;
+    } in
     deeper-fits book (g.S.SeqObject.init object) next old level c.deref-in-Some.result.now c.step.new.walk.here.words c.in-Some.first c.requires.valid c.requires.small
-    (g.met.S.SeqObject.begins_small object) (g.met.S.SeqObject.grows_by_one object) c.requires.walk
-    (c.in_ok-words.ensures.items ∙ (c.words-2.ensures ∙ ap (λ (s : Contents). s.words) e.spare)) refl (c.deref-in-Some.ensures.value ∙ e.counts) (ap (λ (s : Contents). s.words) e.here) least
+    (g.met.S.SeqObject.begins_small object) (g.met.S.SeqObject.grows_by_one object) c.requires.walk to least
 
 pub returns-in_ok-push-in-None-clause-outcome : goal.returns-in_ok-push-in-None-clause-outcome
 returns-in_ok-push-in-None-clause-outcome g c =
