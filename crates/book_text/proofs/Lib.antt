@@ -4,3 +4,6 @@ pub mod CallTexts
 pub mod Lifts
 pub mod SharpBooks
 pub mod Readings
+pub mod Pages
+pub mod WrittenTexts
+pub mod ReadTexts

@@ -1,11 +1,12 @@
 //! Laws of the texts of books. Each is the contract of a function with nothing in it.
 
-ghost use Rattle.std.specs.Prelude.{◌≡◌, ℕ, List};
+ghost use Rattle.std.specs.Prelude.{◌≡◌, ◌↔◌, ℕ, List};
 ghost use Rattle.book_base.specs.Book.{Page};
 ghost use Rattle.book_base.specs.declared.fault.TextFault.{TextFault};
 ghost use Rattle.seq_objects.specs.declared.kind.Kind.{Kind};
 ghost use Rattle.text_fields.specs.declared.version.Version.{Version};
 ghost use Rattle.book_text.specs.BookRules.{IsBookText, IsFirstBookFault};
+ghost use Rattle.book_text.specs.Grammar.{IsWrittenText};
 
 /// Bytes are the text of one book at most, for one kind.
 pub fn one_book_per_text()
@@ -20,4 +21,9 @@ pub fn one_first_fault()
 /// A book's text has no fault.
 pub fn no_fault_of_a_text()
     ensures { (version : Version) (bytes : List ℕ) (kind : Kind) (book : List Page) (fault : TextFault) → IsBookText version bytes kind book → ¬ (IsFirstBookFault version bytes fault) }
+{}
+
+/// Bytes are read as a book exactly where they are what is written of it.
+pub fn a_text_is_its_books_lines()
+    ensures { (version : Version) (bytes : List ℕ) (kind : Kind) (book : List Page) → IsWrittenText version bytes kind book ↔ IsBookText version bytes kind book }
 {}
