@@ -3,3 +3,4 @@ pub mod Scans
 pub mod Linear
 pub mod Bounds
 pub mod Histories
+pub mod Moments

@@ -5,7 +5,7 @@ use Rattle.world_core.specs.declared.region.Region.{Region}
 use Rattle.world_core.specs.declared.region.Region.TheVariants.{N, M}
 use Rattle.world_core.specs.Shape.{Shape}
 use Rattle.world_core.specs.Programs.{outside, scrap}
-use Rattle.world_core.specs.Local.{Phase, Local, Object_step}
+use Rattle.world_core.specs.Local.{Phase, Given, Local, Object_step}
 use Rattle.world_core.specs.Event.{Event, Stage, Announce, Object, Look, Peek, Publish, Opening, Begins_none, Begins_scan, Begins_view}
 use Rattle.world_core.specs.World.{Step, local_of, end_of, is_possible}
 use Rattle.world_core.specs.Snapshot.{Span}
@@ -243,6 +243,20 @@ single = record { callers = 1; cap = 1; program = outside }
 
 abbrev pub scan_alone : List Step
 scan_alone = scan 0 N Begins_scan (0 ∷ [])
+
+-- It scans N again once it has announced.
+abbrev pub span_after_announcement : Span
+span_after_announcement =
+    record {
+      before = announcement 0 5 (0 ∷ []);
+      first = by 0 (Look N 0 1 Begins_scan);
+      between = [];
+      last = by 0 (Look N 0 1 Begins_none);
+    }
+
+-- The cut of this one count of a region, of a scan before which two counts had been looked at.
+abbrev pub given_alone : Region → ℕ → Given
+given_alone region count = record { region = region; cut = count ∷ []; since = 2 }
 
 -- Two callers with one row each, and one object word, on which every step is allowed.
 abbrev pub scrap_pair : Shape

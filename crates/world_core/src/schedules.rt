@@ -10,10 +10,10 @@ ghost use Rattle.world_core.specs.Scan.{wanted, looks, peeks};
 ghost use Rattle.world_core.specs.Local.{Announcing, Asking, Viewing, Publishing, Judging, IsIdle};
 ghost use Rattle.world_core.specs.Event.{Stage, Announce, Object, Look, Peek, Publish, Begins_view, may_happen};
 ghost use Rattle.world_core.specs.World.{IsRun, end_of, object_word};
-ghost use Rattle.world_core.specs.Snapshot.{GivesCut};
+ghost use Rattle.world_core.specs.Snapshot.{GivesCut, IsInstantaneous};
 ghost use Rattle.world_core.specs.History.{history_of, call_of, Invoked, Returned, IsLinearizable};
 ghost use Rattle.world_core.specs.Calls.{calls_in, Has_seen, Is_announced};
-ghost use Rattle.world_core.specs.Schedules.{pair, by, local_at, local_after_all, phases_at, allows, refuses, allows_in, refuses_in, two_calls, view_span, scans_given_up, scan_for_nothing, reply_carried, published_in_a_scan, scanned_twice, scanned_late, trio, three_collects, moved_twice, borrowing, borrowing_span, borrowed_words, single, scan_alone, scrap_pair, object_step, object_steps_made, tenfold, silent};
+ghost use Rattle.world_core.specs.Schedules.{pair, by, local_at, local_after_all, phases_at, allows, refuses, allows_in, refuses_in, two_calls, view_span, scans_given_up, scan_for_nothing, reply_carried, published_in_a_scan, scanned_twice, scanned_late, trio, three_collects, moved_twice, borrowing, borrowing_span, borrowed_words, single, scan_alone, span_after_announcement, given_alone, scrap_pair, object_step, object_steps_made, tenfold, silent};
 ghost use Rattle.world_core.specs.Histories.{numbering, one_after_another, side_by_side, reply_of_another, after_unanswered, without_unanswered};
 ghost use Rattle.world_core.specs.Refusals.{allowed_at_start, refused_at_start, scanned, allowed_as_scanned, refused_as_scanned, scanned_other, staged_three_of_N, asked, allowed_as_asked, refused_as_asked, viewing, allowed_as_viewing, refused_as_viewing, viewed, refused_as_viewed, ready, allowed_as_ready, refused_as_ready, staged_four, refused_as_staged_four, staged_five, looked, allowed_as_looked, refused_as_looked, reply_peeked, entry_peeked, refused_as_entry_peeked, looked_in_N, looked_in_M, cut_of_N, cut_of_M, view_peeked, announcement_peeked, embedded_peeked, looked_past, staged_early, narrow, asking, viewing_local};
 
@@ -229,6 +229,16 @@ pub fn a_caller_alone_scans()
     ensures run { IsRun single scan_alone }
     ensures looks { length scan_alone ≡ 2 }
     ensures cut { (local_after_all single scan_alone 0).cuts ≡ record { region = N; cut = 0 ∷ []; since = 0 } ∷ [] }
+{}
+
+/// A cut is instantaneous where its counts stood within the scan: not where they had stood before it alone, nor
+/// where they stood in the other region.
+#[tactic(auto, using(crate::proofs::Moments::instantaneous_alone, crate::proofs::Moments::not_before, crate::proofs::Moments::not_of_answers))]
+pub fn moments_lie_within_scans()
+    ensures gives { GivesCut single 0 (given_alone N 1) span_after_announcement }
+    ensures within { IsInstantaneous single (given_alone N 1) span_after_announcement }
+    ensures before { ¬ IsInstantaneous single (given_alone N 0) span_after_announcement }
+    ensures of_answers { ¬ IsInstantaneous single (given_alone M 1) span_after_announcement }
 {}
 
 /// A program's object steps: in the phase ask, on an object word, from the word that stands there, where

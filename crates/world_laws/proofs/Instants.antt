@@ -413,7 +413,7 @@ was_comparable s steps r a b run p q = elim (append_cases p.early q.early p.late
 ]
 
 -- the laws
-run_cut : (s : Shape) (steps : List Step) (i p : ℕ) (given : Given) → IsRun s steps → i < s.callers → slice_get (local_of (end_of s steps) i).cuts p ≡ Some given
+pub run_cut : (s : Shape) (steps : List Step) (i p : ℕ) (given : Given) → IsRun s steps → i < s.callers → slice_get (local_of (end_of s steps) i).cuts p ≡ Some given
     → Was s steps given.region given.cut
 run_cut s steps i p given run low is = each_get (IsWasGiven s steps) (local_of (end_of s steps) i).cuts p given (run_was s steps run i low).cuts is
 

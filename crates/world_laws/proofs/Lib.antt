@@ -17,3 +17,8 @@ pub mod OwnEntries
 pub mod Viewing
 pub mod Moments
 pub mod Instants
+pub mod Begun
+pub mod Spanning
+pub mod Ordering
+pub mod Bounding
+pub mod Giving

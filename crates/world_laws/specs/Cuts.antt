@@ -1,9 +1,9 @@
 -- What holds of the cuts that scans give, borrowed cuts included (Afek and others 1993).
-use Rattle.std.specs.Prelude.{◌≡◌, ℕ, ◌<◌, List, [], ◌++◌, length, Some, slice_get, slice_index_or}
-use Rattle.book_base.specs.Cut.{AreComparable}
+use Rattle.std.specs.Prelude.{◌≡◌, ℕ, ◌+◌, ◌<◌, ◌≤◌, List, [], ◌++◌, length, Some, slice_get, slice_index, slice_index_or}
+use Rattle.book_base.specs.Cut.{IsWithin, AreComparable}
 use Rattle.world_core.specs.declared.region.Region.{Region}
 use Rattle.world_core.specs.Shape.{Shape}
-use Rattle.world_core.specs.Local.{Local, Given, own_count, embedded_in}
+use Rattle.world_core.specs.Local.{Local, Given, Looked, own_count, embedded_in}
 use Rattle.world_core.specs.World.{Step, local_of, IsRun, end_of}
 use Rattle.world_core.specs.Snapshot.{counts_in}
 use Rattle.world_core.specs.Calls.{AreTogether, local_at}
@@ -43,3 +43,23 @@ ViewsAreComparable =
     (s : Shape) (locals : List Local) (i j k m : ℕ) → AreTogether s locals → i < s.callers → j < s.callers
     → k < length (local_at locals i).views → m < length (local_at locals j).views
     → AreComparable (slice_index_or (local_at locals i).views k []) (slice_index_or (local_at locals j).views m [])
+
+-- A cut of a region contains each cut of that region that its caller was given before.
+abbrev pub CutsRise : Type 0
+CutsRise =
+    (s : Shape) (locals : List Local) (i p q : ℕ) (a b : Given) → AreTogether s locals → i < s.callers → p < q
+    → slice_get (local_at locals i).cuts p ≡ Some a → slice_get (local_at locals i).cuts q ≡ Some b → a.region ≡ b.region → IsWithin a.cut b.cut
+
+-- It contains each count of that region that its caller had looked at before the scan began. Looked counts stand newest first: so
+-- these are the last ones, as many as the cut says.
+abbrev pub CutsHoldLooked : Type 0
+CutsHoldLooked =
+    (s : Shape) (locals : List Local) (i p q : ℕ) (look : Looked) (given : Given) → AreTogether s locals → i < s.callers
+    → slice_get (local_at locals i).looked p ≡ Some look → slice_get (local_at locals i).cuts q ≡ Some given
+    → length (local_at locals i).looked ≤ p + given.since → look.region ≡ given.region → look.count ≤ slice_index given.cut look.caller
+
+-- There are as many.
+abbrev pub CutsHaveSince : Type 0
+CutsHaveSince =
+    (s : Shape) (locals : List Local) (i q : ℕ) (given : Given) → AreTogether s locals → i < s.callers
+    → slice_get (local_at locals i).cuts q ≡ Some given → given.since ≤ length (local_at locals i).looked

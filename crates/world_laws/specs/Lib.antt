@@ -1,5 +1,8 @@
 pub mod Runs
 pub mod Cuts
+pub mod Spans
+pub mod Bounds
+pub mod Given
 pub mod Locals
 pub mod Projection
 pub mod Own

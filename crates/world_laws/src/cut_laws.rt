@@ -1,6 +1,8 @@
 //! What holds of the cuts that scans give, borrowed cuts included.
 
-ghost use Rattle.world_laws.specs.Cuts.{CutsWereCounts, EmbeddedCutsWereCounts, CutsAreComparable, GivenCutsAreComparable, ViewsAreComparable};
+ghost use Rattle.world_laws.specs.Bounds.{ScansAreBounded, ScansAreBoundedInRuns, EndedScansAreBounded};
+ghost use Rattle.world_laws.specs.Cuts.{CutsWereCounts, EmbeddedCutsWereCounts, CutsAreComparable, GivenCutsAreComparable, ViewsAreComparable, CutsRise, CutsHoldLooked, CutsHaveSince};
+ghost use Rattle.world_laws.specs.Spans.{CutsAreInstantaneous, CutsHoldEarlier, CutsHoldNoLater, CutsHoldOwn, CutsTellSince};
 
 /// The cut that a scan gave was the counts of its region at one moment of the run, and so was each cut that a
 /// counted row embeds (Afek and others 1993).
@@ -14,4 +16,35 @@ pub fn cuts_are_comparable()
     ensures runs { CutsAreComparable }
     ensures locals { GivenCutsAreComparable }
     ensures views { ViewsAreComparable }
+{}
+
+/// The cut of a scan, borrowed or not, was the counts of its region at a moment between the scan's first look
+/// and its last step (Afek and others 1993).
+pub fn cuts_are_instantaneous()
+    ensures { CutsAreInstantaneous }
+{}
+
+/// The cut of a scan holds what was counted before the scan began, and nothing that was counted after it
+/// ended; and its own entry is its caller's count.
+pub fn cuts_hold_by_time()
+    ensures earlier { CutsHoldEarlier }
+    ensures no_later { CutsHoldNoLater }
+    ensures own { CutsHoldOwn }
+    ensures since { CutsTellSince }
+{}
+
+/// A cut that a caller was given contains each earlier one of the region, and each count of it that the caller
+/// had looked at before the scan began.
+pub fn cuts_rise()
+    ensures cuts { CutsRise }
+    ensures looked { CutsHoldLooked }
+    ensures since { CutsHaveSince }
+{}
+
+/// A scan of `n` callers makes at most `n + 1` collects, which are `n * (n + 1)` looks, and at most `n` peeks,
+/// whatever the others do: so far as it is under way, and when it has given its cut.
+pub fn scans_are_bounded()
+    ensures locals { ScansAreBounded }
+    ensures runs { ScansAreBoundedInRuns }
+    ensures ended { EndedScansAreBounded }
 {}

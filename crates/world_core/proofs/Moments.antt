@@ -1,0 +1,26 @@
+-- Which cuts are instantaneous of a scan that a caller alone makes.
+use Rattle.std.proofs.Common.{◌≡◌, ℕ, List, [], ◌∷◌, ◌++◌, slice_index, refl, ap}
+use Rattle.world_core.specs.declared.region.Region.TheVariants.{N, M}
+use Rattle.world_core.specs.World.{Step, end_of}
+use Rattle.world_core.specs.Snapshot.{counts_in, IsInstantaneous}
+use Rattle.world_core.specs.Schedules.{single, span_after_announcement, given_alone}
+
+pub instantaneous_alone : IsInstantaneous single (given_alone N 1) span_after_announcement
+instantaneous_alone = ([], [], refl, refl)
+
+-- between its two looks there is no step
+before_by : (early late : List Step) → [] ≡ early ++ late
+    → counts_in single N (end_of single (span_after_announcement.before ++ span_after_announcement.first ∷ early)) ≡ 0 ∷ [] → ⊥
+before_by [] late parts is = let never : 1 ≡ 0 = ap (λ (c : List ℕ). slice_index c 0) is in absurd cc
+before_by (x ∷ early) late parts is = absurd cc
+
+answers_by : (early late : List Step) → [] ≡ early ++ late
+    → counts_in single M (end_of single (span_after_announcement.before ++ span_after_announcement.first ∷ early)) ≡ 1 ∷ [] → ⊥
+answers_by [] late parts is = let never : 0 ≡ 1 = ap (λ (c : List ℕ). slice_index c 0) is in absurd cc
+answers_by (x ∷ early) late parts is = absurd cc
+
+pub not_before : IsInstantaneous single (given_alone N 0) span_after_announcement → ⊥
+not_before (early, late, parts, is) = before_by early late parts is
+
+pub not_of_answers : IsInstantaneous single (given_alone M 1) span_after_announcement → ⊥
+not_of_answers (early, late, parts, is) = answers_by early late parts is
