@@ -1,0 +1,6 @@
+pub mod Pages
+pub mod Validity
+pub mod Gathered
+pub mod LegalOrders
+pub mod Recording
+pub mod NoFalseErrors

@@ -1,0 +1,29 @@
+-- The book that the locals of one reachable world are, and the books at the cuts of what they published.
+use Rattle.std.specs.Prelude.{◌≡◌, ℕ, List}
+use Rattle.book_base.specs.Cut.{IsWithin}
+use Rattle.book_base.specs.Book.{Page, answered, IsValid}
+use Rattle.book_base.specs.BookAt.{IsBookAt, book_at}
+use Rattle.world_core.specs.Shape.{Shape}
+use Rattle.world_core.specs.Local.{Local}
+use Rattle.world_core.specs.Calls.{AreTogether, IsPublished, book_in}
+
+-- The operations, the replies and the views of the locals are a valid book.
+abbrev pub BooksAreValid : Type 0
+BooksAreValid = (s : Shape) (locals : List Local) → AreTogether s locals → IsValid (book_in locals)
+
+-- A cut of what was published is within the record counts of the book.
+abbrev pub PublishedCutsAreWithin : Type 0
+PublishedCutsAreWithin =
+    (s : Shape) (locals : List Local) (cut : List ℕ) → AreTogether s locals → IsPublished locals cut → IsWithin cut (answered (book_in locals))
+
+-- A book is a valid one with these record counts, and is the book at that cut of another book.
+pub record IsValidPart (book : List Page) (cut : List ℕ) (part : List Page) : Type 0 where
+  pub valid : IsValid part
+  pub at : IsBookAt book cut part
+  pub counts : answered part ≡ cut
+
+-- At each cut of what was published the book of the locals is such a book: no cut has to be comparable with the views.
+abbrev pub BooksAtPublishedCuts : Type 0
+BooksAtPublishedCuts =
+    (s : Shape) (locals : List Local) (cut : List ℕ) → AreTogether s locals → IsPublished locals cut
+    → IsValidPart (book_in locals) cut (book_at cut (book_in locals))

@@ -1,0 +1,6 @@
+//! The books of reachable worlds, and what a linearizable run makes of them: every program, in whatever order its callers go.
+#![tactic(auto)]
+
+pub mod books;
+pub mod gathering;
+pub mod linearizing;
