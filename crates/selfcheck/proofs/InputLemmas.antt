@@ -8,7 +8,11 @@ use Rattle.book_text.proofs.Readings.{one_book, no_first_fault}
 use Rattle.seq_objects.specs.declared.kind.Kind.{Kind}
 use Rattle.seq_objects.specs.Objects.{kind_init, kind_next}
 use Rattle.text_fields.specs.declared.version.Version.TheVariants.{Second}
-use Rattle.selfcheck.specs.Input.{IsBookInput, IsLegalInput, IsIllegalInput, IsRefusedFor}
+use Rattle.selfcheck.specs.Input.{Tells, IsBookInput, IsLegalInput, IsIllegalInput, IsRefusedFor}
+
+pub IsBookInput-from_told : (bytes : List ℕ) (kind : Kind) (book : List Page) → Tells bytes kind book → IsBookInput bytes
+unfolding IsBookInput
+IsBookInput-from_told bytes kind book told = (kind, book, told)
 
 pub IsBookInput-from_legal : (bytes : List ℕ) → IsLegalInput bytes → IsBookInput bytes
 unfolding IsLegalInput IsBookInput

@@ -3,18 +3,25 @@ use Rattle.std.proofs.Common.{◌≡◌, ◌⊎◌, ℕ, ◌≤◌, List, [], le
 use Rattle.std.specs.Io.KnownBytes.{Appends}
 use Rattle.std.proofs.KnownBytes.{Keeps-refl}
 use Rattle.book_base.specs.declared.fault.TextFault.{TextFault}
-use Rattle.book_text.proofs.Readings.{one_first_fault}
+use Rattle.book_base.specs.Book.{Page}
+use Rattle.book_text.proofs.Readings.{one_book, one_first_fault}
+use Rattle.book_writer.specs.Sketches.{sketch_lines}
+use Rattle.seq_objects.specs.declared.kind.Kind.{Kind}
+use Rattle.sketch.specs.declared.event.Event.{Event}
+use Rattle.sketch.specs.Sketch.{IsSketch}
+use Rattle.sketch.proofs.Orderly.{books_have_one_sketch}
+use Rattle.text_fields.specs.Lines.{text_of}
 use Rattle.text_fields.specs.declared.version.Version.TheVariants.{Second}
 use Rattle.selfcheck.specs.declared.command.Command.{Command}
-use Rattle.selfcheck.specs.declared.command.Command.TheVariants.{Verify}
+use Rattle.selfcheck.specs.declared.command.Command.TheVariants.{Verify, Sketch}
 use Rattle.selfcheck.specs.declared.status.Status.{Status}
 use Rattle.selfcheck.specs.declared.status.Status.TheVariants.{Fine, Found, Usage, Refused, ReadFault, WriteFault, NoMemory}
 use Rattle.selfcheck.specs.declared.TheConstants.{INPUT_LIMIT}
 use Rattle.selfcheck.specs.Command.{command_of}
 use Rattle.selfcheck.specs.Input.{refusal_text}
-use Rattle.selfcheck.specs.Output.{Form, BookForm, form_of, IsTextOf, IsFirstFaultOf, IsTaken, IsVerdict, IsAnswerOf, IsRefusal, IsOutputOf, HasOneStatus, IsDetermined, RefuseWhatIsNotTaken, IsOutput, ReadsFor, Reads, Ends, EndsWriting, IsUnfinished, input_of}
+use Rattle.selfcheck.specs.Output.{Form, BookForm, form_of, IsTextOf, IsFirstFaultOf, IsTaken, IsVerdict, IsSketchText, IsDrawn, IsAnswerOf, IsRefusal, IsOutputOf, HasOneStatus, IsDetermined, RefuseWhatIsNotTaken, IsOutput, ReadsFor, Reads, Ends, EndsWriting, IsUnfinished, input_of}
 use Rattle.selfcheck.specs.Told.{AppendsPart}
-use Rattle.selfcheck.proofs.InputLemmas.{IsBookInput-from_legal, IsBookInput-from_illegal, legal_or_illegal, book_or_fault, one_refusal}
+use Rattle.selfcheck.proofs.InputLemmas.{IsBookInput-from_told, IsBookInput-from_legal, IsBookInput-from_illegal, legal_or_illegal, book_or_fault, one_refusal}
 
 -- ---- forms of texts: one case a form
 
@@ -33,12 +40,16 @@ answer_statuses : (command : Command) (bytes : List ℕ) (status : Status) (text
 answer_statuses Verify bytes Fine text answer = inl refl
 answer_statuses Verify bytes Found text answer = inr refl
 answer_statuses Verify bytes _ text answer = absurd answer
+answer_statuses Sketch bytes Fine text answer = inl refl
+answer_statuses Sketch bytes _ text answer = absurd answer
 
 -- what is answered is an input of the wanted form
 answered_is_wanted : (command : Command) (bytes : List ℕ) (status : Status) (text : List ℕ) → IsAnswerOf command bytes status text → IsTextOf (form_of command) bytes
 answered_is_wanted Verify bytes Fine text answer = IsBookInput-from_legal bytes answer.0
 answered_is_wanted Verify bytes Found text answer = IsBookInput-from_illegal bytes answer.0
 answered_is_wanted Verify bytes _ text answer = absurd answer
+answered_is_wanted Sketch bytes Fine text answer = IsBookInput-from_told bytes answer.kind answer.book answer.told
+answered_is_wanted Sketch bytes _ text answer = absurd answer
 
 -- ---- outputs
 
@@ -107,6 +118,24 @@ one_verdict bytes _ other text text' a b = absurd a
 -- the bytes determine the output of `verify`
 pub verify_is_determined : IsDetermined Verify
 verify_is_determined = IsDetermined-from_answers Verify one_verdict
+
+one_sketch_text : (bytes text text' : List ℕ) → IsSketchText bytes text → IsSketchText bytes text' → text ≡ text'
+one_sketch_text bytes text text' a b =
+    let same = one_book Second bytes a.kind b.kind a.book b.book a.told b.told in
+    let here : IsSketch b.book a.events = subst (λ (book : List Page). IsSketch book a.events) same.1 a.sketched in
+    let events : a.events ≡ b.events = books_have_one_sketch b.book a.events b.events here b.sketched in
+    let written : Kind → List Page → List Event → List ℕ = λ kind book list. text_of (sketch_lines kind book list) in
+    a.text_is ∙ ap (λ (kind : Kind). written kind a.book a.events) same.0 ∙ ap (λ (book : List Page). written b.kind book a.events) same.1
+    ∙ ap (written b.kind b.book) events ∙ sym b.text_is
+
+one_drawing : (bytes : List ℕ) (status other : Status) (text text' : List ℕ) → IsDrawn bytes status text → IsDrawn bytes other text' → (status ≡ other) × (text ≡ text')
+one_drawing bytes Fine Fine text text' a b = (refl, one_sketch_text bytes text text' a b)
+one_drawing bytes Fine _ text text' a b = absurd b
+one_drawing bytes _ other text text' a b = absurd a
+
+-- the bytes determine the output of `sketch`
+pub sketch_is_determined : IsDetermined Sketch
+sketch_is_determined = IsDetermined-from_answers Sketch one_drawing
 
 -- ---- how a call that writes an output ends
 
@@ -177,6 +206,7 @@ Ends-usage words result left taken taken' unnamed (inr part) =
 -- the bytes that a command works on are those of the source that it is for
 input_is : (command : Command) (held : List ℕ) (new : Option (List ℕ)) (bytes : List ℕ) → ReadsFor command (Some held) new bytes → bytes ≡ input_of command held
 input_is Verify held new bytes reads = reads.0
+input_is Sketch held new bytes reads = reads.0
 
 -- where all outputs have one status, a call that wrote one has this status
 one_status : (IsOne : Status → List ℕ → Type 0) (status result : Status) (taken taken' : Option (List ℕ)) → EndsWriting IsOne result taken taken'

@@ -3,15 +3,21 @@ use Rattle.std.specs.Prelude.{◌≡◌, ◌⊎◌, ◌↔◌, ℕ, ◌≤◌, L
 use Rattle.std.specs.declared.alloc.Global.{Global}
 use Rattle.std.specs.Io.KnownBytes.{Appends, Keeps}
 use Rattle.book_base.specs.declared.fault.TextFault.{TextFault}
+use Rattle.book_base.specs.Book.{Page}
 use Rattle.book_text.specs.BookRules.{IsFirstBookFault}
+use Rattle.book_writer.specs.Sketches.{sketch_lines}
+use Rattle.seq_objects.specs.declared.kind.Kind.{Kind}
+use Rattle.sketch.specs.declared.event.Event.{Event}
+use Rattle.sketch.specs.Sketch.{IsSketch}
+use Rattle.text_fields.specs.Lines.{text_of}
 use Rattle.text_fields.specs.declared.version.Version.TheVariants.{Second}
 use Rattle.selfcheck.specs.declared.command.Command.{Command}
-use Rattle.selfcheck.specs.declared.command.Command.TheVariants.{Verify}
+use Rattle.selfcheck.specs.declared.command.Command.TheVariants.{Verify, Sketch}
 use Rattle.selfcheck.specs.declared.status.Status.{Status}
 use Rattle.selfcheck.specs.declared.status.Status.TheVariants.{Fine, Found, Usage, Refused, ReadFault, WriteFault, NoMemory}
 use Rattle.selfcheck.specs.declared.TheConstants.{INPUT_LIMIT}
 use Rattle.selfcheck.specs.Command.{command_of, reads_source}
-use Rattle.selfcheck.specs.Input.{IsBookInput, IsLegalInput, IsIllegalInput, IsRefusedFor, refusal_text}
+use Rattle.selfcheck.specs.Input.{Tells, IsBookInput, IsLegalInput, IsIllegalInput, IsRefusedFor, refusal_text}
 use Rattle.selfcheck.specs.Told.{HasRead, AppendsPart, read_of}
 
 -- a form of texts that a command may want
@@ -21,6 +27,7 @@ pub data Form : Type 0 where
 -- the form of text that a command wants
 abbrev pub form_of : Command → Form
 form_of Verify = BookForm
+form_of Sketch = BookForm
 
 -- the bytes are a text of this form
 abbrev pub IsTextOf : Form → List ℕ → Type 0
@@ -40,9 +47,24 @@ IsVerdict bytes Fine text = IsLegalInput bytes × (text ≡ codes "legal\n")
 IsVerdict bytes Found text = IsIllegalInput bytes × (text ≡ codes "illegal\n")
 IsVerdict bytes _ text = ⊥
 
+-- the text of a book's sketch
+pub record IsSketchText (bytes text : List ℕ) : Type 0 where
+  pub kind : Kind
+  pub book : List Page
+  pub events : List Event
+  pub told : Tells bytes kind book
+  pub sketched : IsSketch book events
+  pub text_is : text ≡ text_of (sketch_lines kind book events)
+
+-- what `sketch` says of the text of a book: a status and a text
+abbrev pub IsDrawn : List ℕ → Status → List ℕ → Type 0
+IsDrawn bytes Fine text = IsSketchText bytes text
+IsDrawn bytes _ text = ⊥
+
 -- what a command says of an input that it takes: a status and a text, of which there may be more than one
 abbrev pub IsAnswerOf : Command → List ℕ → Status → List ℕ → Type 0
 IsAnswerOf Verify bytes status text = IsVerdict bytes status text
+IsAnswerOf Sketch bytes status text = IsDrawn bytes status text
 
 -- the line and the name of the fault for which a command refuses the bytes
 abbrev pub IsRefusal : Command → List ℕ → List ℕ → Type 0

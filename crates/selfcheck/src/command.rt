@@ -5,6 +5,8 @@ ghost use Rattle.std.specs.Prelude.{◌≡◌};
 pub enum Command {
     /// Say whether a book has a legal order.
     Verify,
+    /// Write a book's sketch.
+    Sketch,
 }
 
 impl Command {
@@ -28,6 +30,7 @@ impl Command {
     {
         match word {
             "verify" => Some(Command::Verify),
+            "sketch" => Some(Command::Sketch),
             _ => None,
         }
     }
@@ -37,7 +40,7 @@ impl Command {
         ensures { result ≡ reads_source self }
     {
         match self {
-            Command::Verify => true,
+            Command::Verify | Command::Sketch => true,
         }
     }
 }

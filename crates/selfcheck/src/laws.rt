@@ -1,6 +1,6 @@
 //! Laws of the commands.
 
-ghost use Rattle.selfcheck.specs.declared.command.Command.TheVariants.{Verify};
+ghost use Rattle.selfcheck.specs.declared.command.Command.TheVariants.{Sketch, Verify};
 ghost use Rattle.selfcheck.specs.Command.{HaveTheirCommand};
 ghost use Rattle.selfcheck.specs.Output.{IsDetermined, RefuseWhatIsNotTaken};
 
@@ -18,4 +18,10 @@ pub fn what_is_not_taken_is_refused()
 #[tactic(auto, using(crate::proofs::OutputLemmas::verify_is_determined))]
 pub fn verify_has_one_output()
     ensures { IsDetermined Verify }
+{}
+
+/// The bytes read determine the output of `sketch`.
+#[tactic(auto, using(crate::proofs::OutputLemmas::sketch_is_determined))]
+pub fn sketch_has_one_output()
+    ensures { IsDetermined Sketch }
 {}

@@ -8,6 +8,7 @@ ghost use Rattle.selfcheck.specs.Output.{IsTaken, IsOutputOf, HasOneStatus, Read
 ghost use Rattle.selfcheck.specs.Told.{AppendsPart};
 
 use crate::command::Command;
+use crate::draw::draw;
 use crate::failed::{Failed, ReadAllError};
 use crate::sink::Sink;
 use crate::source::Source;
@@ -71,6 +72,7 @@ fn answer<R: Threads + Sync, K: Sink>(
     let _ = rt;
     let output = match command {
         Command::Verify => verify(alloc, bytes),
+        Command::Sketch => draw(alloc, bytes),
     };
     match output {
         Ok(output) => write_output(sink, output.status, &output.text),
