@@ -72,10 +72,10 @@ IsOrderedBy-same {X} before (x ∷ xs) (y ∷ ys) a b apart bpart forth back =
     let x_in = forth x (0, refl) in
     let same : x ≡ y = same_first before x y xs ys y_in.0 x_in.0 a b apart y_in.1 x_in.1 in
     let rest : xs ≡ ys = IsOrderedBy-same before xs ys
-        (λ j k v w at bt less. a (suc j) (suc k) v w at bt (omega arith))
-        (λ j k v w at bt less. b (suc j) (suc k) v w at bt (omega arith))
-        (λ v w at bt. apart v w (suc at.0, at.1) (suc bt.0, bt.1))
-        (λ v w at bt. bpart v w (suc at.0, at.1) (suc bt.0, bt.1))
-        (λ z at. let there = forth z (suc at.0, at.1) in same_rest before x y xs ys z at.0 there.0 a apart same at.1 there.1)
-        (λ z at. let there = back z (suc at.0, at.1) in same_rest before y x ys xs z at.0 there.0 b bpart (sym same) at.1 there.1) in
+    (λ j k v w at bt less. a (suc j) (suc k) v w at bt (omega arith))
+    (λ j k v w at bt less. b (suc j) (suc k) v w at bt (omega arith))
+    (λ v w at bt. apart v w (suc at.0, at.1) (suc bt.0, bt.1))
+    (λ v w at bt. bpart v w (suc at.0, at.1) (suc bt.0, bt.1))
+    (λ z at. let there = forth z (suc at.0, at.1) in same_rest before x y xs ys z at.0 there.0 a apart same at.1 there.1)
+    (λ z at. let there = back z (suc at.0, at.1) in same_rest before y x ys xs z at.0 there.0 b bpart (sym same) at.1 there.1) in
     cc
