@@ -23,7 +23,9 @@ pub use counter::Counter;
 pub use digits::{number, put_number};
 pub use int_set::IntSet;
 pub use kind::Kind;
-pub use laws::{maps_keep_what_is_put, one_name_per_kind, one_text_per_operation, one_text_per_reply};
+pub use laws::{
+    maps_keep_what_is_put, one_name_per_kind, one_text_per_operation, one_text_per_reply,
+};
 pub use map::Map;
 pub use pqueue::Pqueue;
 pub use queue::Queue;
