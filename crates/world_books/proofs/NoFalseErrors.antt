@@ -77,9 +77,15 @@ module _ (s : Shape) (before later : List Step) (i x reply : ℕ) (run : IsRun s
   behind : (b : Call) (op : ℕ) → Contains (Returned (call_of i number) reply ∷ rest) (Invoked b op) → ReturnsBefore (history_of s whole) (call_of i number) b
   behind b op (zero, low, is) = absurd cc
   behind b op (suc q, low, is) =
-      let there = stands (Returned (call_of i number) reply ∷ rest) (Invoked b op) (suc q, low, is) in
-      (length front + 0, length front + suc q, reply, op, omega arith, return_at,
-      ap (λ (hs : List Happening). slice_get hs (length front + suc q)) split ∙ slice_get-append_add front (Returned (call_of i number) reply ∷ rest) (suc q) ∙ there)
+      let there = stands (Returned (call_of i number) reply ∷ rest) (Invoked b op) (suc q, low, is) in (
+        length front + 0,
+        length front + suc q,
+        reply,
+        op,
+        omega arith,
+        return_at,
+        ap (λ (hs : List Happening). slice_get hs (length front + suc q)) split ∙ slice_get-append_add front (Returned (call_of i number) reply ∷ rest) (suc q) ∙ there,
+      )
 
   before_later : (b : Call) → length (local_of here b.caller).operations ≤ b.number → b.number < length (local_of (end_of s whole) b.caller).operations
       → ReturnsBefore (history_of s whole) (call_of i number) b
@@ -221,9 +227,10 @@ pub runs_have_their_histories : RunsHaveTheirHistories
 runs_have_their_histories s steps run = history_is s steps run
 
 pub linearizable_runs_have_legal_books : LinearizableRunsHaveLegalBooks
-linearizable_runs_have_legal_books init next s steps run (order, lin) =
-    (map place_of order,
-    linearizations_are_legal_orders init next (history_of s steps) (book_in (end_of s steps).locals) order (history_is s steps run) lin)
+linearizable_runs_have_legal_books init next s steps run (order, lin) = (
+  map place_of order,
+  linearizations_are_legal_orders init next (history_of s steps) (book_in (end_of s steps).locals) order (history_is s steps run) lin,
+)
 
 pub no_false_error : NoFalseError
 no_false_error init next s steps cut run linearizable published =
