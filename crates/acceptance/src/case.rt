@@ -75,8 +75,9 @@ impl Case {
         let alloc = rt.alloc();
         let input = input.to_vec(alloc)?;
         let fails = self.sink_fails.clone()?;
-        let mut sink = MemorySink::new(alloc, self.sink_room, fails, self.sink_most.max(1))
-            .map_err(|_| anyhow!("no memory for a sink"))?;
+        let mut sink = MemorySink::new(alloc, self.sink_room, fails, self.sink_most.max(1)).map_err(
+            |_| anyhow!("no memory for a sink"),
+        )?;
         let (status, left) = if self.is_steady {
             self.answer(rt, &mut SteadySource::new(input), &mut sink)?
         } else {
@@ -86,8 +87,10 @@ impl Case {
         };
         let passed = status == self.status && left == self.left && sink.bytes() == wanted;
         let text = String::from_utf8_lossy(alloc, sink.bytes())?;
-        let report = format!(in alloc; "{}: status {status} for {}, {left:?} bytes left for {:?}, and wrote {text:?}",
-            self.name, self.status, self.left)?;
+        let report = format!(in alloc;
+            "{}: status {status} for {}, {left:?} bytes left for {:?}, and wrote {text:?}",
+            self.name, self.status, self.left
+        )?;
         Ok(Outcome { passed, report })
     }
 

@@ -23,7 +23,10 @@ mod verify;
 
 pub use command::Command;
 pub use failed::{Failed, ReadAllError};
-pub use laws::{sketch_has_one_output, verify_has_one_output, what_is_not_taken_is_refused, words_have_their_command};
+pub use laws::{
+    sketch_has_one_output, verify_has_one_output, what_is_not_taken_is_refused,
+    words_have_their_command,
+};
 pub use memory_sink::MemorySink;
 pub use memory_source::MemorySource;
 pub use sink::Sink;
