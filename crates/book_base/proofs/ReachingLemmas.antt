@@ -1,7 +1,7 @@
 -- What orders reach, one place after another, and what must come first.
-use Rattle.std.proofs.Common.{◌≡◌, ℕ, ◌+◌, ◌<◌, ◌≤◌, ◌⊎◌, ◌∙◌, List, [], ◌∷◌, ◌++◌, length, map, set, get_or, inl, inr, refl, sym, ap, subst, arith}
+use Rattle.std.proofs.Common.{◌≡◌, ℕ, ◌+◌, ◌-◌, ◌<◌, ◌≤◌, ◌⊎◌, ◌∙◌, List, [], ◌∷◌, ◌++◌, length, map, set, get_or, inl, inr, refl, sym, ap, subst, arith}
 use Rattle.std.proofs.lemmas.Bool.{cases_eq, cases_lt}
-use Rattle.std.proofs.lemmas.List.{get_or-set_same, get_or-set_other}
+use Rattle.std.proofs.lemmas.List.{get_or-set_same, get_or-set_other, ext_get_or}
 use Rattle.std.proofs.lemmas.Option.{none-some}
 use Rattle.list_laws.proofs.Options.{some_from_is_some_and}
 use Rattle.list_laws.proofs.Places.{slice_get-push_old, slice_get-push_last, slice_get-push_cases, get_or-replicate_default}
@@ -12,8 +12,8 @@ use Rattle.book_base.specs.Cut.{Holds}
 use Rattle.book_base.specs.Book.{Page, record_of}
 use Rattle.book_base.specs.Sequential.{IsRunFrom}
 use Rattle.book_base.specs.Order.{call_at, StandsAt, step_at}
-use Rattle.book_base.specs.Foresight.{list_after_run}
-use Rattle.book_base.specs.ForesightLaws.{NoPlacesReachTheStart, OneMorePlaceReachesOn, PrecedingComesFirst, LeavingMayBeLeftOut, WhatStandsIsNotHopeless}
+use Rattle.book_base.specs.Foresight.{list_after_run, Reaches}
+use Rattle.book_base.specs.ForesightLaws.{NoPlacesReachTheStart, OneMorePlaceReachesOn, OneCutIsReached, PrecedingComesFirst, LeavingMayBeLeftOut, WhatStandsIsNotHopeless}
 use Rattle.book_base.proofs.ViewLemmas.{same_call}
 
 -- the list after one more step
@@ -70,6 +70,24 @@ one_more_place_reaches_on init next book before cut list place reaches inside at
   ];
   reached = list_after_run-push next book init before place ∙ ap (λ (l : List ℕ). (next l (step_at book place).0).0) reaches.reached;
 }
+
+-- each call that one cut holds stands in the order, and so the other cut holds it
+reached_within : (init : List ℕ) (next : List ℕ → ℕ → List ℕ × ℕ) (book : List Page) (order : List Place) (a b x y : List ℕ)
+    → Reaches init next book order a x → Reaches init next book order b y → (i : ℕ) → get_or a i 0 ≤ get_or b i 0
+reached_within init next book order a b x y first second i = elim (cases_lt 0 (get_or a i 0)) [
+  | inl some ↦
+      let call : Call = record { caller = i; number = get_or a i 0 - 1 } in
+      let stands = first.held call (omega (arith, some)) in
+      let holds : call.number < get_or b i 0 = second.holds stands.0 call stands.1 in
+      omega (arith, holds, some)
+  | inr none ↦ omega (arith, none)
+]
+
+pub one_cut_is_reached : OneCutIsReached
+one_cut_is_reached init next book order a b x y wide first second = (
+  ext_get_or 0 a b wide (λ i inside. omega (arith, reached_within init next book order a b x y first second i, reached_within init next book order b a y x second first i)),
+  sym first.reached ∙ second.reached,
+)
 
 pub what_stands_is_not_hopeless : WhatStandsIsNotHopeless
 what_stands_is_not_hopeless init next book before rest place cut list legal reaches hopeless = hopeless before rest place.reply reaches legal

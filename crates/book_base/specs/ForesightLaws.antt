@@ -17,6 +17,11 @@ OneMorePlaceReachesOn = (init : List ℕ) (next : List ℕ → ℕ → List ℕ 
     → Reaches init next book before cut list → place.caller < length cut → place.number ≡ slice_index cut place.caller
     → Reaches init next book (before ++ place ∷ []) (slice_set cut place.caller (place.number + 1)) (next list (step_at book place).0).0
 
+-- An order reaches one cut of a width, and one list.
+abbrev pub OneCutIsReached : Type 0
+OneCutIsReached = (init : List ℕ) (next : List ℕ → ℕ → List ℕ × ℕ) (book : List Page) (order : List Place) (cut other list last : List ℕ)
+    → length cut ≡ length other → Reaches init next book order cut list → Reaches init next book order other last → (cut ≡ other) × (list ≡ last)
+
 -- What stands in a legal order isn't hopeless where it stands.
 abbrev pub WhatStandsIsNotHopeless : Type 0
 WhatStandsIsNotHopeless = (init : List ℕ) (next : List ℕ → ℕ → List ℕ × ℕ) (book : List Page) (before rest : List Place) (place : Place) (cut list : List ℕ)

@@ -3,10 +3,10 @@
 ghost use Rattle.std.specs.Prelude.{◌≡◌, ℕ, ◌<◌, ◌↔◌, List, length};
 ghost use Rattle.book_base.specs.declared.call.Record.{Record};
 ghost use Rattle.book_base.specs.Book.{Page, IsValid, with_answer};
-ghost use Rattle.book_base.specs.OperationWord.{WordsAreJoinedAndParted};
+ghost use Rattle.book_base.specs.OperationWord.{joined, WordsAreJoinedAndParted};
 ghost use Rattle.book_base.specs.Refusal.{MayAnswer};
 ghost use Rattle.book_base.specs.Rising.{ViewsRise, PrecedesByItsView};
-ghost use Rattle.book_base.specs.ForesightLaws.{NoPlacesReachTheStart, OneMorePlaceReachesOn, WhatStandsIsNotHopeless, PrecedingComesFirst, LeavingMayBeLeftOut};
+ghost use Rattle.book_base.specs.ForesightLaws.{NoPlacesReachTheStart, OneMorePlaceReachesOn, OneCutIsReached, WhatStandsIsNotHopeless, PrecedingComesFirst, LeavingMayBeLeftOut};
 
 /// A book takes exactly those answers that leave it valid.
 pub fn valid_answers_are_taken()
@@ -23,13 +23,15 @@ pub fn views_of_a_caller_rise()
 
 /// The low and the high word of an operation word are those that it is joined of.
 pub fn operation_words_are_two_words()
-    ensures { WordsAreJoinedAndParted }
+    ensures words { WordsAreJoinedAndParted }
+    ensures worked { joined 5 3 ≡ 55340232221128654853 }
 {}
 
-/// What an order reaches grows place by place.
+/// What an order reaches grows place by place, and is one cut and one list.
 pub fn orders_reach_place_by_place()
     ensures start { NoPlacesReachTheStart }
     ensures more { OneMorePlaceReachesOn }
+    ensures one { OneCutIsReached }
 {}
 
 /// A hopeless call stands in no legal order where it is hopeless, and a call that precedes another one
