@@ -4,6 +4,7 @@ use Rattle.std.specs.List.{AllByRecursion, insert}
 use Rattle.std.specs.Option.{IsSomeAnd, IfSome, IfNone}
 use Rattle.std.proofs.lemmas.Bool.{cases_lt}
 use Rattle.std.proofs.lemmas.List.{get_or-set_same, get_or-set_other}
+use Rattle.std.proofs.lemmas.List.Elements.{Contains-get_or}
 use Rattle.std.proofs.lemmas.Option.{same_Some, slice_get_within}
 use Rattle.list_laws.proofs.Options.{some_from_is_some_and}
 use Rattle.book_base.specs.declared.call.Call.{Call}
@@ -12,7 +13,7 @@ use Rattle.book_base.specs.declared.call.Record.{Record}
 use Rattle.book_base.specs.Cut.{Holds, IsWithin}
 use Rattle.book_base.specs.Book.{Page, IsValid, IsCall, IsAnswered, operation_of, record_of, Precedes}
 use Rattle.book_base.specs.Order.{call_at, step_at, IsLegalOrder}
-use Rattle.book_base.specs.Foresight.{Leaves, IsHopeless}
+use Rattle.book_base.specs.Foresight.{Leaves, IsHopeless, HasEarly, rank_of}
 use Rattle.book_base.proofs.PageLemmas.{caller_from_call, caller_from_answer}
 use Rattle.book_base.proofs.GrowthLemmas.{below_calls}
 use Rattle.book_laws.specs.Next.{next_call, raised, list_after, HoldsAnswered, MayComeNext, MayStandNext, Continues}
@@ -21,7 +22,7 @@ use Rattle.book_laws.proofs.Precedence.{may_come_next-from_first}
 use Rattle.history_rules.specs.Standing.{MayStandAtOnce, answered_place, word_of}
 use Rattle.history_rules.proofs.Exchange.{goes_on_with_it}
 use Rattle.frontier_check.specs.declared.choice.Choice.{Choice}
-use Rattle.frontier_check.specs.Search.{ViewsAreWithin, IsLeast, IsAmong, places_of, AreChosen, IsOpen, IsDeadEnd, GoesOnBy, StandsAtOnce, IsReached}
+use Rattle.frontier_check.specs.Search.{ViewsAreWithin, IsLeast, IsAmong, places_of, AreChosen, IsOpen, IsDeadEnd, GoesOnBy, StandsAtOnce, IsReached, IsRankIn}
 
 -- a place among the places of choices, with one more choice
 
@@ -414,3 +415,9 @@ copied-more cut new counts i n long inside is made same j below =
           let at : j ≡ i = omega arith in
           ap (λ (k : ℕ). get_or (set cut i n) k 0) at ∙ (get_or-set_same cut i n 0 (omega arith) ∙ (is ∙ sym (ap (λ (k : ℕ). get_or counts k 0) at)))
     ]
+
+-- the rank of a word of a list is one in the list
+pub rank_in : (ranks : List (ℕ × ℕ)) (list words : List ℕ) (i rank : ℕ) → words ≡ list → i < length words → rank_of ranks (get_or words i 0) ≡ Some rank → IsRankIn ranks list rank
+rank_in ranks list words i rank same below known limit low =
+    subst (λ (l : List ℕ). HasEarly ranks l limit) same
+    (get_or words i 0, Contains-get_or words i 0 below, subst (λ (o : Option ℕ). IsSomeAnd o (λ r. r < limit)) (sym known) low)

@@ -8,7 +8,7 @@ use Rattle.book_base.specs.declared.TheConstants.{MAX_CALLERS}
 use Rattle.book_base.specs.Cut.{IsWithin}
 use Rattle.book_base.specs.Order.{IsLegalOrder, HasLegalOrder}
 use Rattle.book_base.specs.Book.{Page, IsAnswered, record_of}
-use Rattle.book_base.specs.Foresight.{Reaches}
+use Rattle.book_base.specs.Foresight.{Reaches, HasEarly}
 use Rattle.book_laws.specs.Next.{next_call, raised, list_after, HoldsAnswered, MayStandNext, Continues}
 use Rattle.frontier_check.specs.declared.choice.Choice.{Choice}
 use Rattle.frontier_check.specs.declared.walk.Level.{Level}
@@ -70,6 +70,10 @@ pub record IsReached (init : List ℕ) (next : List ℕ → ℕ → List ℕ × 
   pub before : List Place
   pub reaches : Reaches init next book before cut list
   pub legal : (rest : List Place) → Continues book next cut list rest → IsLegalOrder init next book (before ++ rest)
+
+-- A list has a word of this rank: where it is below a limit, the list has a word of a rank below that limit.
+abbrev pub IsRankIn : List (ℕ × ℕ) → List ℕ → ℕ → Type 0
+IsRankIn ranks list rank = (limit : ℕ) → rank < limit → HasEarly ranks list limit
 
 -- The places that were chosen so far, of the callers below a number: each may stand next, and an order that goes on by one of
 -- these callers goes on by one of them.

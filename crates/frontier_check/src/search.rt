@@ -6,7 +6,7 @@ ghost use Rattle.book_base.specs.Order.{IsLegalOrder, HasLegalOrder};
 ghost use Rattle.book_base.specs.Foresight.{IsForesight, IsHopeless};
 ghost use Rattle.book_base.specs.declared.TheConstants.{MAX_CALLERS};
 ghost use Rattle.book_laws.specs.Next.{next_call, raised, list_after, HoldsAnswered, MayComeNext};
-ghost use Rattle.frontier_check.specs.Search.{IsLeast, ViewsAreWithin, places_of, AreChosen, IsOpen, IsReached, IsWalk, IsRightOutcome, StandsAtOnce, Fits, weigh, weight};
+ghost use Rattle.frontier_check.specs.Search.{IsLeast, ViewsAreWithin, places_of, AreChosen, IsOpen, IsReached, IsWalk, IsRightOutcome, StandsAtOnce, IsRankIn, Fits, weigh, weight};
 
 use crate::choice::Choice;
 use crate::memo::Memo;
@@ -22,6 +22,7 @@ pub struct Search<'a, S> {
     pub object: &'a S,
     pub book: &'a Book,
     pub known: &'a Foresight,
+    pub limited: bool,
     pub plan: &'a Plan,
 }
 
@@ -32,6 +33,7 @@ impl<S> Drop for Search<'_, S> {
             object: _,
             book: _,
             known: _,
+            limited: _,
             plan: _,
         } = self;
     }
@@ -212,9 +214,10 @@ impl<S: SeqObject> Search<'_, S> {
             return Ok(choices);
         }
         let cut = cut_of(counts);
+        let earliest = self.earliest(here);
         for caller in 0..self.book.callers() {
             if u64::from(counts[caller as usize]) < view.get(caller)
-                && !self.is_hopeless(&cut, here, caller)
+                && !self.is_hopeless(&cut, here, earliest, caller)
             {
                 self.consider(counts, caller, here, spare, &mut choices)?;
             }
@@ -283,9 +286,31 @@ impl<S: SeqObject> Search<'_, S> {
         })
     }
 
-    // Whether a caller's next call after a cut is known to be hopeless there.
-    fn is_hopeless(&self, cut: &Cut, here: &State, caller: u32) -> bool
+    // The least rank of the words of a list, where a call of the book has a limit. No clause says that one
+    // is found: that costs time alone.
+    fn earliest(&self, here: &State) -> Option<u64>
+        ensures { IfSome result (IsRankIn self.now.known.now.ranks here.now.words) }
+    {
+        if !self.limited {
+            return None;
+        }
+        let mut least: Option<u64> = None;
+        for word in here.words() {
+            if let Some(rank) = self.known.rank(*word) {
+                least = match least {
+                    Some(other) if other <= rank => least,
+                    _ => Some(rank),
+                };
+            }
+        }
+        least
+    }
+
+    // Whether a caller's next call after a cut, at a list with a word of this rank, is known to be
+    // hopeless there.
+    fn is_hopeless(&self, cut: &Cut, here: &State, earliest: Option<u64>, caller: u32) -> bool
         requires caller { caller < length cut.now }
+        requires earliest { IfSome earliest (IsRankIn self.now.known.now.ranks here.now.words) }
         requires foresight { IsForesight (S.init self.now.object.now) (S.next self.now.object.now) self.now.book.now self.now.known.now }
         ensures { IsTrue result → IsHopeless (S.init self.now.object.now) (S.next self.now.object.now) self.now.book.now cut.now here.now.words (next_call cut.now caller) }
     {
@@ -293,7 +318,13 @@ impl<S: SeqObject> Search<'_, S> {
             caller,
             number: cut.get(caller),
         };
-        self.known.forbids(cut.counts(), here.words(), call)
+        if self.known.lacks(cut.counts(), call) {
+            return true;
+        }
+        match earliest {
+            Some(rank) => rank < self.known.limit(call),
+            None => false,
+        }
     }
 
     // Adds the place of a caller's next call, which may come next, if the object gives the recorded reply.

@@ -4,7 +4,7 @@ ghost use Rattle.frontier_check.specs.Verdict.{IsRight, IsKept};
 use crate::guide::Guide;
 use crate::plan::Plan;
 use crate::search::Search;
-use book_base::{Book, NoMemory, Place, SeqObject};
+use book_base::{Book, Call, Foresight, NoMemory, Place, SeqObject};
 use std::alloc::Global;
 
 /// Whether a book has a legal order.
@@ -47,6 +47,7 @@ pub fn check_from<S: SeqObject>(
         object,
         book,
         known: &known,
+        limited: has_limits(book, &known),
         plan: &plan,
     };
     match search.run()? {
@@ -56,4 +57,16 @@ pub fn check_from<S: SeqObject>(
             Ok(Verdict::Legal(order))
         }
     }
+}
+
+// Whether a call of a book has a limit. No clause says so: it costs or saves time alone.
+fn has_limits(book: &Book, known: &Foresight) -> bool {
+    for caller in 0..book.callers() {
+        for number in 0..book.calls(caller) {
+            if known.limit(Call { caller, number }) > 0 {
+                return true;
+            }
+        }
+    }
+    false
 }
