@@ -7,3 +7,4 @@ pub mod Readings
 pub mod Pages
 pub mod WrittenTexts
 pub mod ReadTexts
+pub mod FaultTexts

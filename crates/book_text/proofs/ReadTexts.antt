@@ -91,7 +91,7 @@ all_zeros zero m op e = absurd (none-some op e)
 all_zeros (suc n) zero op e = sym (same_Some 0 op e)
 all_zeros (suc n) (suc m) op e = all_zeros n m op e
 
-has_zero : (version : Version) → IsTrue (nat_lt 0 (word_limit version))
+pub has_zero : (version : Version) → IsTrue (nat_lt 0 (word_limit version))
 has_zero First = lt-ltb 0 (2 ^ 64) (omega arith)
 has_zero Second = lt-ltb 0 (2 ^ 128) (omega arith)
 

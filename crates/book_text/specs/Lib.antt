@@ -2,3 +2,4 @@ pub mod CallLines
 pub mod Grammar
 pub mod BookRules
 pub mod Entries
+pub mod Beginnings

@@ -7,6 +7,7 @@ ghost use Rattle.seq_objects.specs.declared.kind.Kind.{Kind};
 ghost use Rattle.text_fields.specs.declared.version.Version.{Version};
 ghost use Rattle.book_text.specs.BookRules.{IsBookText, IsFirstBookFault};
 ghost use Rattle.book_text.specs.Grammar.{IsWrittenText};
+ghost use Rattle.book_text.specs.Beginnings.{LeavesTexts};
 
 /// Bytes are the text of one book at most, for one kind.
 pub fn one_book_per_text()
@@ -26,4 +27,10 @@ pub fn no_fault_of_a_text()
 /// Bytes are read as a book exactly where they are what is written of it.
 pub fn a_text_is_its_books_lines()
     ensures { (version : Version) (bytes : List ℕ) (kind : Kind) (book : List Page) → IsWrittenText version bytes kind book ↔ IsBookText version bytes kind book }
+{}
+
+/// A first fault stands where the bytes leave the texts of books: some text begins with the lines before
+/// the fault's line, and none goes on with that line; or it isn't whole, or bytes follow a whole text.
+pub fn first_faults_leave_texts()
+    ensures { (version : Version) (bytes : List ℕ) (fault : TextFault) → IsFirstBookFault version bytes fault → LeavesTexts version bytes fault }
 {}

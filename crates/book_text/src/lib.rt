@@ -8,7 +8,10 @@ mod reader;
 mod view;
 
 pub use calls::read_calls;
-pub use laws::{a_text_is_its_books_lines, no_fault_of_a_text, one_book_per_text, one_first_fault};
+pub use laws::{
+    a_text_is_its_books_lines, first_faults_leave_texts, no_fault_of_a_text, one_book_per_text,
+    one_first_fault,
+};
 pub use reader::{read_book, read_book1};
 pub use text_fields::{Head, Lines, OpText, Words, number, read_head, read_head1};
 

@@ -3,3 +3,4 @@ pub mod Texts
 pub mod Parts
 pub mod Readings
 pub mod Prefixes
+pub mod WrittenOut

@@ -1,24 +1,23 @@
 -- No text begins another.
-use Rattle.std.proofs.Common.{◌≡◌, ◌≢◌, ℕ, zero, suc, ◌+◌, ◌<◌, ◌≤◌, ◌^◌, ◌⊎◌, List, [], ◌∷◌, ◌++◌, length, map, get_or, Some, refl, sym, ap, subst, ◌∙◌, append_assoc, arith, slice_get, inl, inr}
+use Rattle.std.proofs.Common.{◌≡◌, ◌≢◌, ℕ, suc, List, [], ◌∷◌, ◌++◌, map, get_or, Some, refl, sym, ap, subst, ◌∙◌, arith, inl, inr}
 use Rattle.std.specs.Prelude.{codes, unwrap_or, option_map}
 use Rattle.std.specs.List.{AllByRecursion}
-use Rattle.std.proofs.lemmas.List.{append-nil, length-append}
+use Rattle.std.proofs.lemmas.List.{append-nil}
 use Rattle.std.proofs.lemmas.Option.{slice_get_cases}
 use Rattle.list_laws.proofs.Elements.{AllByRecursion-append}
 use Rattle.book_base.specs.declared.call.Call.{Call}
 use Rattle.book_base.specs.declared.call.Record.{Record}
-use Rattle.book_base.specs.Book.{Page, page_of, calls_of, operation_of, record_of, IsCall, IsAnswered}
+use Rattle.book_base.specs.Book.{Page, page_of, operation_of, record_of, IsCall}
 use Rattle.book_base.proofs.PageLemmas.{caller_from_call}
 use Rattle.seq_objects.specs.declared.kind.Kind.{Kind}
 use Rattle.seq_objects.specs.Words.{operation_words}
 use Rattle.seq_objects.specs.Replies.{reply_word}
 use Rattle.seq_objects.proofs.Texts.{reply_word-IsWord}
 use Rattle.text_fields.specs.declared.version.Version.{Version}
-use Rattle.text_fields.specs.declared.version.Version.TheVariants.{First, Second}
-use Rattle.text_fields.specs.Lines.{line_text, text_of, IsSolid, AreSolid}
+use Rattle.text_fields.specs.declared.version.Version.TheVariants.{Second}
+use Rattle.text_fields.specs.Lines.{text_of, IsSolid, AreSolid}
 use Rattle.text_fields.specs.Faults.{Wanted, ALine, TheEnd, Nothing, Rules, AllPass, AreSharp}
 use Rattle.text_fields.specs.Head.{TitleDue, title_words}
-use Rattle.text_fields.specs.Operations.{kind_operations}
 use Rattle.text_fields.specs.OperationLaws.{solid_kind_words}
 use Rattle.text_fields.proofs.LineTexts.{text_of-cons}
 use Rattle.text_fields.proofs.NumberTexts.{same_first, solid_word, solid_decimal}
@@ -26,7 +25,7 @@ use Rattle.text_fields.proofs.HeadTexts.{plain}
 use Rattle.text_fields.proofs.Sharp.{same_line}
 use Rattle.book_text.specs.CallLines.{place_words}
 use Rattle.book_text.specs.Grammar.{end_words, IsWritable, IsWrittenText}
-use Rattle.book_text.specs.BookRules.{BookDue, InHead, AtEnd, BookPasses, book_wanted, book_rules, IsBookText}
+use Rattle.book_text.specs.BookRules.{InHead, AtEnd, book_rules, IsBookText}
 use Rattle.book_text.proofs.SharpBooks.{book_sharp}
 use Rattle.book_text.proofs.Readings.{one_book}
 use Rattle.sketch.specs.declared.event.Event.{Event}

@@ -1,13 +1,13 @@
 -- What is written of a book is read as that book.
-use Rattle.std.proofs.Common.{◌≡◌, ℕ, zero, suc, ◌+◌, ◌<◌, ◌≤◌, ◌^◌, false, List, [], ◌∷◌, ◌++◌, length, map, get_or, Option, Some, None, refl, sym, ap, subst, ◌∙◌, append_assoc, arith, slice_get}
-use Rattle.std.specs.Prelude.{codes, IsTrue, unwrap_or}
+use Rattle.std.proofs.Common.{◌≡◌, ℕ, suc, ◌+◌, ◌≤◌, List, [], ◌∷◌, ◌++◌, length, map, get_or, Option, Some, None, refl, sym, ap, subst, ◌∙◌, append_assoc, arith, slice_get}
+use Rattle.std.specs.Prelude.{IsTrue, unwrap_or}
 use Rattle.std.proofs.lemmas.Bool.{le-ltb}
 use Rattle.std.proofs.lemmas.List.{append-nil, length-append, length-map}
 use Rattle.std.proofs.lemmas.Option.{slice_get_past}
 use Rattle.book_base.specs.declared.call.Call.{Call}
 use Rattle.book_base.specs.declared.call.Record.{Record}
 use Rattle.book_base.specs.Cut.{IsWithin}
-use Rattle.book_base.specs.Book.{Page, page_of, calls_of, answers_of, announced, operation_of, record_of, unanswered_book, with_operation, with_answer, IsValid}
+use Rattle.book_base.specs.Book.{Page, page_of, calls_of, answers_of, announced, operation_of, record_of, unanswered_book, with_operation}
 use Rattle.book_base.specs.Refusal.{MayAnswer}
 use Rattle.book_base.proofs.GrowthLemmas.{announced_at, below_calls}
 use Rattle.seq_objects.specs.declared.kind.Kind.{Kind}
@@ -19,7 +19,7 @@ use Rattle.text_fields.specs.Counts.{AreAtMost}
 use Rattle.text_fields.specs.Faults.{AllPass}
 use Rattle.text_fields.specs.Head.{TitleDue, ObjectDue, CallersDue, CountsDue, HeadRead}
 use Rattle.text_fields.specs.Operations.{Operations, kind_operations}
-use Rattle.book_text.specs.CallLines.{Progress, call_words, calls_from, all_calls, is_gap, MayStand, with_line, IsNamedCall, IsCallLine}
+use Rattle.book_text.specs.CallLines.{Progress, call_words, calls_from, all_calls, IsNamedCall, IsCallLine}
 use Rattle.book_text.specs.Grammar.{line_of, book_lines, end_words, IsWritable, IsWrittenText}
 use Rattle.book_text.specs.BookRules.{BookDue, InHead, InCalls, AtEnd, BookPasses, IsBookText}
 use Rattle.book_writer.proofs.Parts.{slice_get-middle, page_middle, part, announced-part, record-part, operation-part, answer-part, part-whole, numbers_from}
@@ -68,7 +68,7 @@ module _ (version : Version) (kind : Kind) (book : List Page) (w : IsWritable ve
     -- facts of the part that is read
     module _ (ops : List ℕ) (op : ℕ) (left : List ℕ) (records : List Record) (k : ℕ) (there : k ≡ length ops) (split : page.operations ≡ ops ++ op ∷ left) where
       abbrev before : List Page
-      before = part done ops (suc (length left)) records rest
+      before = part done ops (suc (length left)) records (announced rest)
 
       abbrev call : Call
       call = record { caller = i; number = k }
@@ -104,7 +104,7 @@ module _ (version : Version) (kind : Kind) (book : List Page) (w : IsWritable ve
       answers_here = ap (λ (j : ℕ). answers_of before j) here ∙ ap (λ (p : Page). length p.records) (page_middle done _ (unanswered_book (announced rest)))
 
       -- a right line of a call without an answer
-      unanswered_line : record_of book call ≡ None → IsCallLine version operations before call (line call) (part done (ops ++ op ∷ []) (length left) records rest)
+      unanswered_line : record_of book call ≡ None → IsCallLine version operations before call (line call) (part done (ops ++ op ∷ []) (length left) records (announced rest))
       unanswered_line none = record {
         named = named;
         op = op;
@@ -112,7 +112,7 @@ module _ (version : Version) (kind : Kind) (book : List Page) (w : IsWritable ve
         has = has;
         stands = tt;
         text = line_is call op None operation_is none;
-        book_is = sym (operation-part done ops (length left) records rest i k op here there);
+        book_is = sym (operation-part done ops (length left) records (announced rest) i k op here there);
       }
 
       -- the view of an answered call may stand there
@@ -130,7 +130,7 @@ module _ (version : Version) (kind : Kind) (book : List Page) (w : IsWritable ve
 
       -- a right line of an answered call
       answered_line : (r : Record) (more : List Record) → record_of book call ≡ Some r → page.records ≡ records ++ r ∷ more → length records ≡ k
-          → IsCallLine version operations before call (line call) (part done (ops ++ op ∷ []) (length left) (records ++ r ∷ []) rest)
+          → IsCallLine version operations before call (line call) (part done (ops ++ op ∷ []) (length left) (records ++ r ∷ []) (announced rest))
       answered_line r more answer recs fit = record {
         named = named;
         op = op;
@@ -144,7 +144,7 @@ module _ (version : Version) (kind : Kind) (book : List Page) (w : IsWritable ve
           may r more answer recs fit,
         );
         text = line_is call op (Some r) operation_is answer;
-        book_is = sym (operation-part done ops (length left) (records ++ r ∷ []) rest i k op here there) ∙ ap (λ (b : List Page). with_operation b call op) (sym (answer-part done ops (suc (length left)) records rest i r here));
+        book_is = sym (operation-part done ops (length left) (records ++ r ∷ []) (announced rest) i k op here there) ∙ ap (λ (b : List Page). with_operation b call op) (sym (answer-part done ops (suc (length left)) records (announced rest) i r here));
       }
 
     abbrev Pass : BookDue → List (List (List ℕ)) → Type 0
@@ -153,9 +153,9 @@ module _ (version : Version) (kind : Kind) (book : List Page) (w : IsWritable ve
     -- the lines of a caller's calls are right where those behind them are
     calls_pass : (tail : List Call) → Pass (InCalls kind (done ++ page ∷ unanswered_book (announced rest)) tail) (map line tail ++ end_words ∷ [])
         → (left : List ℕ) (ops : List ℕ) (records more : List Record) (k : ℕ) → k ≡ length ops → page.operations ≡ ops ++ left → page.records ≡ records ++ more → Fit records more k
-        → Pass (InCalls kind (part done ops (length left) records rest) (calls_from i k (length left) ++ tail)) (map line (calls_from i k (length left) ++ tail) ++ end_words ∷ [])
+        → Pass (InCalls kind (part done ops (length left) records (announced rest)) (calls_from i k (length left) ++ tail)) (map line (calls_from i k (length left) ++ tail) ++ end_words ∷ [])
     calls_pass tail behind [] ops records [] k there split recs fit =
-        subst (λ (b : List Page). Pass (InCalls kind b tail) (map line tail ++ end_words ∷ [])) (sym (part-whole done ops records page rest split recs)) behind
+        subst (λ (b : List Page). Pass (InCalls kind b tail) (map line tail ++ end_words ∷ [])) (sym (part-whole done ops records page (announced rest) split recs)) behind
     calls_pass tail behind [] ops records (r ∷ more) k there split recs fit =
         let valid = w.valid.answers i in
         let answers : answers_of book i ≡ length records + suc (length more) = ap (λ (p : Page). length p.records) own_page ∙ ap (length {A = Record}) recs ∙ length-append records (r ∷ more) in
@@ -164,7 +164,7 @@ module _ (version : Version) (kind : Kind) (book : List Page) (w : IsWritable ve
     calls_pass tail behind (op ∷ left) ops records [] k there split recs fit =
         let none : record_of book (record { caller = i; number = k }) ≡ None
         = ap (λ (p : Page). slice_get p.records k) own_page ∙ ap (λ (rs : List Record). slice_get rs k) (recs ∙ append-nil records) ∙ slice_get_past records k fit in
-        let next : Progress = record { book = part done (ops ++ op ∷ []) (length left) records rest; due = calls_from i (k + 1) (length left) ++ tail } in (
+        let next : Progress = record { book = part done (ops ++ op ∷ []) (length left) records (announced rest); due = calls_from i (k + 1) (length left) ++ tail } in (
           InCalls kind next.book next.due,
           (next, (unanswered_line ops op left records k there split none, refl), refl),
           calls_pass tail behind left (ops ++ op ∷ []) records [] (k + 1) (omega (arith, length-append ops (op ∷ []))) (split ∙ sym (append_assoc ops (op ∷ []) left)) recs (omega arith),
@@ -172,7 +172,7 @@ module _ (version : Version) (kind : Kind) (book : List Page) (w : IsWritable ve
     calls_pass tail behind (op ∷ left) ops records (r ∷ more) k there split recs fit =
         let answer : record_of book (record { caller = i; number = k }) ≡ Some r
         = ap (λ (p : Page). slice_get p.records k) own_page ∙ ap (λ (rs : List Record). slice_get rs k) recs ∙ ap (λ (n : ℕ). slice_get (records ++ r ∷ more) n) (sym fit) ∙ slice_get-middle records r more in
-        let next : Progress = record { book = part done (ops ++ op ∷ []) (length left) (records ++ r ∷ []) rest; due = calls_from i (k + 1) (length left) ++ tail } in (
+        let next : Progress = record { book = part done (ops ++ op ∷ []) (length left) (records ++ r ∷ []) (announced rest); due = calls_from i (k + 1) (length left) ++ tail } in (
           InCalls kind next.book next.due,
           (next, (answered_line ops op left records k there split r more answer recs fit, refl), refl),
           calls_pass tail behind left (ops ++ op ∷ []) (records ++ r ∷ []) more (k + 1) (omega (arith, length-append ops (op ∷ []))) (split ∙ sym (append_assoc ops (op ∷ []) left)) (recs ∙ sym (append_assoc records (r ∷ []) more))

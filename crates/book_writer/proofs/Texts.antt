@@ -1,14 +1,13 @@
 -- A text that is written line by line.
-use Rattle.std.proofs.Common.{◌≡◌, ℕ, zero, suc, ◌+◌, ◌<◌, ◌≤◌, ◌^◌, List, [], ◌∷◌, ◌++◌, length, map, take, get_or, decimal, Option, Some, None, refl, sym, ap, subst, ◌∙◌, append_assoc, arith}
-use Rattle.std.specs.Prelude.{codes, unwrap_or, IsTrue, nat_lt, slice_get}
+use Rattle.std.proofs.Common.{◌≡◌, ℕ, zero, suc, ◌+◌, ◌<◌, ◌≤◌, ◌^◌, List, [], ◌∷◌, ◌++◌, length, map, take, get_or, Option, Some, refl, sym, ap, subst, ◌∙◌, append_assoc, arith}
+use Rattle.std.specs.Prelude.{codes, unwrap_or}
 use Rattle.std.proofs.Common.{inl, inr}
 use Rattle.std.proofs.lemmas.Bool.{lt-ltb, cases_lt}
 use Rattle.std.proofs.lemmas.Option.{slice_get_within}
 use Rattle.std.proofs.lemmas.List.{append-nil, map-append, take_more, length-take, length-map, take_all}
 use Rattle.std.proofs.lemmas.List.Concat.{flat_map-cons, flat_map-append}
 use Rattle.book_base.specs.declared.call.Call.{Call}
-use Rattle.book_base.specs.declared.call.Record.{Record}
-use Rattle.book_base.specs.Book.{Page, announced, calls_of, operation_of, record_of, page_of, IsCall, IsValid, IsSmall}
+use Rattle.book_base.specs.Book.{Page, announced, calls_of, page_of, IsCall, IsValid, IsSmall}
 use Rattle.book_base.proofs.PageLemmas.{caller_from_call}
 use Rattle.book_base.proofs.GrowthLemmas.{announced_at}
 use Rattle.text_fields.specs.Lines.{line_text, text_of}
@@ -17,7 +16,7 @@ use Rattle.text_fields.specs.Operations.{kind_operations}
 use Rattle.text_fields.specs.declared.version.Version.TheVariants.{Second}
 use Rattle.text_fields.specs.Head.{head_lines}
 use Rattle.seq_objects.specs.declared.kind.Kind.{Kind}
-use Rattle.book_text.specs.Grammar.{line_of, call_lines, book_lines, end_words, IsWritable, IsWrittenText}
+use Rattle.book_text.specs.Grammar.{line_of, book_lines, end_words, IsWrittenText}
 use Rattle.book_writer.specs.Fields.{HasWords}
 use Rattle.book_writer.proofs.Lines.{both_pieces}
 

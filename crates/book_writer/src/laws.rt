@@ -1,11 +1,15 @@
 //! Laws of the texts of books and of sketches. Each is the contract of a function with nothing in it.
 
-ghost use Rattle.book_writer.specs.Laws.{WrittenBooksAreRead, WrittenBooksAreOne, NoBookTextBeginsAnother, NoSketchTextBeginsAnother};
+ghost use Rattle.book_writer.specs.Laws.{BookTextsAreWrittenOut, WrittenBooksAreOne, NoBookTextBeginsAnother, NoSketchTextBeginsAnother};
 
-/// What is written of a book is read as that book and its kind, in both versions.
-pub fn written_books_are_read()
-    ensures read { WrittenBooksAreRead }
-    ensures one { WrittenBooksAreOne }
+/// Bytes are read as a book, line by line, exactly where they are what is written of it, in both versions.
+pub fn book_texts_are_written_out()
+    ensures { BookTextsAreWrittenOut }
+{}
+
+/// Two books of which the same is written are one, and so are their kinds, in both versions.
+pub fn written_books_are_one()
+    ensures { WrittenBooksAreOne }
 {}
 
 /// No text of a book is a proper prefix of another's, in both versions.

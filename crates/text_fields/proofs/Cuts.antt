@@ -7,14 +7,14 @@ use Rattle.std.proofs.lemmas.List.Sums.{split_at_first, passes_at_first, fails_b
 use Rattle.std.proofs.lemmas.List.Splits.{slice_split_first, slice_split_none}
 use Rattle.text_fields.specs.Lines.{cut_at}
 
-abbrev parts_at : ℕ → List ℕ → List ℕ × List ℕ
+abbrev pub parts_at : ℕ → List ℕ → List ℕ × List ℕ
 parts_at i bytes = (take i bytes, drop (i + 1) bytes)
 
 chosen_none : (b : Bool) (i : ℕ) (bytes : List ℕ) → option_map (λ k. parts_at k bytes) (cond b (Some i) None) ≡ None → b ≡ false
 chosen_none true i bytes e = absurd cc
 chosen_none false i bytes e = refl
 
-chosen_some : (b : Bool) (i : ℕ) (bytes : List ℕ) (parts : List ℕ × List ℕ) → option_map (λ k. parts_at k bytes) (cond b (Some i) None) ≡ Some parts → (b ≡ true) × (parts_at i bytes ≡ parts)
+pub chosen_some : (b : Bool) (i : ℕ) (bytes : List ℕ) (parts : List ℕ × List ℕ) → option_map (λ k. parts_at k bytes) (cond b (Some i) None) ≡ Some parts → (b ≡ true) × (parts_at i bytes ≡ parts)
 chosen_some true i bytes parts e = (refl, cc)
 chosen_some false i bytes parts e = absurd cc
 

@@ -1,18 +1,18 @@
 -- The text of a line is read as its words.
-use Rattle.std.proofs.Common.{◌≡◌, ℕ, ◌+◌, ◌<◌, ◌≤◌, Bool, true, false, eqb, ltb, List, [], ◌∷◌, ◌++◌, length, take, drop, Option, Some, None, Result, Ok, refl, sym, ap, ◌∙◌, append_assoc, arith}
+use Rattle.std.proofs.Common.{◌≡◌, ℕ, ◌+◌, ◌<◌, ◌≤◌, Bool, true, false, eqb, ltb, List, [], ◌∷◌, ◌++◌, length, take, drop, Option, Some, None, Result, Ok, refl, sym, ap, subst, ◌∙◌, append_assoc, arith}
 use Rattle.std.specs.Prelude.{not}
-use Rattle.std.specs.List.{AllByRecursion, list_all, prefix_len, join_with_byte}
+use Rattle.std.specs.List.{AllByRecursion, list_all, prefix_len, join_with_byte, position_or_len}
 use Rattle.std.proofs.lemmas.Bool.{ltb-true, lt-ltb, ne_eqb, eq-eqb, and_parts, and_from, not-true}
-use Rattle.std.proofs.lemmas.List.{take_at, drop_at, length-append}
+use Rattle.std.proofs.lemmas.List.{take_at, drop_at, length-append, length-take, get_or-take}
 use Rattle.std.proofs.lemmas.List.Elements.{All-from_recursion, All-weaker}
 use Rattle.std.proofs.lemmas.List.Folds.{list_all-append}
-use Rattle.std.proofs.lemmas.List.Sums.{list_all-from_AllPass}
+use Rattle.std.proofs.lemmas.List.Sums.{list_all-from_AllPass, fails_before_first}
 use Rattle.std.proofs.lemmas.List.Concat.{flat_map-cons, flat_map-append}
 use Rattle.std.proofs.lemmas.List.Splits.{join_with_byte-slice_split}
 use Rattle.book_base.specs.declared.fault.TextFault.{TextFault}
 use Rattle.text_fields.specs.Lines.{Unread, line_text, text_of, IsSolid, AreSolid, cut_at, line_from, line_at, words_of}
 use Rattle.list_laws.proofs.Splits.{Lacks, prefix_len-front, slice_split-join_with_byte}
-use Rattle.text_fields.proofs.Cuts.{cut_joins}
+use Rattle.text_fields.proofs.Cuts.{cut_joins, chosen_some}
 
 -- no byte of the list is this one
 abbrev pub lacks : ℕ → List ℕ → Bool
@@ -53,6 +53,18 @@ cut_front byte front rest h =
     let before : take (length front) whole ≡ front = take_at front (byte ∷ rest) (length front) refl in
     let behind : drop (length front + 1) whole ≡ rest = ap (drop (length front + 1)) (sym (append_assoc front (byte ∷ []) rest)) ∙ drop_at (front ++ byte ∷ []) rest (length front + 1) (length-append front (byte ∷ [])) in
     rw (at, inside) cc
+
+-- what stands before the first such byte is cut off so before other bytes
+pub cut_again : (byte : ℕ) (bytes front rest other : List ℕ) → cut_at byte bytes ≡ Some (front, rest) → cut_at byte (front ++ byte ∷ other) ≡ Some (front, other)
+cut_again byte bytes front rest other e =
+    let p = λ (b : ℕ). eqb b byte in
+    let c = chosen_some (ltb (position_or_len p bytes) (length bytes)) (position_or_len p bytes) bytes (front, rest) e in
+    let is : take (position_or_len p bytes) bytes ≡ front = ap (λ (x : List ℕ × List ℕ). x.0) c.1 in
+    let clean : list_all (λ b. not (eqb b byte)) (take (position_or_len p bytes) bytes) ≡ true
+    = list_all-from_AllPass (λ b. not (eqb b byte)) (take (position_or_len p bytes) bytes) (λ k d lt.
+    let before : k < position_or_len p bytes = omega (arith, length-take (position_or_len p bytes) bytes) in
+    ap not (ap p (get_or-take (position_or_len p bytes) bytes k d before) ∙ fails_before_first p bytes k d before)) in
+    cut_front byte front other (subst (λ (x : List ℕ). list_all (λ b. not (eqb b byte)) x ≡ true) is clean)
 
 -- ---- lines
 

@@ -1,4 +1,4 @@
-use Rattle.std.proofs.Common.{◌≡◌, ℕ, ◌<◌, ◌++◌, map, take}
+use Rattle.std.proofs.Common.{◌≡◌, ◌<◌, ◌++◌, map, take}
 use Rattle.std.specs.Prelude.{codes}
 use Rattle.book_base.specs.declared.call.Call.{Call}
 use Rattle.book_base.specs.Book.{announced, IsCall}

@@ -1,4 +1,4 @@
-use Rattle.std.proofs.Common.{◌≡◌, ℕ, List, [], ◌∷◌, ◌++◌, sym, ap, ◌∙◌}
+use Rattle.std.proofs.Common.{◌≡◌, ℕ, List, [], ◌++◌, sym, ap, ◌∙◌}
 use Rattle.std.specs.Prelude.{codes}
 use Rattle.book_base.specs.Book.{operation_of}
 use Rattle.seq_objects.specs.Words.{operation_words}

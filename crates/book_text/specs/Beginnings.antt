@@ -1,0 +1,57 @@
+-- Where bytes leave the texts of books: the first fault, said by what texts begin with.
+use Rattle.std.specs.Prelude.{◌≡◌, ◌≢◌, ◌⊎◌, ◌+◌, ℕ, zero, suc, List, [], ◌∷◌, ◌++◌, Some, None}
+use Rattle.book_base.specs.declared.fault.TextFault.{TextFault}
+use Rattle.book_base.specs.declared.fault.What.{What}
+use Rattle.book_base.specs.declared.fault.What.TheVariants.{Cut, Rest}
+use Rattle.book_base.specs.Book.{Page}
+use Rattle.seq_objects.specs.declared.kind.Kind.{Kind}
+use Rattle.text_fields.specs.declared.version.Version.{Version}
+use Rattle.text_fields.specs.Lines.{cut_at}
+use Rattle.book_text.specs.BookRules.{IsBookText, IsNoBookText}
+
+-- some text of a book begins with these bytes
+abbrev pub BeginsSomeText : Version → List ℕ → Type 0
+BeginsSomeText version front = (kind : Kind) × (book : List Page) × (more : List ℕ) × IsBookText version (front ++ more) kind book
+
+-- no text of a book begins with these bytes
+abbrev pub BeginsNoText : Version → List ℕ → Type 0
+BeginsNoText version front = (kind : Kind) (book : List Page) (more : List ℕ) → ¬ (IsBookText version (front ++ more) kind book)
+
+-- the bytes are so many whole lines: each is cut off at its line feed, and nothing is left behind the last
+abbrev pub AreWholeLines : ℕ → List ℕ → Type 0
+AreWholeLines zero bytes = bytes ≡ []
+AreWholeLines (suc count) bytes = (line : List ℕ) × (rest : List ℕ) × (cut_at 10 bytes ≡ Some (line, rest)) × AreWholeLines count rest
+
+-- Behind the whole lines in front stands a further whole line, with which no text of a book goes on.
+pub record BreaksText (version : Version) (front rest : List ℕ) (what : What) : Type 0 where
+  pub named : (what ≢ Cut) × (what ≢ Rest)
+  pub line : List ℕ
+  pub behind : List ℕ
+  pub whole : cut_at 10 rest ≡ Some (line, behind)
+  pub none : BeginsNoText version (front ++ (line ++ 10 ∷ []))
+
+-- Behind the whole lines in front the bytes have no further whole line.
+pub record EndsEarly (rest : List ℕ) (what : What) : Type 0 where
+  pub named : what ≡ Cut
+  pub none : cut_at 10 rest ≡ None
+
+-- The whole lines in front are a book's text already, and bytes follow.
+pub record GoesOn (version : Version) (front rest : List ℕ) (what : What) : Type 0 where
+  pub named : what ≡ Rest
+  pub kind : Kind
+  pub book : List Page
+  pub text : IsBookText version front kind book
+  pub more : rest ≢ []
+
+-- A fault says where bytes leave the texts of books: some text begins with the lines before the fault's line, and none goes on
+-- with the fault's line, or that line isn't whole, or the lines before it are a whole text.
+pub record LeavesTexts (version : Version) (bytes : List ℕ) (fault : TextFault) : Type 0 where
+  pub count : ℕ
+  pub front : List ℕ
+  pub rest : List ℕ
+  pub line : fault.line ≡ count + 1
+  pub bytes_are : bytes ≡ front ++ rest
+  pub lines : AreWholeLines count front
+  pub begins : BeginsSomeText version front
+  pub leaves : BreaksText version front rest fault.what ⊎ (EndsEarly rest fault.what ⊎ GoesOn version front rest fault.what)
+  pub no_text : IsNoBookText version bytes
