@@ -1,9 +1,9 @@
--- Which cuts are instantaneous of a scan that a caller alone makes.
-use Rattle.std.proofs.Common.{◌≡◌, ℕ, List, [], ◌∷◌, ◌++◌, slice_index, refl, ap}
+-- Which cuts of worked scans are instantaneous.
+use Rattle.std.proofs.Common.{◌≡◌, ℕ, List, [], ◌∷◌, ◌++◌, drop, take, slice_index, refl, ap}
 use Rattle.world_core.specs.declared.region.Region.TheVariants.{N, M}
 use Rattle.world_core.specs.World.{Step, end_of}
 use Rattle.world_core.specs.Snapshot.{counts_in, IsInstantaneous}
-use Rattle.world_core.specs.Schedules.{single, span_after_announcement, given_alone}
+use Rattle.world_core.specs.Schedules.{pair, trio, three_collects, moved_again, borrowed, borrowing_span, span_beside_stages, single, span_after_announcement, given_alone}
 
 pub instantaneous_alone : IsInstantaneous single (given_alone N 1) span_after_announcement
 instantaneous_alone = ([], [], refl, refl)
@@ -24,3 +24,10 @@ not_before (early, late, parts, is) = before_by early late parts is
 
 pub not_of_answers : IsInstantaneous single (given_alone M 1) span_after_announcement → ⊥
 not_of_answers (early, late, parts, is) = answers_by early late parts is
+
+-- the borrowed cut was the counts from the third collect on, until caller 0 announced again
+pub instantaneous_borrowed : IsInstantaneous trio (record { region = N; cut = 1 ∷ 1 ∷ 0 ∷ []; since = 0 }) borrowing_span
+instantaneous_borrowed = (drop 1 three_collects, moved_again ++ take 7 borrowed, refl, refl)
+
+pub instantaneous_beside : IsInstantaneous pair (record { region = N; cut = 0 ∷ 1 ∷ []; since = 0 }) span_beside_stages
+instantaneous_beside = ([], span_beside_stages.between, refl, refl)

@@ -237,6 +237,23 @@ borrowing_span =
 abbrev pub borrowed_words : List ℕ
 borrowed_words = (0 ∷ 0 ∷ 0 ∷ []) ++ (1 ∷ 0 ∷ 0 ∷ []) ++ (1 ∷ 1 ∷ 0 ∷ []) ++ (2 ∷ 1 ∷ 0 ∷ []) ++ 1 ∷ 1 ∷ 0 ∷ []
 
+-- Caller 1 has announced. Between the looks of its scan caller 0 stages words of its row and peeks a row that it knows; the scan
+-- goes on, and gives its cut.
+abbrev pub span_beside_stages : Span
+span_beside_stages =
+    record {
+      before = announcement 1 6 (0 ∷ 0 ∷ []);
+      first = by 0 (Look N 0 0 Begins_scan);
+      between =
+          by 0 (Look N 1 1 Begins_none)
+          ∷ by 0 (Peek N 1 0 0 6)
+          ∷ by 0 (Stage N 0 5)
+          ∷ by 0 (Look N 0 0 Begins_none)
+          ∷ by 0 (Stage N 1 0)
+          ∷ [];
+      last = by 0 (Look N 1 1 Begins_none);
+    }
+
 -- One caller alone.
 abbrev pub single : Shape
 single = record { callers = 1; cap = 1; program = outside }

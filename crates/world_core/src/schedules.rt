@@ -10,10 +10,10 @@ ghost use Rattle.world_core.specs.Scan.{wanted, looks, peeks};
 ghost use Rattle.world_core.specs.Local.{Announcing, Asking, Viewing, Publishing, Judging, IsIdle};
 ghost use Rattle.world_core.specs.Event.{Stage, Announce, Object, Look, Peek, Publish, Begins_view, may_happen};
 ghost use Rattle.world_core.specs.World.{IsRun, end_of, object_word};
-ghost use Rattle.world_core.specs.Snapshot.{GivesCut, IsInstantaneous};
+ghost use Rattle.world_core.specs.Snapshot.{GivesCut, IsInstantaneous, through_last};
 ghost use Rattle.world_core.specs.History.{history_of, call_of, Invoked, Returned, IsLinearizable};
 ghost use Rattle.world_core.specs.Calls.{calls_in, Has_seen, Is_announced};
-ghost use Rattle.world_core.specs.Schedules.{pair, by, local_at, local_after_all, phases_at, allows, refuses, allows_in, refuses_in, two_calls, view_span, scans_given_up, scan_for_nothing, reply_carried, published_in_a_scan, scanned_twice, scanned_late, trio, three_collects, moved_twice, borrowing, borrowing_span, borrowed_words, single, scan_alone, span_after_announcement, given_alone, scrap_pair, object_step, object_steps_made, tenfold, silent};
+ghost use Rattle.world_core.specs.Schedules.{pair, by, local_at, local_after_all, phases_at, allows, refuses, allows_in, refuses_in, two_calls, view_span, scans_given_up, scan_for_nothing, reply_carried, published_in_a_scan, scanned_twice, scanned_late, trio, three_collects, moved_twice, borrowing, borrowing_span, span_beside_stages, borrowed_words, single, scan_alone, span_after_announcement, given_alone, scrap_pair, object_step, object_steps_made, tenfold, silent};
 ghost use Rattle.world_core.specs.Histories.{numbering, one_after_another, side_by_side, reply_of_another, after_unanswered, without_unanswered};
 ghost use Rattle.world_core.specs.Refusals.{allowed_at_start, refused_at_start, scanned, allowed_as_scanned, refused_as_scanned, scanned_other, staged_three_of_N, asked, allowed_as_asked, refused_as_asked, viewing, allowed_as_viewing, refused_as_viewing, viewed, refused_as_viewed, ready, allowed_as_ready, refused_as_ready, staged_four, refused_as_staged_four, staged_five, looked, allowed_as_looked, refused_as_looked, reply_peeked, entry_peeked, refused_as_entry_peeked, looked_in_N, looked_in_M, cut_of_N, cut_of_M, view_peeked, announcement_peeked, embedded_peeked, looked_past, staged_early, narrow, asking, viewing_local};
 
@@ -210,6 +210,7 @@ pub fn scans_want()
 
 /// A scan of three callers finds that one has moved twice, and ends with the cut that its latest row
 /// embeds: 12 looks and 3 peeks. The cut was the counts of the region within the scan.
+#[tactic(auto, using(crate::proofs::Moments::instantaneous_borrowed))]
 pub fn a_cut_is_borrowed()
     ensures run { IsRun trio borrowing }
     ensures fourth { wanted 3 (take 9 borrowed_words) ≡ Wants_look 0 }
@@ -219,9 +220,20 @@ pub fn a_cut_is_borrowed()
     ensures twelve_looks { looks 3 borrowed_words ≡ 12 }
     ensures three_peeks { peeks 3 borrowed_words ≡ 3 }
     ensures gives { GivesCut trio 2 (record { region = N; cut = 1 ∷ 1 ∷ 0 ∷ []; since = 0 }) borrowing_span }
+    ensures instantaneous { IsInstantaneous trio (record { region = N; cut = 1 ∷ 1 ∷ 0 ∷ []; since = 0 }) borrowing_span }
     ensures cuts { (local_after_all trio borrowing 2).cuts ≡ record { region = N; cut = 1 ∷ 1 ∷ 0 ∷ []; since = 0 } ∷ [] }
     // In the phase announce it is the cut to embed.
     ensures to_embed { (local_after_all trio borrowing 2).to_embed ≡ Some (1 ∷ 1 ∷ 0 ∷ []) }
+{}
+
+/// A scan goes on beside its caller's stages and peeks, and gives its cut. Since words of the row were staged
+/// before it ended, the row doesn't embed that cut.
+#[tactic(auto, using(crate::proofs::Moments::instantaneous_beside))]
+pub fn a_scan_goes_on_beside_stages()
+    ensures gives { GivesCut pair 0 (record { region = N; cut = 0 ∷ 1 ∷ []; since = 0 }) span_beside_stages }
+    ensures instantaneous { IsInstantaneous pair (record { region = N; cut = 0 ∷ 1 ∷ []; since = 0 }) span_beside_stages }
+    ensures cuts { (local_after_all pair (through_last span_beside_stages) 0).cuts ≡ record { region = N; cut = 0 ∷ 1 ∷ []; since = 0 } ∷ [] }
+    ensures none_to_embed { (local_after_all pair (through_last span_beside_stages) 0).to_embed ≡ None }
 {}
 
 /// A caller alone scans with two looks.

@@ -1,20 +1,19 @@
 -- What a scan under way has known since it began, and what the cut that it gives therefore holds.
 use Rattle.std.proofs.Common.{◌≡◌, ◌⊎◌, ℕ, zero, suc, ◌+◌, ◌*◌, ◌<◌, ◌≤◌, Bool, true, false, not, ◌&&◌, ◌==◌, nat_lt, List, [], ◌∷◌, ◌++◌, length, take, Option, Some, None, slice_get, slice_index, refl, sym, ap, ◌∙◌, subst, arith, IsTrue, inl, inr, length-append}
-use Rattle.std.proofs.Math.Seq.{take-length, take-append_seam}
+use Rattle.std.proofs.Math.Seq.{take-append_seam}
 use Rattle.std.proofs.lemmas.List.{get_or_append_left, get_or_push, take-append-le}
+use Rattle.std.proofs.lemmas.Option.{same_Some}
 use Rattle.std.proofs.lemmas.Nat.{same_from_place}
 use Rattle.std.proofs.lemmas.Bool.{and_parts, eqb-true, ne_eqb, cases_eq, cases_lt, cond_both, eq-eqb}
 use Rattle.world_core.specs.declared.region.Region.{Region}
-use Rattle.world_core.specs.declared.region.Region.TheVariants.{N, M}
 use Rattle.world_core.specs.declared.course.Course.{Course}
 use Rattle.world_core.specs.declared.course.Course.TheVariants.{Collects, Borrows, Ends}
 use Rattle.world_core.specs.declared.want.Want.{Want}
 use Rattle.world_core.specs.declared.want.Want.TheVariants.{Look as Wants_look, Peek as Wants_peek, Done}
-use Rattle.world_core.specs.Layout.{places}
 use Rattle.world_core.specs.Shape.{Shape}
 use Rattle.world_core.specs.Local.{Scan, Given, Looked, Peeked, Local, own_count}
 use Rattle.world_core.specs.Scan.{rounds, open_round, course, wanted, wanted_by, is_look, has_ended, IsSteady, AreWanted}
-use Rattle.world_core.specs.Event.{Event, Stage, Announce, Object, Look, Peek, Publish, Opening, Begins_none, Begins_scan, Begins_view, may_happen, may_begin, is_loaded, words_after, local_after, opened, begun, fed, went_on, given_by, with_word, with_look, with_peek, served, purpose_of, Purpose, For_row, For_view, For_seen, For_nothing, is_same_region, is_look_wanted, is_peek_wanted, knows_row}
+use Rattle.world_core.specs.Event.{Event, Stage, Announce, Object, Look, Peek, Publish, Opening, Begins_none, Begins_scan, Begins_view, may_happen, may_begin, is_loaded, words_after, local_after, opened, begun, fed, went_on, given_by, with_word, with_look, with_peek, served, purpose_of, Purpose, For_row, For_view, For_seen, For_nothing, is_same_region, is_look_wanted, is_peek_wanted}
 use Rattle.world_core.specs.World.{World, Step, local_of, count_of, after, is_possible}
 use Rattle.world_core.specs.Agreement.{Agrees}
 use Rattle.world_core.specs.Snapshot.{gives_up, keeps_scan}
@@ -66,6 +65,7 @@ pub record Gave (s : Shape) (w : World) (i : ℕ) (cuts : List Given) (m : Local
   pub few : given.since ≤ length m.looked
   pub scan : Scan
   pub under : o ≡ Some scan
+  pub region : given.region ≡ scan.region
   pub word : ℕ
   pub done : wanted s.callers (scan.taken ++ word ∷ []) ≡ Done given.cut
   pub taking : Taking s i from given.region (scan.taken ++ word ∷ [])
@@ -173,7 +173,7 @@ served_looked l For_view cut = refl
 served_looked l For_seen cut = refl
 served_looked l For_nothing cut = refl
 
-served_scan : (l : Local) (p : Purpose) (cut : List ℕ) → (served l p cut).scan ≡ l.scan
+pub served_scan : (l : Local) (p : Purpose) (cut : List ℕ) → (served l p cut).scan ≡ l.scan
 served_scan l For_row cut = refl
 served_scan l For_view cut = refl
 served_scan l For_seen cut = refl
@@ -236,6 +236,7 @@ module _ (s : Shape) (w : World) (i : ℕ) (low : i < s.callers) (P : World → 
           few = subst (λ (xs : List Looked). scan.since ≤ length xs) (sym (served_looked ended p cut)) h.few;
           scan = scan;
           under = refl;
+          region = refl;
           word = x;
           done = done;
           taking = h.taking;
@@ -278,9 +279,11 @@ module _ (s : Shape) (w : World) (i : ℕ) (low : i < s.callers) (P : World → 
       went_on_outcome scan x from more (wanted s.callers (with_word scan x).taken) kind refl)
       (λ _. inl (refl, kept))
 
--- The scan that an event finds under way.
+-- The scan that an event finds under way, or begins.
 abbrev pub scan_at : Local → Event → Option Scan
 scan_at l (Look q j x o) = (opened l q o).scan
+scan_at l Announce = None
+scan_at l Publish = None
 scan_at l _ = l.scan
 
 pub quiet_scan : (l : Local) (e : Event) → gives_up e ≡ false → scan_at l e ≡ l.scan
@@ -292,6 +295,17 @@ quiet_scan l (Look q j x Begins_scan) h = absurd cc
 quiet_scan l (Look q j x (Begins_view reply)) h = absurd cc
 quiet_scan l (Peek q j k t x) h = refl
 quiet_scan l Publish h = absurd cc
+
+-- one that it begins has taken no word yet
+loud_scan : (l : Local) (e : Event) → gives_up e ≡ true → (scan : Scan) → scan_at l e ≡ Some scan → scan.taken ≡ []
+loud_scan l (Stage q t x) h scan is = absurd cc
+loud_scan l Announce h scan is = absurd cc
+loud_scan l (Object o) h scan is = absurd cc
+loud_scan l (Look q j x Begins_none) h scan is = absurd cc
+loud_scan l (Look q j x Begins_scan) h scan is = ap (λ (c : Scan). c.taken) (sym (same_Some (begun l q false) scan is))
+loud_scan l (Look q j x (Begins_view reply)) h scan is = ap (λ (c : Scan). c.taken) (sym (same_Some (begun l q true) scan is))
+loud_scan l (Peek q j k t x) h scan is = absurd cc
+loud_scan l Publish h scan is = absurd cc
 
 opened_cuts : (l : Local) (q : Region) (o : Opening) → (opened l q o).cuts ≡ l.cuts
 opened_cuts l q Begins_none = refl
@@ -407,6 +421,7 @@ begun_on s w step i P l (Some scan) sound may (from, kind, h) = (
 pub record StepGave (s : Shape) (w : World) (step : Step) (i : ℕ) (from : World) : Type 0 where
   pub under : Option Scan
   pub quiet : keeps_scan i step ≡ true → under ≡ (local_of w i).scan
+  pub loud : keeps_scan i step ≡ false → (scan : Scan) → under ≡ Some scan → scan.taken ≡ []
   pub gave : Gave s w i (local_of w i).cuts (local_of (after s w step) i) under from
   pub words : (after s w step).words ≡ w.words
 
@@ -415,7 +430,7 @@ AfterStep s w step i P =
     IsBegun s (after s w step) i P (local_of (after s w step) i) (local_of (after s w step) i).scan
     × (((local_of (after s w step) i).cuts ≡ (local_of w i).cuts) ⊎ ((from : World) × P from × StepGave s w step i from))
 
-keeps_of : (a g : Bool) → g ≡ false → not (a && g) ≡ true
+pub keeps_of : (a g : Bool) → g ≡ false → not (a && g) ≡ true
 keeps_of true g h = ap not h
 keeps_of false g h = refl
 
@@ -425,23 +440,29 @@ cond_self n = eq-eqb n n refl
 pub gives_of : (a g : Bool) → a ≡ true → g ≡ true → not (a && g) ≡ false
 gives_of a g h h' = ap (λ (b : Bool). not (b && g)) h ∙ ap not h'
 
+loud_of : (a g : Bool) → not (a && g) ≡ false → g ≡ true
+loud_of true true h = refl
+loud_of true false h = absurd cc
+loud_of false g h = absurd cc
+
 quiet_of : (a g : Bool) → a ≡ true → not (a && g) ≡ true → g ≡ false
 quiet_of a true h k = let never : not (true && true) ≡ true = sym (ap (λ (b : Bool). not (b && true)) h) ∙ k in absurd cc
 quiet_of a false h k = refl
 
-others_of : (a g : Bool) → a ≡ false → not (a && g) ≡ true
+pub others_of : (a g : Bool) → a ≡ false → not (a && g) ≡ true
 others_of a g h = ap (λ (b : Bool). not (b && g)) h
 
 module _ (s : Shape) (w : World) (step : Step) (P : World → Type 0) (sound : Sound s w) (may : IsTrue (is_possible s w step)) where
   abbrev v : World
   v = after s w step
 
-  gone_on : (i : ℕ) (o : Option Scan) → (keeps_scan i step ≡ true → o ≡ (local_of w i).scan) → ((g : Given) → (local_of v i).cuts ≡ (local_of w i).cuts ++ g ∷ [] → v.words ≡ w.words)
+  gone_on : (i : ℕ) (o : Option Scan) → (keeps_scan i step ≡ true → o ≡ (local_of w i).scan)
+      → (keeps_scan i step ≡ false → (scan : Scan) → o ≡ Some scan → scan.taken ≡ []) → ((g : Given) → (local_of v i).cuts ≡ (local_of w i).cuts ++ g ∷ [] → v.words ≡ w.words)
       → Outcome s w i P (local_of w i).cuts (local_of v i) o → AfterStep s w step i P
-  gone_on i o quiet still (inl (same, h)) = (begun_on s w step i P (local_of v i) (local_of v i).scan sound may h, inl same)
-  gone_on i o quiet still (inr (from, kind, g)) = (
+  gone_on i o quiet loud still (inl (same, h)) = (begun_on s w step i P (local_of v i) (local_of v i).scan sound may h, inl same)
+  gone_on i o quiet loud still (inr (from, kind, g)) = (
     subst (λ (c : Option Scan). IsBegun s v i P (local_of v i) c) (sym g.none) tt,
-    inr (from, kind, record { under = o; quiet = quiet; gave = g; words = still g.given g.cuts_are }),
+    inr (from, kind, record { under = o; quiet = quiet; loud = loud; gave = g; words = still g.given g.cuts_are }),
   )
 
   own_step : step.who < s.callers → (keeps_scan step.who step ≡ true → IsBegun s w step.who P (local_of w step.who) (local_of w step.who).scan)
@@ -453,6 +474,7 @@ module _ (s : Shape) (w : World) (step : Step) (P : World → Type 0) (sound : S
       let is : local_of v me ≡ local_after s.callers (local_of w me) step.event = own_local s w step sound.kept.locals_long low in
       gone_on me (scan_at (local_of w me) step.event)
       (λ keeps. quiet_scan (local_of w me) step.event (quiet_of (me == me) (gives_up step.event) here keeps))
+      (λ stops. loud_scan (local_of w me) step.event (loud_of (me == me) (gives_up step.event) stops))
       (λ g more. words_still s me (local_of w me) w.words step.event g (sym (ap (λ (l : Local). l.cuts) is) ∙ more))
       (subst (λ (l : Local). Outcome s w me P (local_of w me).cuts l (scan_at (local_of w me) step.event)) (sym is)
       (own_outcome s w sound me low P step.event p.allowed p.loaded

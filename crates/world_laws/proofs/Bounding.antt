@@ -1,20 +1,18 @@
 -- The bound of scans, over runs.
-use Rattle.std.proofs.Common.{◌≡◌, ℕ, ◌<◌, List, [], ◌∷◌, ◌++◌, Option, Some, None, refl, sym, ap, ◌∙◌, subst}
+use Rattle.std.proofs.Common.{◌≡◌, ℕ, ◌<◌, List, [], ◌∷◌, ◌++◌, Option, Some, None, sym, ap, ◌∙◌, subst}
 use Rattle.std.proofs.lemmas.Option.{same_Some}
 use Rattle.world_core.specs.declared.region.Region.{Region}
 use Rattle.world_core.specs.declared.want.Want.TheVariants.{Done}
 use Rattle.world_core.specs.Shape.{Shape}
 use Rattle.world_core.specs.Local.{Scan, Given, Local}
-use Rattle.world_core.specs.Scan.{wanted}
-use Rattle.world_core.specs.World.{World, start, local_of, IsRun, end_of}
-use Rattle.world_core.specs.Snapshot.{Span, up_to_last, GivesCut}
+use Rattle.world_core.specs.World.{World, start, local_of, end_of}
 use Rattle.world_core.specs.Calls.{local_at}
 use Rattle.world_core.proofs.Bounds.{scan_is_short}
-use Rattle.world_laws.specs.Bounds.{IsBounded, ScansAreBounded, ScansAreBoundedInRuns, IsEnded, EndedScansAreBounded}
+use Rattle.world_laws.specs.Bounds.{IsBounded, ScansAreBounded, ScansAreBoundedInRuns, EndedScansAreBounded}
 use Rattle.world_laws.proofs.Knowing.{start_sound}
 use Rattle.world_laws.proofs.Begun.{IsBegun, Taking}
 use Rattle.world_laws.proofs.Ordering.{Anywhere, AllPlaced, start_placed, steps_placed, together}
-use Rattle.world_laws.proofs.Spanning.{Spanned, spanned}
+use Rattle.world_laws.proofs.Spanning.{spanned}
 
 taking_bounded : (s : Shape) (i : ℕ) (from : World) (region : Region) (taken : List ℕ) → i < s.callers → Taking s i from region taken → IsBounded s.callers i taken
 taking_bounded s i from region taken low h =

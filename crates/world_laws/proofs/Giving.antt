@@ -1,5 +1,5 @@
 -- The cuts that a caller keeps are cuts that its scans gave.
-use Rattle.std.proofs.Common.{◌≡◌, ◌⊎◌, ℕ, ◌+◌, ◌<◌, ◌≤◌, Bool, true, false, ◌&&◌, nat_lt, List, [], ◌∷◌, ◌++◌, length, Option, Some, None, slice_get, slice_index, slice_index_or, refl, sym, ap, ◌∙◌, subst, arith, IsTrue, inl, inr}
+use Rattle.std.proofs.Common.{◌≡◌, ℕ, ◌<◌, Bool, true, false, ◌&&◌, nat_lt, List, [], ◌∷◌, ◌++◌, length, Option, Some, None, slice_index, slice_index_or, refl, sym, ap, ◌∙◌, subst, arith, IsTrue, inl, inr}
 use Rattle.std.specs.Option.{unwrap_or}
 use Rattle.std.proofs.lemmas.Bool.{and_parts, cases_eq, cond_both}
 use Rattle.list_laws.proofs.Places.{get_or-replicate_default, slice_get-push_old, slice_get-push_last}
@@ -10,7 +10,7 @@ use Rattle.world_core.specs.declared.want.Want.{Want}
 use Rattle.world_core.specs.declared.want.Want.TheVariants.{Look as Wants_look, Peek as Wants_peek, Done}
 use Rattle.world_core.specs.Layout.{embedded_place}
 use Rattle.world_core.specs.Shape.{Shape}
-use Rattle.world_core.specs.Local.{Phase, Announcing, Asking, Viewing, Publishing, Judging, Scan, Given, Looked, Peeked, Local, fresh, own_count, embedded_in}
+use Rattle.world_core.specs.Local.{Phase, Announcing, Asking, Viewing, Publishing, Judging, Scan, Given, Local, fresh, own_count, embedded_in}
 use Rattle.world_core.specs.Scan.{wanted}
 use Rattle.world_core.specs.Event.{Event, Stage, Announce, Object, Look, Peek, Publish, Opening, Begins_none, Begins_scan, Begins_view, may_happen, may_begin, local_after, opened, fed, went_on, given_by, with_word, with_look, with_peek, cut_to_embed, served, purpose_of, Purpose, For_row, For_view, For_seen, For_nothing, is_staging, is_unstaged, is_row_staged, is_entry_to_embed, staged_at, is_same_region, is_look_wanted, is_peek_wanted}
 use Rattle.world_core.specs.World.{World, Step, start, local_of, after, is_possible, after_all, are_possible}

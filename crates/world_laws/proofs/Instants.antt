@@ -13,7 +13,7 @@ use Rattle.world_core.specs.declared.want.Want.{Want}
 use Rattle.world_core.specs.declared.want.Want.TheVariants.{Look as Wants_look, Peek as Wants_peek, Done}
 use Rattle.world_core.specs.Layout.{Content, embedded_place, places}
 use Rattle.world_core.specs.Shape.{Shape}
-use Rattle.world_core.specs.Local.{Phase, Announcing, Asking, Viewing, Publishing, Judging, Scan, Given, Looked, Peeked, Local, fresh, embedded_in, word_of}
+use Rattle.world_core.specs.Local.{Phase, Announcing, Asking, Viewing, Publishing, Judging, Scan, Given, Looked, Peeked, Local, fresh, own_count, embedded_in, word_of}
 use Rattle.world_core.specs.Scan.{rounds, round, open_round, course, wanted}
 use Rattle.world_core.specs.Event.{Event, Stage, Announce, Object, Look, Peek, Publish, Opening, Begins_none, Begins_scan, Begins_view, may_happen, may_begin, is_loaded, local_after, opened, begun, fed, went_on, given_by, with_word, with_look, with_peek, cut_to_embed, served, purpose_of, Purpose, For_row, For_view, For_seen, For_nothing, is_staging, is_unstaged, is_row_staged, is_entry_to_embed, staged_at, is_same_region, is_look_wanted, is_peek_wanted, knows_row}
 use Rattle.world_core.specs.World.{World, Step, start, local_of, count_of, row_word, after, is_possible, after_all, are_possible, IsRun, end_of}
@@ -21,7 +21,7 @@ use Rattle.world_core.specs.Agreement.{Agrees, IsKeptIn}
 use Rattle.world_core.specs.Snapshot.{counts_in}
 use Rattle.world_core.specs.Calls.{local_at}
 use Rattle.world_core.proofs.Scans.{open_length, open_lacks}
-use Rattle.world_laws.specs.Cuts.{CutsWereCounts, EmbeddedCutsWereCounts, CutsAreComparable, GivenCutsAreComparable, ViewsAreComparable}
+use Rattle.world_laws.specs.Cuts.{CutsWereCounts, EmbeddedCutsWereCounts, WereOwnCounts, GivenCutsWereCounts, EmbeddedCutsWereOwnCounts, CutsAreComparable, GivenCutsAreComparable, ViewsAreComparable, SeenCutsAreComparable}
 use Rattle.world_laws.proofs.Each.{Each, each_map, each_push, each_at, each_get}
 use Rattle.world_laws.proofs.Endings.{same_region_is, look_is, peek_is, content_embedded, embedded_fits}
 use Rattle.world_laws.proofs.Low.{IsLowScan, AreLow, word_low, opened_low}
@@ -454,3 +454,49 @@ views_are_comparable s locals i j k m (w, (steps, run, at), are) low low' =
     subst (λ (ls : List Local). k < length (local_at ls i).views → m < length (local_at ls j).views
     → AreComparable (slice_index_or (local_at ls i).views k []) (slice_index_or (local_at ls j).views m []))
     (ap (λ (v : World). v.locals) at ∙ are) (views_comparable s steps i j k m run low low')
+
+seen_comparable : (s : Shape) (steps : List Step) (i j k m : ℕ) → IsRun s steps → i < s.callers → j < s.callers
+    → k < length (local_of (end_of s steps) i).seen → m < length (local_of (end_of s steps) j).seen
+    → AreComparable (slice_index_or (local_of (end_of s steps) i).seen k []) (slice_index_or (local_of (end_of s steps) j).seen m [])
+seen_comparable s steps i j k m run low low' below below' =
+    was_comparable s steps M (slice_index_or (local_of (end_of s steps) i).seen k []) (slice_index_or (local_of (end_of s steps) j).seen m []) run
+    (each_at (Was s steps M) (local_of (end_of s steps) i).seen k [] (run_was s steps run i low).seen below)
+    (each_at (Was s steps M) (local_of (end_of s steps) j).seen m [] (run_was s steps run j low').seen below')
+
+pub seen_cuts_are_comparable : SeenCutsAreComparable
+seen_cuts_are_comparable s locals i j k m (w, (steps, run, at), are) low low' =
+    subst (λ (ls : List Local). k < length (local_at ls i).seen → m < length (local_at ls j).seen
+    → AreComparable (slice_index_or (local_at ls i).seen k []) (slice_index_or (local_at ls j).seen m []))
+    (ap (λ (v : World). v.locals) at ∙ are) (seen_comparable s steps i j k m run low low')
+
+-- the counts at that moment, as own counts
+was_own : (s : Shape) (steps : List Step) (locals : List Local) (r : Region) (cut : List ℕ) → IsRun s steps → (end_of s steps).locals ≡ locals → Was s steps r cut
+    → WereOwnCounts s locals r cut
+was_own s steps locals r cut run ends was =
+    let front : IsRun s (was.early ++ was.later) = subst (λ (xs : List Step). IsRun s xs) was.parts run in
+    let on = goes_on s was.early was.later front in
+    record {
+      early = was.early;
+      later = was.later;
+      run = front;
+      ends = ap (λ (xs : List Step). (end_of s xs).locals) (sym was.parts) ∙ ends;
+      wide = was.wide;
+      counts = λ j fits. sym ((on.kept.agree j fits).counts r) ∙ was.same j fits;
+    }
+
+pub given_cuts_were_counts : GivenCutsWereCounts
+given_cuts_were_counts s locals i p given (w, (steps, run, at), are) low =
+    let ends : (end_of s steps).locals ≡ locals = ap (λ (v : World). v.locals) at ∙ are in
+    subst (λ (ls : List Local). slice_get (local_at ls i).cuts p ≡ Some given → WereOwnCounts s locals given.region given.cut) ends
+    (λ is. was_own s steps locals given.region given.cut run ends (run_cut s steps i p given run low is))
+
+pub embedded_cuts_were_own_counts : EmbeddedCutsWereOwnCounts
+embedded_cuts_were_own_counts s locals i k r (w, (steps, run, at), are) low =
+    let sound = steps_sound s (start s) steps (start_sound s) run in
+    let v : World = end_of s steps in
+    let ends : v.locals ≡ locals = ap (λ (u : World). u.locals) at ∙ are in
+    subst (λ (ls : List Local). k < own_count (local_at ls i) r → WereOwnCounts s locals r (slice_index_or (embedded_in (local_at ls i) r) k [])) ends
+    (λ below.
+    let short : k < length (embedded_in (local_of v i) r) = omega (arith, below, embedded_long s v sound.kept sound.low i low r) in
+    was_own s steps locals r (slice_index_or (embedded_in (local_of v i) r) k []) run ends
+    (each_at (Was s steps r) (embedded_in (local_of v i) r) k [] ((run_was s steps run i low).embedded r) short))

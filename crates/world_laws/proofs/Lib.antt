@@ -22,3 +22,4 @@ pub mod Spanning
 pub mod Ordering
 pub mod Bounding
 pub mod Giving
+pub mod Tracing

@@ -1,5 +1,5 @@
 -- The cuts of one caller, in the order in which its scans gave them.
-use Rattle.std.proofs.Common.{◌≡◌, ◌⊎◌, ℕ, zero, suc, ◌+◌, ◌<◌, ◌≤◌, Bool, true, ◌&&◌, List, [], ◌∷◌, ◌++◌, length, Option, Some, None, slice_get, slice_index, refl, sym, ap, ◌∙◌, subst, arith, IsTrue, inl, inr, length-append}
+use Rattle.std.proofs.Common.{◌≡◌, ◌⊎◌, ℕ, zero, suc, ◌+◌, ◌<◌, ◌≤◌, Bool, ◌&&◌, List, [], ◌∷◌, ◌++◌, length, Option, Some, None, slice_get, slice_index, refl, sym, ap, ◌∙◌, subst, arith, IsTrue, inl, inr, length-append}
 use Rattle.std.proofs.lemmas.List.{get_or_past}
 use Rattle.std.proofs.lemmas.Option.{slice_get_within}
 use Rattle.std.proofs.lemmas.Bool.{and_parts, cases_eq, cases_lt, cond_both}
@@ -12,15 +12,14 @@ use Rattle.world_core.specs.Shape.{Shape}
 use Rattle.world_core.specs.Local.{Scan, Given, Looked, Local, fresh}
 use Rattle.world_core.specs.Scan.{wanted}
 use Rattle.world_core.specs.Event.{Event, Stage, Announce, Object, Look, Peek, Publish, Opening, Begins_none, Begins_scan, Begins_view, local_after, opened, fed, went_on, given_by, with_word, with_look, with_peek, purpose_of, is_same_region, is_look_wanted, is_peek_wanted}
-use Rattle.world_core.specs.World.{World, Step, start, local_of, count_of, after, is_possible, after_all, are_possible, IsRun, end_of}
-use Rattle.world_core.specs.Snapshot.{keeps_scan}
+use Rattle.world_core.specs.World.{World, Step, start, local_of, count_of, after, is_possible, after_all, are_possible}
 use Rattle.world_core.specs.Calls.{AreTogether, local_at}
 use Rattle.world_laws.specs.Cuts.{CutsRise, CutsHoldLooked, CutsHaveSince}
 use Rattle.world_laws.proofs.Each.{each_get}
-use Rattle.world_laws.proofs.Low.{IsLowCut, IsLowGiven, IsLowLook}
-use Rattle.world_laws.proofs.Knowing.{Sound, sound_after, start_sound, steps_sound}
+use Rattle.world_laws.proofs.Low.{IsLowCut, IsLowGiven}
+use Rattle.world_laws.proofs.Knowing.{Sound, sound_after, start_sound}
 use Rattle.world_laws.proofs.Running.{possible, own_local, other_local}
-use Rattle.world_laws.proofs.Begun.{IsBegun, Gave, StepGave, AfterStep, step_outcome, served_looked}
+use Rattle.world_laws.proofs.Begun.{IsBegun, Gave, AfterStep, step_outcome, served_looked}
 
 -- A later cut of a region contains the earlier ones, and each count that was looked at before its scan began.
 pub record Ordered (l : Local) : Type 0 where
@@ -163,7 +162,7 @@ pub record Placed (s : Shape) (w : World) (i : ℕ) (l : Local) : Type 0 where
 abbrev pub AllPlaced : Shape → World → Type 0
 AllPlaced s w = (i : ℕ) → i < s.callers → Placed s w i (local_of w i)
 
-step_placed : (s : Shape) (w : World) (step : Step) → Sound s w → IsTrue (is_possible s w step) → AllPlaced s w → AllPlaced s (after s w step)
+pub step_placed : (s : Shape) (w : World) (step : Step) → Sound s w → IsTrue (is_possible s w step) → AllPlaced s w → AllPlaced s (after s w step)
 step_placed s w step sound may all i low =
     let after_it : AfterStep s w step i Anywhere = step_outcome s w step Anywhere sound may i low (λ _. (all i low).begun) (λ _. tt) in
     let l : Local = local_of w i in

@@ -1,5 +1,5 @@
 -- The cut of a scan, by when the scan began and when it ended.
-use Rattle.std.proofs.Common.{◌≡◌, ◌⊎◌, ℕ, ◌+◌, ◌<◌, ◌≤◌, Bool, true, false, not, ◌&&◌, ◌==◌, List, [], ◌∷◌, ◌++◌, length, Option, Some, None, slice_get, slice_index, refl, sym, ap, ◌∙◌, subst, arith, IsTrue, inl, inr}
+use Rattle.std.proofs.Common.{◌≡◌, ℕ, ◌<◌, ◌≤◌, Bool, true, false, ◌==◌, List, [], ◌∷◌, ◌++◌, length, Some, slice_get, slice_index, refl, sym, ap, ◌∙◌, subst, arith, IsTrue, inl, inr}
 use Rattle.std.specs.List.{list_all}
 use Rattle.std.proofs.lemmas.List.{append-nil, append_assoc, append_cancel_left}
 use Rattle.std.proofs.lemmas.List.FromFn.{fill_by_all}
@@ -8,10 +8,10 @@ use Rattle.list_laws.proofs.Places.{append_cases, slice_get-push_last}
 use Rattle.world_core.specs.declared.region.Region.{Region}
 use Rattle.world_core.specs.Layout.{count_index}
 use Rattle.world_core.specs.Shape.{Shape}
-use Rattle.world_core.specs.Local.{Scan, Given, Local}
+use Rattle.world_core.specs.Local.{Given, Local}
 use Rattle.world_core.specs.Event.{Event, Stage, Announce, Object, Look, Peek, Publish, words_after, is_same_region}
 use Rattle.world_core.specs.World.{World, Step, start, local_of, count_of, after, is_possible, after_all, are_possible, IsRun, end_of}
-use Rattle.world_core.specs.Snapshot.{counts_in, is_opening, is_first_look, begins_scan, gives_up, keeps_scan, Span, up_to_last, through_last, GivesCut, IsInstantaneous}
+use Rattle.world_core.specs.Snapshot.{counts_in, is_opening, is_first_look, gives_up, keeps_scan, Span, up_to_last, through_last, GivesCut, IsInstantaneous}
 use Rattle.world_laws.specs.Spans.{CutsAreInstantaneous, CutsHoldEarlier, CutsHoldNoLater, CutsHoldOwn, CutsTellSince}
 use Rattle.world_laws.proofs.Each.{each_get}
 use Rattle.world_laws.proofs.Low.{IsLowCut, IsLowGiven}

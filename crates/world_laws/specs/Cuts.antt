@@ -18,12 +18,31 @@ CutsWereCounts =
     (s : Shape) (steps : List Step) (i p : ℕ) (given : Given) → IsRun s steps → i < s.callers
     → slice_get (local_of (end_of s steps) i).cuts p ≡ Some given → WereCounts s steps given.region given.cut
 
--- So was the cut that a counted row embeds. Its own entry is the number of the row: so that moment was after the row before was
--- counted, and before this one was.
+-- So was the cut that a counted row embeds.
 abbrev pub EmbeddedCutsWereCounts : Type 0
 EmbeddedCutsWereCounts =
     (s : Shape) (steps : List Step) (i k : ℕ) (region : Region) → IsRun s steps → i < s.callers
     → k < own_count (local_of (end_of s steps) i) region → WereCounts s steps region (slice_index_or (embedded_in (local_of (end_of s steps) i) region) k [])
+
+-- At a moment of a run that ends in these locals the callers' own counts in a region were exactly this cut.
+pub record WereOwnCounts (s : Shape) (locals : List Local) (region : Region) (cut : List ℕ) : Type 0 where
+  pub early : List Step
+  pub later : List Step
+  pub run : IsRun s (early ++ later)
+  pub ends : (end_of s (early ++ later)).locals ≡ locals
+  pub wide : length cut ≡ s.callers
+  pub counts : (j : ℕ) → j < s.callers → own_count (local_of (end_of s early) j) region ≡ slice_index cut j
+
+-- The same of the locals of one reachable world: each cut that a scan gave, and each that a counted row embeds.
+abbrev pub GivenCutsWereCounts : Type 0
+GivenCutsWereCounts =
+    (s : Shape) (locals : List Local) (i p : ℕ) (given : Given) → AreTogether s locals → i < s.callers
+    → slice_get (local_at locals i).cuts p ≡ Some given → WereOwnCounts s locals given.region given.cut
+
+abbrev pub EmbeddedCutsWereOwnCounts : Type 0
+EmbeddedCutsWereOwnCounts =
+    (s : Shape) (locals : List Local) (i k : ℕ) (region : Region) → AreTogether s locals → i < s.callers
+    → k < own_count (local_at locals i) region → WereOwnCounts s locals region (slice_index_or (embedded_in (local_at locals i) region) k [])
 
 -- Any two cuts that scans of one region gave, to whichever callers, are comparable.
 abbrev pub CutsAreComparable : Type 0
@@ -32,7 +51,7 @@ CutsAreComparable =
     → slice_get (local_of (end_of s steps) i).cuts p ≡ Some a → slice_get (local_of (end_of s steps) j).cuts q ≡ Some b → a.region ≡ b.region
     → AreComparable a.cut b.cut
 
--- The same of the locals of one reachable world; and of any two views in them.
+-- The same of the locals of one reachable world; and of any two views in them, and any two seen cuts.
 abbrev pub GivenCutsAreComparable : Type 0
 GivenCutsAreComparable =
     (s : Shape) (locals : List Local) (i j p q : ℕ) (a b : Given) → AreTogether s locals → i < s.callers → j < s.callers
@@ -43,6 +62,12 @@ ViewsAreComparable =
     (s : Shape) (locals : List Local) (i j k m : ℕ) → AreTogether s locals → i < s.callers → j < s.callers
     → k < length (local_at locals i).views → m < length (local_at locals j).views
     → AreComparable (slice_index_or (local_at locals i).views k []) (slice_index_or (local_at locals j).views m [])
+
+abbrev pub SeenCutsAreComparable : Type 0
+SeenCutsAreComparable =
+    (s : Shape) (locals : List Local) (i j k m : ℕ) → AreTogether s locals → i < s.callers → j < s.callers
+    → k < length (local_at locals i).seen → m < length (local_at locals j).seen
+    → AreComparable (slice_index_or (local_at locals i).seen k []) (slice_index_or (local_at locals j).seen m [])
 
 -- A cut of a region contains each cut of that region that its caller was given before.
 abbrev pub CutsRise : Type 0

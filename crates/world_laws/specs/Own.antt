@@ -24,8 +24,7 @@ SeenCutsCountTheirCall =
     (s : Shape) (locals : List Local) (i k : ℕ) → AreTogether s locals → i < s.callers → k < length (local_at locals i).seen
     → IsCutOf locals M i (k + 1) (slice_index_or (local_at locals i).seen k [])
 
--- The cut that row k of a caller embeds in a region counts what is counted there, k rows of them its own: it was made after the row
--- before was counted, and before this one was.
+-- The cut that row k of a caller embeds in a region counts what is counted there, k rows of them its own.
 abbrev pub EmbeddedCutsCountTheirRow : Type 0
 EmbeddedCutsCountTheirRow =
     (s : Shape) (locals : List Local) (i k : ℕ) (region : Region) → AreTogether s locals → i < s.callers → k < own_count (local_at locals i) region

@@ -1,8 +1,8 @@
 -- What holds of the cut of a scan, by when the scan began and when it ended.
-use Rattle.std.specs.Prelude.{◌≡◌, ℕ, ◌<◌, ◌≤◌, length, slice_index}
+use Rattle.std.specs.Prelude.{◌≡◌, ℕ, ◌<◌, ◌≤◌, List, ◌++◌, length, Some, slice_get, slice_index}
 use Rattle.world_core.specs.Shape.{Shape}
 use Rattle.world_core.specs.Local.{Given}
-use Rattle.world_core.specs.World.{local_of, count_of, end_of}
+use Rattle.world_core.specs.World.{Step, local_of, count_of, IsRun, end_of}
 use Rattle.world_core.specs.Snapshot.{Span, through_last, GivesCut, IsInstantaneous}
 
 -- The cut of every scan of every run is instantaneous, borrowed cuts included (Afek and others 1993).
@@ -30,3 +30,16 @@ CutsHoldOwn =
 abbrev pub CutsTellSince : Type 0
 CutsTellSince =
     (s : Shape) (who : ℕ) (given : Given) (r : Span) → GivesCut s who given r → given.since ≡ length (local_of (end_of s r.before) who).looked
+
+-- A scan by a caller gave this cut in the run, in this span of it.
+pub record IsGivenBy (s : Shape) (steps : List Step) (who : ℕ) (given : Given) : Type 0 where
+  pub span : Span
+  pub later : List Step
+  pub parts : steps ≡ through_last span ++ later
+  pub gives : GivesCut s who given span
+
+-- Each cut that a caller has was given by a scan of its own: so what is said here of spans holds of each of them.
+abbrev pub CutsHaveSpans : Type 0
+CutsHaveSpans =
+    (s : Shape) (steps : List Step) (i p : ℕ) (given : Given) → IsRun s steps → i < s.callers
+    → slice_get (local_of (end_of s steps) i).cuts p ≡ Some given → IsGivenBy s steps i given
