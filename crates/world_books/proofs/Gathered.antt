@@ -1,23 +1,22 @@
 -- A gathered book is the book at its cut: each of its words is the word of its owner's call.
-use Rattle.std.proofs.Common.{◌≡◌, ◌↔◌, ℕ, suc, ◌+◌, ◌-◌, ◌/◌, ◌%◌, ◌^◌, ◌<◌, ◌≤◌, List, [], length, take, get_or, Some, slice_get, slice_index, slice_index_or, if◌then◌else◌, refl, sym, ap, ◌∙◌, subst, arith, inl, inr, length-take}
+use Rattle.std.proofs.Common.{◌≡◌, ◌↔◌, ℕ, suc, ◌+◌, ◌-◌, ◌<◌, List, [], length, take, get_or, Some, slice_get, slice_index, slice_index_or, if◌then◌else◌, sym, ap, ◌∙◌, arith, inl, inr, length-take}
 use Rattle.std.proofs.lemmas.Bool.{cases_lt, lt-ltb}
 use Rattle.std.proofs.lemmas.List.{ext_get_or, take_all}
-use Rattle.std.proofs.lemmas.Option.{slice_get_past, slice_get-get_or, slice_get_within}
+use Rattle.std.proofs.lemmas.Option.{slice_get_past, slice_get-get_or}
 use Rattle.list_laws.proofs.Fronts.{slice_get-take_within, same_from_places}
 use Rattle.book_base.specs.declared.call.Call.{Call}
 use Rattle.book_base.specs.declared.call.Record.{Record}
 use Rattle.book_base.specs.OperationWord.{low_of, high_of}
-use Rattle.book_base.specs.Cut.{Holds}
-use Rattle.book_base.specs.Book.{Page, page_of, calls_of, answers_of, operation_of, record_of, IsCall, IsAnswered}
-use Rattle.book_base.specs.BookAt.{IsHeldBySomeView, IsBookAt, book_at}
-use Rattle.book_base.proofs.PageLemmas.{page_past, caller_from_answer}
+use Rattle.book_base.specs.Book.{Page, page_of, operation_of, record_of, IsCall, IsAnswered}
+use Rattle.book_base.specs.BookAt.{IsHeldBySomeView, IsBookAt}
+use Rattle.book_base.proofs.PageLemmas.{page_past}
 use Rattle.book_base.proofs.ViewLemmas.{answer_stands}
 use Rattle.book_laws.proofs.BookAtLaws.{is_the_only_one}
 use Rattle.world_core.specs.declared.region.Region.TheVariants.{N, M}
-use Rattle.world_core.specs.Layout.{Content, Low, High, Reply, View_entry, Embedded_entry, content, entry_behind_reply}
+use Rattle.world_core.specs.Layout.{View_entry, Embedded_entry, content}
 use Rattle.world_core.specs.Shape.{Shape}
 use Rattle.world_core.specs.Local.{Local, word_of}
-use Rattle.world_core.specs.Calls.{AreTogether, IsPublished, IsGathered, HasPeeked, record_in, book_in, local_at}
+use Rattle.world_core.specs.Calls.{AreTogether, IsGathered, record_in, book_in, local_at}
 use Rattle.world_laws.proofs.Locals.{locals_have_phases, peeked_words_are_words}
 use Rattle.world_laws.proofs.OwnEntries.{views_count_their_call}
 use Rattle.world_books.specs.Gathering.{GatheredIsTheBookAt, GatheredStays}
@@ -29,22 +28,18 @@ same_operation : (a b : ℕ) → low_of a ≡ low_of b → high_of a ≡ high_of
 same_operation a b low high = omega arith
 
 -- the place of an entry of the view
-view_place : (n j : ℕ) → j < n → content n M (1 + j) ≡ View_entry j
+pub view_place : (n j : ℕ) → j < n → content n M (1 + j) ≡ View_entry j
 view_place n j low = let next : 1 + j ≡ suc j = omega arith in ap (content n M) next ∙ ap (λ b. if b then View_entry j else Embedded_entry M (j - n)) (lt-ltb j n low)
 
-same_record : (r q : Record) → r.reply ≡ q.reply → r.view ≡ q.view → r ≡ q
+pub same_record : (r q : Record) → r.reply ≡ q.reply → r.view ≡ q.view → r ≡ q
 same_record r q reply view =
     let made : ℕ → List ℕ → Record = λ x v. record { reply = x; view = v } in
     ap (λ (x : ℕ). made x r.view) reply ∙ ap (made q.reply) view
 
 module _ (s : Shape) (locals : List Local) (t : AreTogether s locals) (i : ℕ) (low : i < s.callers) (cut : List ℕ) (part : List Page)
-    (g : IsGathered s.callers (local_at locals i) cut part) (p : IsPublished locals cut) where
+    (g : IsGathered s.callers (local_at locals i) cut part) where
   long : length locals ≡ s.callers
   long = (locals_have_phases s locals t).0
-
-  -- a cut of what was published counts calls that have a view
-  viewed : (j k : ℕ) → j < s.callers → k < get_or cut j 0 → k < length (local_at locals j).views
-  viewed j k there below = omega (arith, p.within j (omega (arith, long)), (all_lengths s locals t j).published)
 
   reply_is : (call : Call) (r : Record) → record_of part call ≡ Some r → r.reply ≡ slice_index (local_at locals call.caller).replies call.number
   reply_is call r e = (peeked_words_are_words s locals i M call 0 r.reply t low (g.replies call r e)).2
@@ -55,12 +50,11 @@ module _ (s : Shape) (locals : List Local) (t : AreTogether s locals) (i : ℕ) 
       (peeked_words_are_words s locals i M call (1 + j) (slice_index r.view j) t low ((g.views call r e).1 j there)).2
       ∙ ap (word_of (local_at locals call.caller) call.number) (view_place s.callers j there)
 
-  -- who answered is one of the callers, and its call has a view
+  -- who answered is one of the callers, and its call is published, so it has a view
   answerer : (call : Call) (r : Record) → record_of part call ≡ Some r → (call.caller < s.callers) × (call.number < length (local_at locals call.caller).views)
   answerer call r e =
-      let number = slice_get_within (page_of part call.caller).records call.number r e in
-      let caller : call.caller < s.callers = omega (arith, caller_from_answer part call.caller call.number number, g.callers) in
-      (caller, viewed call.caller call.number caller (omega (arith, number, g.records call.caller caller)))
+      let row = (peeked_words_are_words s locals i M call 0 r.reply t low (g.replies call r e)).0 in
+      (row.0, omega (arith, row.2, (all_lengths s locals t call.caller).published))
 
   record_is : (call : Call) (r : Record) → record_of part call ≡ Some r → r ≡ record_in (local_at locals call.caller) call.number
   record_is call r e =
@@ -130,8 +124,8 @@ module _ (s : Shape) (locals : List Local) (t : AreTogether s locals) (i : ℕ) 
       }
 
 pub gathered_is_the_book_at : GatheredIsTheBookAt
-gathered_is_the_book_at s locals i cut book t low g p =
-    is_the_only_one (book_in locals) cut book (books_are_valid s locals t) (gathered_at s locals t i low cut book g p)
+gathered_is_the_book_at s locals i cut book t low g =
+    is_the_only_one (book_in locals) cut book (books_are_valid s locals t) (gathered_at s locals t i low cut book g)
 
 pub gathered_stays : GatheredStays
 gathered_stays n l m cut book more g =

@@ -4,3 +4,8 @@ pub mod Gathered
 pub mod LegalOrders
 pub mod Recording
 pub mod NoFalseErrors
+pub mod Judging
+pub mod Worked
+pub mod WorkedGathering
+pub mod WorkedLate
+pub mod RowBooks

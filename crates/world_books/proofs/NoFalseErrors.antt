@@ -1,24 +1,22 @@
 -- No false error: the object history of a run is one of the book of its locals, so a linearization is a legal order.
-use Rattle.std.proofs.Common.{◌≡◌, ℕ, zero, suc, ◌+◌, ◌<◌, ◌≤◌, List, [], ◌∷◌, ◌++◌, length, map, Some, slice_get, slice_index, slice_index_or, refl, sym, ap, ◌∙◌, subst, arith, IsTrue, inl, inr}
+use Rattle.std.proofs.Common.{◌≡◌, ℕ, zero, suc, ◌+◌, ◌<◌, ◌≤◌, List, [], ◌∷◌, ◌++◌, length, map, Some, slice_get, slice_index, slice_index_or, refl, sym, ap, ◌∙◌, subst, arith, inl, inr}
 use Rattle.std.specs.Prelude.{Contains, IsSomeAnd}
-use Rattle.std.proofs.lemmas.Bool.{and_parts, cases_lt}
-use Rattle.std.proofs.lemmas.Option.{same_Some, slice_get_within, slice_get-get_or, get_or_from_slice_get}
+use Rattle.std.proofs.lemmas.Bool.{and_parts}
+use Rattle.std.proofs.lemmas.Option.{same_Some, slice_get_within, get_or_from_slice_get}
 use Rattle.list_laws.proofs.Options.{some_from_is_some_and}
 use Rattle.list_laws.proofs.Places.{get_or-replicate_default}
 use Rattle.book_base.specs.declared.call.Call.{Call}
 use Rattle.book_base.specs.declared.call.Record.{Record}
-use Rattle.book_base.specs.Book.{IsCall, answered, operation_of, record_of, Precedes}
-use Rattle.book_base.specs.BookAt.{book_at}
-use Rattle.book_base.specs.Order.{HasLegalOrder}
+use Rattle.book_base.specs.Book.{IsCall, answered, operation_of, record_of}
 use Rattle.book_base.proofs.PageLemmas.{caller_from_call}
 use Rattle.book_laws.proofs.BookAtLaws.{has_one_where_the_book_has, smaller_has_one}
 use Rattle.world_core.specs.declared.region.Region.TheVariants.{N}
 use Rattle.world_core.specs.Shape.{Shape}
-use Rattle.world_core.specs.Local.{Local, Asking, Phase, fresh}
-use Rattle.world_core.specs.Agreement.{HasPhase, unpublished_calls, unpublished_replies, unpublished_views}
-use Rattle.world_core.specs.World.{World, Step, start, local_of, count_of, after, is_possible, after_all, are_possible, IsRun, end_of}
-use Rattle.world_core.specs.History.{Happening, Invoked, Returned, ReturnsBefore, happenings, history_from, history_of, call_of}
-use Rattle.world_core.specs.Calls.{AreTogether, book_in, local_at}
+use Rattle.world_core.specs.Local.{Local, Phase, fresh}
+use Rattle.world_core.specs.Agreement.{unpublished_calls, unpublished_replies, unpublished_views}
+use Rattle.world_core.specs.World.{World, Step, start, local_of, count_of, after, is_possible, are_possible, IsRun, end_of}
+use Rattle.world_core.specs.History.{Happening, Invoked, Returned, ReturnsBefore, history_from, history_of, call_of}
+use Rattle.world_core.specs.Calls.{AreTogether, book_in}
 use Rattle.world_laws.specs.Views.{return_of}
 use Rattle.world_laws.proofs.Running.{Kept, start_kept, step_kept, steps_kept, goes_on}
 use Rattle.world_laws.proofs.Viewing.{views_hold_earlier}
@@ -26,7 +24,7 @@ use Rattle.world_books.specs.Linearizing.{IsHistoryOf, RunsHaveTheirHistories, L
 use Rattle.world_books.proofs.Pages.{calls_in_book, operation_in_book, from_record}
 use Rattle.world_books.proofs.Validity.{all_lengths, book_long, books_are_valid, published_cuts_are_within, viewer}
 use Rattle.world_books.proofs.LegalOrders.{stands, contained, linearizations_are_legal_orders}
-use Rattle.world_books.proofs.Recording.{steps_carry, invoked_is_announced, invoked_since, IsInvokedIn, ReturnStep, returned_since, history_from-append, reply_stands}
+use Rattle.world_books.proofs.Recording.{steps_carry, invoked_is_announced, invoked_since, ReturnStep, returned_since, history_from-append, reply_stands}
 
 -- what stands behind a list
 slice_get-append_add : {X : Type 0} (xs ys : List X) (k : ℕ) → slice_get (xs ++ ys) (length xs + k) ≡ slice_get ys k

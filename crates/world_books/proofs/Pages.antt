@@ -1,8 +1,7 @@
 -- The pages of a book of locals, by what their locals have.
-use Rattle.std.proofs.Common.{◌≡◌, ℕ, zero, suc, ◌+◌, ◌-◌, ◌<◌, ◌≤◌, true, false, nat_lt, List, [], ◌∷◌, ◌++◌, length, map, cond, Some, slice_get, slice_index, slice_index_or, refl, sym, ap, ◌∙◌, subst, arith, inl, inr}
+use Rattle.std.proofs.Common.{◌≡◌, ℕ, zero, suc, ◌+◌, ◌-◌, ◌<◌, ◌≤◌, nat_lt, List, [], ◌∷◌, ◌++◌, length, map, cond, Some, slice_get, slice_index, slice_index_or, refl, sym, ap, ◌∙◌, arith, inl, inr}
 use Rattle.std.specs.List.{range_with_len, flat_map}
 use Rattle.std.proofs.lemmas.Bool.{cases_lt, lt-ltb, le-ltb}
-use Rattle.std.proofs.lemmas.List.{length-map}
 use Rattle.std.proofs.lemmas.List.Folds.{flat_map-map}
 use Rattle.std.proofs.lemmas.List.FromFn.{length-map-range_with_len, get_or-map-range_with_len}
 use Rattle.std.proofs.lemmas.Option.{slice_get_past, slice_get-get_or, slice_get_within, same_Some}
@@ -11,9 +10,9 @@ use Rattle.list_laws.proofs.Fronts.{same_from_places}
 use Rattle.book_base.specs.declared.call.Call.{Call}
 use Rattle.book_base.specs.declared.call.Record.{Record}
 use Rattle.book_base.specs.Book.{Page, page_of, calls_of, answers_of, operation_of, record_of}
-use Rattle.world_core.specs.Local.{Phase, Announcing, Asking, Viewing, Publishing, Judging, Local, fresh}
+use Rattle.world_core.specs.Local.{Phase, Announcing, Asking, Viewing, Publishing, Judging, Local}
 use Rattle.world_core.specs.Agreement.{HasPhase, unpublished_calls, unpublished_replies, unpublished_views}
-use Rattle.world_core.specs.Calls.{Made, Reached, Is_announced, Has_record, Has_seen, record_in, reached_in, call_in, calls_in, records_of, page_with, book_in, local_at}
+use Rattle.world_core.specs.Calls.{Made, Is_announced, Has_record, Has_seen, record_in, reached_in, call_in, calls_in, records_of, page_with, book_in, local_at}
 
 -- what is made for a number below another stands at that number
 pub slice_get-made : {X : Type 0} (f : ℕ → X) (n k : ℕ) → k < n → slice_get (map f (range_with_len 0 n)) k ≡ Some (f k)

@@ -1,20 +1,19 @@
 -- What the object history of a run has of the locals that the run leads to.
-use Rattle.std.proofs.Common.{◌≡◌, ◌≢◌, ◌⊎◌, ℕ, zero, suc, ◌+◌, ◌<◌, ◌≤◌, Bool, true, false, ◌&&◌, ◌==◌, nat_lt, List, [], ◌∷◌, ◌++◌, length, Option, Some, None, slice_get, slice_index_or, refl, sym, ap, ◌∙◌, subst, arith, IsTrue, inl, inr, length-append, append_assoc}
+use Rattle.std.proofs.Common.{◌≡◌, ℕ, zero, suc, ◌<◌, ◌≤◌, Bool, true, false, ◌&&◌, ◌==◌, nat_lt, List, [], ◌∷◌, ◌++◌, length, Option, Some, None, slice_get, refl, sym, ap, ◌∙◌, subst, arith, IsTrue, inl, inr, length-append, append_assoc}
 use Rattle.std.specs.Prelude.{Contains}
 use Rattle.std.proofs.lemmas.Bool.{and_parts, eqb-true, cases_eq, cases_lt, cond_both}
 use Rattle.std.proofs.lemmas.List.Elements.{Contains-append_left, Contains-append_right, Contains-append_cases}
-use Rattle.std.proofs.lemmas.Option.{same_Some, slice_get_within}
-use Rattle.list_laws.proofs.Places.{get_or-replicate_default, slice_get-push_old, slice_get-push_last}
+use Rattle.list_laws.proofs.Places.{slice_get-push_old, slice_get-push_last}
 use Rattle.book_base.specs.declared.call.Call.{Call}
 use Rattle.world_core.specs.declared.region.Region.{Region}
 use Rattle.world_core.specs.declared.region.Region.TheVariants.{N, M}
 use Rattle.world_core.specs.declared.want.Want.{Want}
 use Rattle.world_core.specs.declared.want.Want.TheVariants.{Look as Wants_look, Peek as Wants_peek, Done}
 use Rattle.world_core.specs.Shape.{Shape}
-use Rattle.world_core.specs.Local.{Phase, Announcing, Asking, Viewing, Publishing, Judging, Local, Scan, Looked, fresh}
+use Rattle.world_core.specs.Local.{Phase, Announcing, Asking, Viewing, Publishing, Judging, Local, Scan}
 use Rattle.world_core.specs.Scan.{wanted}
-use Rattle.world_core.specs.Event.{Event, Stage, Announce, Object, Look, Peek, Publish, Opening, Begins_none, Begins_scan, Begins_view, may_happen, may_begin, local_after, opened, fed, went_on, with_word, with_look, with_peek, given_by, served, purpose_of, Purpose, For_row, For_view, For_seen, For_nothing, is_asking, is_word, is_same_region, is_look_wanted, is_peek_wanted, staged_operation}
-use Rattle.world_core.specs.World.{World, Step, start, local_of, after, is_possible, after_all, are_possible}
+use Rattle.world_core.specs.Event.{Event, Stage, Announce, Object, Look, Peek, Publish, Opening, Begins_none, Begins_scan, Begins_view, may_happen, may_begin, local_after, opened, fed, went_on, with_word, with_look, with_peek, given_by, served, purpose_of, Purpose, For_row, For_view, For_seen, For_nothing, is_asking, is_same_region, is_look_wanted, is_peek_wanted, staged_operation}
+use Rattle.world_core.specs.World.{World, Step, local_of, after, is_possible, after_all, are_possible}
 use Rattle.world_core.specs.History.{Happening, Invoked, Returned, happenings, history_from, call_of}
 use Rattle.world_laws.specs.Views.{return_of}
 use Rattle.world_laws.proofs.Running.{Kept, step_kept, possible, own_local, other_local}

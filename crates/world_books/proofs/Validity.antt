@@ -1,19 +1,18 @@
 -- The book of locals that are together is valid, and so is the book at each cut.
-use Rattle.std.proofs.Common.{◌≡◌, ℕ, ◌+◌, ◌<◌, ◌≤◌, List, [], length, map, Some, slice_index, slice_index_or, refl, sym, ap, ◌∙◌, subst, arith, inl, inr, get_or}
+use Rattle.std.proofs.Common.{◌≡◌, ℕ, ◌+◌, ◌<◌, ◌≤◌, List, [], length, map, Some, slice_index, slice_index_or, refl, sym, ap, ◌∙◌, subst, arith, inl, inr}
 use Rattle.std.proofs.lemmas.Bool.{cases_lt}
 use Rattle.std.proofs.lemmas.List.{length-map, get_or_past}
 use Rattle.book_base.specs.declared.call.Call.{Call}
 use Rattle.book_base.specs.declared.call.Record.{Record}
-use Rattle.book_base.specs.Cut.{AreComparable, IsWithin}
-use Rattle.book_base.specs.Book.{record_of, answered, IsValid}
+use Rattle.book_base.specs.Cut.{AreComparable}
+use Rattle.book_base.specs.Book.{record_of, IsValid}
 use Rattle.book_base.proofs.GrowthLemmas.{within_announced}
 use Rattle.book_base.proofs.ViewLemmas.{answered_at}
 use Rattle.book_laws.proofs.BookAtLaws.{is_the_book_at, stays_valid, record_counts_are_the_cut}
 use Rattle.world_core.specs.declared.region.Region.TheVariants.{N}
 use Rattle.world_core.specs.Shape.{Shape}
 use Rattle.world_core.specs.Local.{Local, fresh}
-use Rattle.world_core.specs.Agreement.{HasPhase}
-use Rattle.world_core.specs.Calls.{AreTogether, IsPublished, calls_in, page_with, book_in, local_at}
+use Rattle.world_core.specs.Calls.{AreTogether, calls_in, page_with, book_in, local_at}
 use Rattle.world_laws.specs.Own.{IsCutOf}
 use Rattle.world_laws.proofs.Locals.{locals_have_phases}
 use Rattle.world_laws.proofs.OwnEntries.{views_count_their_call}

@@ -1,3 +1,6 @@
 pub mod Books
 pub mod Gathering
 pub mod Linearizing
+pub mod Verdicts
+pub mod Cases
+pub mod Rows

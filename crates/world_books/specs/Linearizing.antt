@@ -7,7 +7,7 @@ use Rattle.book_base.specs.Book.{Page, IsCall, operation_of, record_of, Precedes
 use Rattle.book_base.specs.BookAt.{book_at}
 use Rattle.book_base.specs.Order.{IsLegalOrder, HasLegalOrder}
 use Rattle.world_core.specs.Shape.{Shape}
-use Rattle.world_core.specs.World.{World, Step, IsRun, end_of}
+use Rattle.world_core.specs.World.{Step, IsRun, end_of}
 use Rattle.world_core.specs.History.{Happening, Invoked, Returned, Done, ReturnsBefore, IsLinearization, IsLinearizable, history_of}
 use Rattle.world_core.specs.Calls.{IsPublished, book_in}
 

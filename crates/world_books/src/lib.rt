@@ -2,5 +2,8 @@
 #![tactic(auto)]
 
 pub mod books;
+pub mod cases;
 pub mod gathering;
 pub mod linearizing;
+pub mod rows;
+pub mod verdicts;

@@ -1,0 +1,16 @@
+//! The book that stands in the rows of the table.
+
+ghost use Rattle.world_books.specs.Rows.{RowsAreAValidBook, BooksAtCutsAreInTheRows, BooksAtGivenCutsAreInTheRows};
+
+/// The counted rows of every reachable world are a valid book: the callers' calls, and of their records
+/// those that were published.
+pub fn rows_are_a_valid_book()
+    ensures { RowsAreAValidBook }
+{}
+
+/// The book of the rows at a cut of what was published, so at each cut that a scan of the region of
+/// answers gave, is a valid book, and is the book at that cut of all callers' calls.
+pub fn books_at_cuts_are_in_the_rows()
+    ensures published { BooksAtCutsAreInTheRows }
+    ensures given { BooksAtGivenCutsAreInTheRows }
+{}
