@@ -1,6 +1,5 @@
 use super::*;
 use book_base::{Call, ReadFault, TextFault, What};
-use std::alloc::{AllocError, Global};
 use std::test::Fail;
 
 const TWO_CALLERS: &[u8] =
@@ -325,40 +324,5 @@ fn limits_are_taken(rt: HostRuntime) -> Result<(), Fail> {
         b"book 1\nobject queue\ncallers 8\ncalls 0 0 0 0 0 0 0 0\nend\n",
     )?;
     assert_eq!(rt; book.callers(), 8);
-    Ok(())
-}
-
-// A text of one caller with so many unanswered calls.
-fn unanswered(alloc: Global, version: u64, calls: u64) -> Result<String, AllocError> {
-    let mut text = format!(in alloc; "book {version}\nobject queue\ncallers 1\ncalls {calls}\n")?;
-    for k in 0..calls {
-        let line = format!(in alloc; "0 {k} deq\n")?;
-        text.push_str(line.as_str())?;
-    }
-    text.push_str("end\n")?;
-    Ok(text)
-}
-
-// The greatest numbers of calls, and one more.
-#[test]
-fn the_most_calls_are_taken(rt: HostRuntime) -> Result<(), Fail> {
-    let fault = ReadFault::Text(TextFault {
-        line: 4,
-        what: What::Calls,
-    });
-    let first = read_book1(rt.alloc(), unanswered(rt.alloc(), 1, 64)?.as_bytes())?.1;
-    assert_eq!(rt; (first.calls(0), first.answers(0)), (64, 0));
-    let refused = unanswered(rt.alloc(), 1, 65)?;
-    assert_eq!(rt;
-        read_book1(rt.alloc(), refused.as_bytes()).err(),
-        Some(fault)
-    );
-    let second = read_book(rt.alloc(), unanswered(rt.alloc(), 2, 256)?.as_bytes())?.1;
-    assert_eq!(rt; (second.calls(0), second.answers(0)), (256, 0));
-    let refused = unanswered(rt.alloc(), 2, 257)?;
-    assert_eq!(rt;
-        read_book(rt.alloc(), refused.as_bytes()).err(),
-        Some(fault)
-    );
     Ok(())
 }
