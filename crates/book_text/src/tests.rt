@@ -35,7 +35,7 @@ fn a_book_of_version_1_is_read(rt: HostRuntime) -> Result<(), Fail> {
         rt.alloc(),
         b"book 1\nobject stack\ncallers 2\ncalls 1 1\n0 0 push 5 done view 1 0\n1 0 pop =5 view 1 1\nend\n",
     )?;
-    assert_eq!(rt; kind.name(), "stack");
+    assert_eq!(rt; (kind.name(), book.callers()), ("stack", 2));
     assert_eq!(rt; (book.calls(0), book.answers(0)), (1, 1));
     assert_eq!(rt; (book.calls(1), book.answers(1)), (1, 1));
     Ok(())
@@ -44,7 +44,7 @@ fn a_book_of_version_1_is_read(rt: HostRuntime) -> Result<(), Fail> {
 // Each prefix of a book's text ends in a line that isn't whole, but for the whole text.
 #[test]
 fn every_prefix_is_cut(rt: HostRuntime) {
-    let mut line = 1;
+    let mut line: u64 = 1;
     for k in 0..TWO_CALLERS.len() {
         let fault = ReadFault::Text(TextFault {
             line,
@@ -52,7 +52,7 @@ fn every_prefix_is_cut(rt: HostRuntime) {
         });
         assert_eq!(rt; read_book(rt.alloc(), &TWO_CALLERS[..k]).err(), Some(fault));
         if TWO_CALLERS[k] == b'\n' {
-            line += 1;
+            line = line.saturating_add(1);
         }
     }
 }
