@@ -1,3 +1,4 @@
+use crate::cuts::try_cuts;
 use anyhow::{Result, anyhow};
 use selfcheck::{MemorySink, MemorySource, Sink, Source, SteadySource, read_all};
 use std::alloc::Global;
@@ -46,6 +47,21 @@ impl Case {
             left: None,
             status: 0,
         })
+    }
+
+    /// Runs the case, and where a book is to be called legal, tries it at each of its smaller cuts too.
+    pub fn run_with_cuts<R: AllocGlobal + Threads + Sync>(&self, rt: &R) -> Result<Outcome> {
+        let outcome = self.run(rt)?;
+        if outcome.passed && !self.fronts && self.wanted.as_slice() == b"legal\n".as_slice() {
+            if let Err(fault) = try_cuts(rt.alloc(), &self.input) {
+                let report = format!(in rt.alloc(); "{}: {fault}", self.name)?;
+                return Ok(Outcome {
+                    passed: false,
+                    report,
+                });
+            }
+        }
+        Ok(outcome)
     }
 
     /// Runs the top call on the case: on its input, or on each front of it that isn't whole.

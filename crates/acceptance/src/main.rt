@@ -22,11 +22,14 @@
 //! | `left N` | how many bytes the source is to have left |
 //! | `status N` | the wanted status |
 //!
+//! A book that `verify` is to call legal is also tried at each of its smaller cuts, where it must be legal too.
+//!
 //! Empty lines and lines that begin with `#` are passed over. A line is printed for each case that fails, with what
 //! was answered in place of what was wanted, and `N passed, M failed` last.
 #![tactic(auto)]
 
 mod case;
+mod cuts;
 mod table;
 
 use anyhow::Result;
@@ -56,7 +59,7 @@ fn try_case<R: Print + AllocGlobal + Threads + Sync>(
     case: Case,
     tally: &mut Tally,
 ) -> Result<()> {
-    let outcome = case.run(rt)?;
+    let outcome = case.run_with_cuts(rt)?;
     if !outcome.passed {
         println!(rt; "{}", outcome.report)?;
     }

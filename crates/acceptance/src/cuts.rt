@@ -1,0 +1,73 @@
+//! The books at the smaller cuts of a legal book: each of them is legal too, since an error is final.
+ghost use Rattle.std.specs.Prelude.{◌≡◌, ℕ, length, IsTrue};
+ghost use Rattle.book_base.specs.Cut.{IsWithin};
+ghost use Rattle.book_base.specs.Book.{answered};
+
+use anyhow::{Result, anyhow};
+use book_base::{Book, Cut};
+use book_text::read_book;
+use frontier_check::{Verdict, check};
+use seq_objects::Kind;
+use std::alloc::Global;
+
+/// The greatest number of cuts of a book that are tried.
+const MOST: u64 = 20_000;
+
+/// The cuts within the record counts of the book with this text, as many as were tried; a cut at which
+/// the book has no legal order is an error.
+pub fn try_cuts(alloc: Global, text: &[u8]) -> Result<u64> {
+    let (kind, book) = read_book(alloc, text).map_err(|_| anyhow!("the book can't be read"))?;
+    let mut cut = Cut::zero(book.callers());
+    for tried in 0..MOST {
+        if !is_legal_at(alloc, kind, &book, &cut)? {
+            return Err(anyhow!("no legal order at the cut number {tried}"));
+        }
+        if !step(&book, &mut cut) {
+            return Ok(tried + 1);
+        }
+    }
+    Ok(MOST)
+}
+
+// Whether the book at a cut has a legal order. A cut that isn't within the record counts has no book.
+fn is_legal_at(alloc: Global, kind: Kind, book: &Book, cut: &Cut) -> Result<bool> {
+    if cut.n() != book.callers() || !is_within_records(book, cut) {
+        return Err(anyhow!("the cut is outside of the records"));
+    }
+    let part = book
+        .at(alloc, cut)
+        .map_err(|_| anyhow!("no memory for a book at a cut"))?;
+    match check(alloc, &kind, &part).map_err(|_| anyhow!("no memory for a check"))? {
+        Verdict::Legal(_) => Ok(true),
+        Verdict::Illegal => Ok(false),
+    }
+}
+
+// Whether a cut is within the record counts of a book.
+fn is_within_records(book: &Book, cut: &Cut) -> bool
+    requires { length cut.now ≡ length book.now }
+    ensures { IsTrue result → IsWithin cut.now (answered book.now) }
+{
+    for i in 0..book.callers() {
+        if cut.get(i) > book.answers(i) {
+            return false;
+        }
+    }
+    true
+}
+
+// Goes on to the next cut within the record counts, the count of the first caller rising first; false behind the last.
+fn step(book: &Book, cut: &mut Cut) -> bool {
+    for i in 0..book.callers() {
+        if i >= cut.n() {
+            return false;
+        }
+        let count = cut.get(i);
+        if count < book.answers(i) {
+            cut.set(i, count + 1);
+            return true;
+        }
+        cut.set(i, 0);
+    }
+    false
+}
