@@ -1,0 +1,108 @@
+-- Whose a caller and a bench are, the locals that are with them, and how their callers stand.
+use Rattle.std.specs.Prelude.{◌≡◌, ℕ, ◌<◌, List, Option, Some, None, map, length, slice_index_or, IsTrue}
+use Rattle.world_core.specs.declared.region.Region.{Region}
+use Rattle.world_core.specs.Shape.{Meaning, Shape}
+use Rattle.world_core.specs.Local.{Local}
+use Rattle.world_core.specs.Calls.{IsLocalOf}
+use Rattle.row_table.specs.Seats.{has, the, Together}
+use Rattle.row_table.specs.Shapes.{shape_for}
+use Rattle.row_table.specs.Stances.{opening_by}
+use Rattle.row_table.specs.Actions.{opening_in}
+use Rattle.world_core.specs.Event as event
+use Rattle.row_table.specs.declared.stance.Stance.{Stance}
+use Rattle.row_table.specs.declared.plays.Key.{Key}
+use Rattle.row_table.specs.declared.caller.CallerSeat.{CallerSeat}
+use Rattle.row_table.specs.declared.caller.Caller.{Caller}
+use Rattle.row_table.specs.declared.bench.Kept.{Kept}
+use Rattle.row_table.specs.declared.bench.Bench.{Bench}
+use Rattle.row_table.specs.declared.rows.Rows.{Rows}
+
+-- The local that is with the seat of a caller.
+abbrev pub seated : CallerSeat → Local
+seated seat = the (has seat.seat.me.0 seat.who)
+
+-- How a caller stands that is on a bench.
+abbrev pub kept_stance : Option Kept → Option Stance
+kept_stance None = None
+kept_stance (Some kept) = Some kept.stance
+
+module _ {P : Type 0} where
+  -- What the table of some rows was told, and the shape of its world.
+  abbrev pub key_of : Rows P → Key P
+  key_of r = record { program = r.program; callers = r.callers; cap = r.cap; objects = r.objects }
+
+  abbrev pub shape_of : (P → ℕ → ℕ → Meaning) → Rows P → Shape
+  shape_of meaning r = shape_for meaning (key_of r)
+
+  -- The number of a caller, its local, and how it stands.
+  abbrev pub who_of : Caller P → ℕ
+  who_of c = c.seat.who
+
+  abbrev pub local_with : Caller P → Local
+  local_with c = seated c.seat
+
+  abbrev pub stance_of : Caller P → Stance
+  stance_of c = c.stance
+
+  -- What the next look of a caller begins.
+  abbrev pub opening_of : Caller P → event.Opening
+  opening_of c = opening_in (opening_by c.stance)
+
+  -- The locals that are on a bench, by caller, and how its callers stand.
+  abbrev pub on_bench : Bench P → ℕ → Option Local
+  on_bench b i = has b.seat.me.0 i
+
+  abbrev pub stance_on : Bench P → ℕ → Option Stance
+  stance_on b i = kept_stance (slice_index_or b.places.items i None)
+
+  abbrev pub locals_on : Bench P → List Local
+  locals_on b = map the b.seat.me.0
+
+  -- The seat is one of these rows' table, of one of its callers, and has the local of that caller in a reachable world.
+  pub record IsSeatOf (meaning : P → ℕ → ℕ → Meaning) (r : Rows P) (seat : CallerSeat) : Type 0 where
+    pub table : seat.seat.table_id ≡ r.table.shared.table_id
+    pub who : seat.who < r.callers
+    pub local : IsLocalOf (shape_of meaning r) seat.who (seated seat)
+
+  -- The caller is one of these rows.
+  pub record IsCallerOf (meaning : P → ℕ → ℕ → Meaning) (r : Rows P) (c : Caller P) : Type 0 where
+    pub seat : IsSeatOf meaning r c.seat
+    pub callers : c.callers ≡ r.callers
+    pub cap : c.cap ≡ r.cap
+
+  -- The bench is one of these rows, and its locals are those of one reachable world.
+  pub record IsBenchOf (meaning : P → ℕ → ℕ → Meaning) (r : Rows P) (b : Bench P) : Type 0 where
+    pub table : b.seat.table_id ≡ r.table.shared.table_id
+    pub callers : b.callers ≡ r.callers
+    pub cap : b.cap ≡ r.cap
+    pub wide : length b.seat.me.0 ≡ r.callers
+    pub together : Together (shape_of meaning r) b.seat.me.0
+
+  -- The bench holds this caller; it holds each of its callers.
+  abbrev pub Holds : Bench P → ℕ → Type 0
+  Holds b i = (l : Local) × (on_bench b i ≡ Some l)
+
+  abbrev pub HoldsAll : Bench P → Type 0
+  HoldsAll b = (i : ℕ) → i < b.callers → Holds b i
+
+  -- Whatever rows the one caller is of, the other is too.
+  abbrev pub StaysWith : Caller P → Caller P → Type 0
+  StaysWith c d = (meaning : P → ℕ → ℕ → Meaning) (r : Rows P) → IsCallerOf meaning r c → IsCallerOf meaning r d
+
+  -- The caller d is c after a step: one of these rows, with the same number.
+  abbrev pub IsStill : (P → ℕ → ℕ → Meaning) → Rows P → Caller P → Caller P → Type 0
+  IsStill meaning r c d = IsCallerOf meaning r d × (who_of d ≡ who_of c)
+
+  -- The local of caller d is that of c after this event.
+  abbrev pub HasDone : Rows P → Caller P → Caller P → event.Event → Type 0
+  HasDone r c d e = local_with d ≡ event.local_after r.callers (local_with c) e
+
+  -- The next look of the caller, at this count, may begin what the caller means it to.
+  abbrev pub MayBegin : (P → ℕ → ℕ → Meaning) → Rows P → Caller P → Region → ℕ → Type 0
+  MayBegin meaning r c region j =
+      IsTrue (event.may_begin (shape_of meaning r) (who_of c) (local_with c) region j (opening_of c))
+
+  -- The caller may stage this word: its row exists, and the word belongs at this place of it.
+  abbrev pub MayStage : (P → ℕ → ℕ → Meaning) → Rows P → Caller P → Region → ℕ → ℕ → Type 0
+  MayStage meaning r c region place word =
+      IsTrue (event.may_happen (shape_of meaning r) (who_of c) (local_with c) (event.Stage region place word))

@@ -1,0 +1,12 @@
+pub mod Seats
+pub mod Shapes
+pub mod Stances
+pub mod Notes
+pub mod Actions
+pub mod Benches
+pub mod Callers
+pub mod Worlds
+pub mod Found
+pub mod ObjectSteps
+pub mod Worked
+pub mod Progress

@@ -1,0 +1,43 @@
+ghost use Rattle.std.specs.Prelude.{◌≡◌, ℕ, ◌<◌, ◌↔◌, [], IsTrue, map};
+ghost use Rattle.row_table.specs.Benches.{kept_notes};
+ghost use Rattle.row_table.specs.Notes.{notes_from};
+
+use crate::notes::Notes;
+use crate::plays::Holding;
+use crate::stance::Stance;
+use atomic_table::Seat;
+use std::marker::PhantomData;
+use world_core::Outside;
+
+/// What is kept of a caller that is on the bench.
+#[derive(Debug, Drop)]
+pub struct Kept {
+    pub notes: Notes,
+    pub stance: Stance,
+}
+
+/// The callers of a table that are with no thread, each with its local.
+pub struct Bench<P = Outside> {
+    pub(crate) callers: u32,
+    pub(crate) cap: u64,
+    pub(crate) places: Vec<Option<Kept>>,
+    pub(crate) seat: Seat<(), Holding>,
+    pub(crate) of: PhantomData<P>,
+    ghost quiet: { seat.me.1 ≡ [] },
+    ghost tied: { map kept_notes places.items ≡ notes_from callers 0 seat.me.0 },
+}
+
+impl<P> Bench<P> {
+    ghost use Rattle.row_table.specs.Callers.{Holds};
+
+    /// Whether the bench holds this caller.
+    pub fn holds(&self, caller: u32) -> bool
+        ensures { IsTrue result ↔ Holds self.now caller }
+    {
+        let place = caller as usize;
+        if place >= self.places.len() {
+            return false;
+        }
+        self.places[place].is_some()
+    }
+}

@@ -1,0 +1,107 @@
+ghost use Rattle.std.specs.Prelude.{◌≡◌, ◌≢◌, ℕ, ◌+◌, ◌-◌, ◌<◌, ◌≤◌, ◌↔◌, [], true, false, None, Some, IsTrue};
+ghost use Rattle.world_core.specs.Local as local;
+ghost use Rattle.world_core.specs.Event as event;
+ghost use Rattle.world_core.specs.declared.region.Region.{Region};
+ghost use Rattle.row_table.specs.Seats.{has, the, only};
+ghost use Rattle.row_table.specs.Notes.{notes_of};
+
+use crate::notes::Notes;
+use crate::phase::Phase;
+use crate::plays::Holding;
+use crate::stance::Stance;
+use atomic_table::Seat;
+use std::marker::PhantomData;
+use world_core::{Outside, Region};
+
+/// The seat of one caller, whose local alone is with it.
+pub struct CallerSeat {
+    pub who: u32,
+    pub seat: Seat<(), Holding>,
+    ghost alone: { seat.me ≡ (only who (the (has seat.me.0 who)), []) },
+}
+
+/// One caller of a table: its seat, with its local, and what it keeps of that local while it runs.
+///
+/// It makes steps with the calls of [`Rows`](crate::Rows), each of which is one event of its local.
+pub struct Caller<P = Outside> {
+    pub(crate) callers: u32,
+    pub(crate) cap: u64,
+    pub(crate) notes: Notes,
+    pub(crate) stance: Stance,
+    pub(crate) seat: CallerSeat,
+    pub(crate) of: PhantomData<P>,
+    ghost tied: { notes ≡ notes_of callers seat.who (the (has seat.seat.me.0 seat.who)) },
+}
+
+impl<P> Caller<P> {
+    ghost use Rattle.row_table.specs.Callers.{who_of, local_with, stance_of, StaysWith};
+
+    /// The number of this caller.
+    pub fn who(&self) -> u32
+        ensures { result ≡ who_of self.now }
+    {
+        self.seat.who
+    }
+
+    /// How many calls it has announced.
+    pub fn made(&self) -> u64
+        ensures { result ≡ (local_with self.now).announced }
+    {
+        self.notes.announced
+    }
+
+    /// How many calls it may still announce: the cap less those that it has.
+    pub fn left(&self) -> u64
+        ensures { result ≡ self.now.cap - (local_with self.now).announced }
+    {
+        self.cap.saturating_sub(self.notes.announced)
+    }
+
+    /// Whether it makes calls: it was not halted.
+    pub fn live(&self) -> bool
+        ensures { result ≡ (stance_of self.now).live }
+    {
+        self.stance.live
+    }
+
+    /// Whether it announces next and has staged no word of its row.
+    pub fn idle(&self) -> bool
+        ensures { IsTrue result ↔ local.IsIdle (local_with self.now) }
+    {
+        self.notes.phase == Phase::Announcing && self.notes.unstaged
+    }
+
+    /// The caller, with its local as it is, which makes no more calls.
+    pub fn halt(mut self) -> Caller<P>
+        ensures stance { stance_of result ≡ record (stance_of self) { live = false } }
+        ensures local { (who_of result ≡ who_of self) × (local_with result ≡ local_with self) }
+        ensures rows { StaysWith self result }
+    {
+        self.stance.live = false;
+        self
+    }
+
+    /// The next look begins a scan of this region: it has to be at the count of caller 0 there. No step is
+    /// made.
+    pub fn begin_scan(&mut self, region: Region)
+        requires { event.is_view_under_way (local_with self.old).scan ≡ false }
+        ensures stance { stance_of self.new ≡ record (stance_of self.old) { begins = Some region } }
+        ensures local { (who_of self.new ≡ who_of self.old) × (local_with self.new ≡ local_with self.old) }
+        ensures rows { StaysWith self.old self.new }
+    {
+        self.stance.begins = Some(region);
+    }
+
+    /// Keeps the reply of the object: the next scan of N is the view's, and begins with it. No step is made.
+    ///
+    /// The program has to allow the reply, here and at that look, which states it for the caller's local.
+    pub fn keep_reply(&mut self, reply: u64)
+        requires asking { (local_with self.old).phase ≡ local.Asking }
+        requires unreplied { (stance_of self.old).reply ≡ None }
+        ensures stance { stance_of self.new ≡ record (stance_of self.old) { reply = Some reply } }
+        ensures local { (who_of self.new ≡ who_of self.old) × (local_with self.new ≡ local_with self.old) }
+        ensures rows { StaysWith self.old self.new }
+    {
+        self.stance.reply = Some(reply);
+    }
+}

@@ -1,0 +1,229 @@
+ghost use Rattle.std.specs.Prelude.{◌≡◌, ℕ, ◌+◌, ◌<◌, ◌≤◌, ◌-◌, ◌^◌, ◌&&◌, Bool, true, false, IsTrue, Some, ◌∷◌, [], ◌++◌};
+ghost use Rattle.book_base.specs.declared.TheConstants.{MAX_CALLERS};
+ghost use Rattle.world_core.specs.declared.region.Region.{Region};
+ghost use Rattle.world_core.specs.Local as local;
+ghost use Rattle.world_core.specs.Event as event;
+ghost use Rattle.world_core.specs.Scan as scan;
+
+use crate::action::Opening;
+use crate::layout::embedded_place;
+use crate::phase::Phase;
+use world_core::{Region, ScanCore, Want};
+
+/// A scan under way, as its caller keeps it.
+#[derive(Debug, Drop)]
+pub struct ScanUnderWay {
+    pub core: ScanCore,
+    pub is_view: bool,
+}
+
+/// What a caller keeps of its local: its counts in N and M, its phase, whether its row under way has no
+/// staged word, and its scan under way.
+#[derive(Debug, Drop)]
+pub struct Notes {
+    pub announced: u64,
+    pub published: u64,
+    pub phase: Phase,
+    pub unstaged: bool,
+    pub scan: Option<ScanUnderWay>,
+}
+
+impl ScanUnderWay {
+    ghost use Rattle.row_table.specs.Notes.{under_way, phase_after};
+
+    fn begin(n: u32, me: u32, region: Region, is_view: bool) -> ScanUnderWay
+        requires caller { me < n }
+        requires few { n ≤ MAX_CALLERS }
+        ensures { result ≡ under_way n me (record { region = region; is_view = is_view; since = 0; taken = [] }) }
+    {
+        ScanUnderWay {
+            core: ScanCore::begin(n, me, region),
+            is_view,
+        }
+    }
+
+    // The scan is of this region, and wants the look at the count of caller j.
+    fn wants_look(&self, region: Region, j: u32) -> bool
+        ensures open { IsTrue result → scan.has_ended self.now.core.course ≡ false }
+        ensures wanted { (n me : ℕ) (s : local.Scan) → self.now ≡ under_way n me s → result ≡ (event.is_same_region s.region region && event.is_look_wanted j (scan.wanted n s.taken)) }
+    {
+        if self.core.region() != region {
+            return false;
+        }
+        match self.core.next() {
+            Want::Look(caller) => caller == j,
+            _ => false,
+        }
+    }
+
+    // The scan is of this region, and wants the peek at this place of row `row` of caller j.
+    fn wants_peek(&self, callers: u32, region: Region, j: u32, row: u64, place: u32) -> bool
+        ensures open { IsTrue result → scan.has_ended self.now.core.course ≡ false }
+        ensures wanted { (me : ℕ) (s : local.Scan) → self.now ≡ under_way callers me s → result ≡ (event.is_same_region s.region region && event.is_peek_wanted callers region j row place (scan.wanted callers s.taken)) }
+    {
+        if self.core.region() != region {
+            return false;
+        }
+        match self.core.next() {
+            Want::Peek(caller, at, entry) => {
+                caller == j && (at == row && embedded_place(callers, region, entry) == place as u64)
+            }
+            _ => false,
+        }
+    }
+
+    // The scan takes the word that it wants. Whether it has ended now.
+    fn take(&mut self, word: u64) -> bool
+        requires { scan.has_ended self.old.core.course ≡ false }
+        ensures taken { (n me : ℕ) (s : local.Scan) → self.old ≡ under_way n me s → self.new ≡ under_way n me (event.with_word s word) }
+        ensures ended { (n me : ℕ) (s : local.Scan) → self.old ≡ under_way n me s → result ≡ scan.is_done (scan.wanted n (event.with_word s word).taken) }
+    {
+        self.core.take(word);
+        match self.core.next() {
+            Want::Done(_) => true,
+            _ => false,
+        }
+    }
+
+    // The phase after this scan ended.
+    fn phase_after(&self, phase: Phase) -> Phase
+        ensures { result ≡ phase_after phase self.now.core.region self.now.is_view }
+    {
+        match (phase, self.core.region()) {
+            (Phase::Viewing, Region::N) if self.is_view => Phase::Publishing,
+            (Phase::Judging, Region::M) => Phase::Announcing,
+            _ => phase,
+        }
+    }
+}
+
+impl Notes {
+    ghost use Rattle.row_table.specs.Notes.{under_way, notes_of, takes, IsOpen};
+    ghost use Rattle.row_table.specs.Actions.{opening_in};
+
+    // Of the local at the start.
+    pub fn fresh() -> Notes
+        ensures { (n me : ℕ) → result ≡ notes_of n me local.fresh }
+    {
+        Notes {
+            announced: 0,
+            published: 0,
+            phase: Phase::Announcing,
+            unstaged: true,
+            scan: None,
+        }
+    }
+
+    /// The own count in a region.
+    pub fn count(&self, region: Region) -> u64
+        ensures { (n me : ℕ) (l : local.Local) → self.now ≡ notes_of n me l → result ≡ local.own_count l region }
+    {
+        match region {
+            Region::N => self.announced,
+            Region::M => self.published,
+        }
+    }
+
+    // The notes as a look begins a scan.
+    fn open(&mut self, n: u32, me: u32, region: Region, opening: Opening)
+        requires caller { me < n }
+        requires few { n ≤ MAX_CALLERS }
+        ensures { (l : local.Local) → self.old ≡ notes_of n me l → self.new ≡ notes_of n me (event.opened l region (opening_in opening)) }
+    {
+        match opening {
+            Opening::Nothing => {}
+            Opening::Scan => self.scan = Some(ScanUnderWay::begin(n, me, region, false)),
+            Opening::View(_) => {
+                self.phase = Phase::Viewing;
+                self.scan = Some(ScanUnderWay::begin(n, me, region, true));
+            }
+        }
+    }
+
+    // The scan under way is of this region, and wants the look at the count of caller j.
+    fn wants_look(&self, region: Region, j: u32) -> bool
+        ensures open { IsTrue result → IsOpen self.now.scan }
+        ensures wanted { (n me : ℕ) (l : local.Local) → self.now ≡ notes_of n me l → result ≡ takes n l.scan region (event.is_look_wanted j) }
+    {
+        match &self.scan {
+            Some(scan) => scan.wants_look(region, j),
+            None => false,
+        }
+    }
+
+    // The scan under way is of this region, and wants the peek at this place of row `row` of caller j.
+    fn wants_peek(&self, n: u32, region: Region, j: u32, row: u64, place: u32) -> bool
+        ensures open { IsTrue result → IsOpen self.now.scan }
+        ensures wanted { (me : ℕ) (l : local.Local) → self.now ≡ notes_of n me l → result ≡ takes n l.scan region (event.is_peek_wanted n region j row place) }
+    {
+        match &self.scan {
+            Some(scan) => scan.wants_peek(n, region, j, row, place),
+            None => false,
+        }
+    }
+
+    // The scan under way takes the word that it wants, and where it has ended its cut serves its purpose.
+    fn take(&mut self, word: u64)
+        requires { IsOpen self.old.scan }
+        ensures { (n me : ℕ) (l : local.Local) (s : local.Scan) → l.scan ≡ Some s → self.old ≡ notes_of n me l → self.new ≡ notes_of n me (event.went_on l (event.with_word s word) (scan.wanted n (event.with_word s word).taken)) }
+    {
+        let phase = self.phase;
+        let Some(scan) = &mut self.scan else {
+            unreachable!()
+        };
+        if scan.take(word) {
+            self.phase = scan.phase_after(phase);
+            self.scan = None;
+        }
+    }
+
+    /// The notes after a look, which may begin a scan.
+    pub fn look(&mut self, n: u32, me: u32, region: Region, j: u32, opening: Opening, word: u64)
+        requires caller { me < n }
+        requires few { n ≤ MAX_CALLERS }
+        ensures { (l : local.Local) → self.old ≡ notes_of n me l → self.new ≡ notes_of n me (event.local_after n l (event.Look region j word (opening_in opening))) }
+    {
+        self.open(n, me, region, opening);
+        if self.wants_look(region, j) {
+            self.take(word);
+        }
+    }
+
+    /// The notes after a peek.
+    pub fn peek(&mut self, n: u32, region: Region, j: u32, row: u64, place: u32, word: u64)
+        ensures { (me : ℕ) (l : local.Local) → self.old ≡ notes_of n me l → self.new ≡ notes_of n me (event.local_after n l (event.Peek region j row place word)) }
+    {
+        if self.wants_peek(n, region, j, row, place) {
+            self.take(word);
+        }
+    }
+
+    /// The notes after a word was staged.
+    pub fn stage(&mut self)
+        ensures { (n me : ℕ) (l : local.Local) (region : Region) (place word : ℕ) → self.old ≡ notes_of n me l → self.new ≡ notes_of n me (event.local_after n l (event.Stage region place word)) }
+    {
+        self.unstaged = false;
+    }
+
+    /// The notes after the announcement.
+    pub fn announce(&mut self)
+        requires { self.old.announced < 2 ^ 64 - 1 }
+        ensures { (n me : ℕ) (l : local.Local) → self.old ≡ notes_of n me l → self.new ≡ notes_of n me (event.local_after n l event.Announce) }
+    {
+        self.announced += 1;
+        self.phase = Phase::Asking;
+        self.unstaged = true;
+        self.scan = None;
+    }
+
+    /// The notes after the publication.
+    pub fn publish(&mut self)
+        requires { self.old.published < 2 ^ 64 - 1 }
+        ensures { (n me : ℕ) (l : local.Local) → self.old ≡ notes_of n me l → self.new ≡ notes_of n me (event.local_after n l event.Publish) }
+    {
+        self.published += 1;
+        self.phase = Phase::Judging;
+        self.unstaged = true;
+        self.scan = None;
+    }
+}

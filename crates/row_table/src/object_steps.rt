@@ -1,0 +1,84 @@
+ghost use Rattle.std.specs.Prelude.{◌≡◌, ◌≢◌, ℕ, ◌+◌, ◌%◌, ◌<◌, ◌^◌, ◌==◌, IsTrue, None, IfOk, IfErr};
+ghost use prog.Atomic.{either};
+ghost use Rattle.world_core.specs.Local as local;
+ghost use Rattle.world_core.specs.Event as event;
+ghost use Rattle.row_table.specs.Actions.{object_step};
+ghost use Rattle.row_table.specs.Found.{found_by};
+
+use crate::action::Action;
+use crate::caller::Caller;
+use crate::layout::row_words;
+use crate::rows::Rows;
+use std::marker::Brand;
+use world_core::InWorld;
+
+impl<P: InWorld> Rows<P> {
+    ghost use Rattle.row_table.specs.Callers.{who_of, local_with, stance_of, IsCallerOf, IsStill, HasDone};
+    ghost use Rattle.row_table.specs.ObjectSteps.{IsAsking, MayStep};
+
+    /// Loads an object word, which is one object step that leaves the word as it is.
+    ///
+    /// Like the three calls below it, it is for a caller that has announced its call and keeps no reply yet,
+    /// and the program allows the step for every word that may be found.
+    pub fn object_load(&self, caller: &mut Caller<P>, place: u64) -> u64
+        requires caller { IsCallerOf P.meaning self.now caller.old × IsAsking caller.old }
+        requires place { place < self.now.objects }
+        requires program { MayStep P.meaning self.now caller.old place (λ x. x) }
+        ensures caller { IsStill P.meaning self.now caller.old caller.new }
+        ensures event { HasDone self.now caller.old caller.new (object_step place result result) }
+        ensures stance { stance_of caller.new ≡ stance_of caller.old }
+    {
+        let index = row_words(self.callers, self.cap) + place as usize;
+        self.load_as::<Brand>(&mut caller.seat, Action::Load(place), index)
+    }
+
+    /// Stores a word into an object word, which is one object step.
+    pub fn object_store(&self, caller: &mut Caller<P>, place: u64, word: u64)
+        requires caller { IsCallerOf P.meaning self.now caller.old × IsAsking caller.old }
+        requires place { place < self.now.objects }
+        requires program { MayStep P.meaning self.now caller.old place (λ _. word) }
+        ensures caller { IsStill P.meaning self.now caller.old caller.new }
+        ensures event { (x : ℕ) × (x < 2 ^ 64) × (HasDone self.now caller.old caller.new (object_step place x word)) }
+        ensures stance { stance_of caller.new ≡ stance_of caller.old }
+    {
+        let index = row_words(self.callers, self.cap) + place as usize;
+        self.store_as::<Brand>(&mut caller.seat, Action::Store(place, word), index, word)
+    }
+
+    /// Adds to an object word, modulo 2^64, which is one object step. It answers the word that it found.
+    pub fn object_add(&self, caller: &mut Caller<P>, place: u64, add: u64) -> u64
+        requires caller { IsCallerOf P.meaning self.now caller.old × IsAsking caller.old }
+        requires place { place < self.now.objects }
+        requires program { MayStep P.meaning self.now caller.old place (λ x. (x + add) % 2 ^ 64) }
+        ensures caller { IsStill P.meaning self.now caller.old caller.new }
+        ensures event { HasDone self.now caller.old caller.new (object_step place result ((result + add) % 2 ^ 64)) }
+        ensures stance { stance_of caller.new ≡ stance_of caller.old }
+    {
+        let index = row_words(self.callers, self.cap) + place as usize;
+        self.add_as::<Brand>(&mut caller.seat, Action::Add(place, add), index, add)
+    }
+
+    /// Puts `new` into an object word where it finds `old` there, which is one object step. It answers the word
+    /// that it found: Ok exactly where that was `old`.
+    pub fn object_exchange(
+        &self,
+        caller: &mut Caller<P>,
+        place: u64,
+        old: u64,
+        new: u64,
+    ) -> Result<u64, u64>
+        requires caller { IsCallerOf P.meaning self.now caller.old × IsAsking caller.old }
+        requires place { place < self.now.objects }
+        requires program { MayStep P.meaning self.now caller.old place (λ x. either (x == old) new x) }
+        ensures caller { IsStill P.meaning self.now caller.old caller.new }
+        ensures event { HasDone self.now caller.old caller.new (object_step place (found_by result) (either (found_by result == old) new (found_by result))) }
+        ensures stance { stance_of caller.new ≡ stance_of caller.old }
+        ensures won { IfOk result (λ x. x ≡ old) }
+        ensures lost { IfErr result (λ x. x ≢ old) }
+    {
+        let index = row_words(self.callers, self.cap) + place as usize;
+        let action = Action::Exchange(place, old, new);
+        let found = self.exchange_as::<Brand>(&mut caller.seat, action, index, old, new);
+        if found == old { Ok(found) } else { Err(found) }
+    }
+}

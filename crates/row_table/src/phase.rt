@@ -1,0 +1,9 @@
+/// The phase of a caller, as it keeps it while it runs.
+#[derive(Clone, Copy, Debug, PartialEq, Eq)]
+pub enum Phase {
+    Announcing,
+    Asking,
+    Viewing,
+    Publishing,
+    Judging,
+}

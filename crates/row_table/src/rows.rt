@@ -1,0 +1,320 @@
+ghost use Rattle.std.specs.Prelude.{◌≡◌, ◌≢◌, ℕ, ◌+◌, ◌%◌, ◌<◌, ◌≤◌, ◌^◌, ◌==◌, IsTrue, [], Some, None, IfOk, slice_set, replicate, length};
+ghost use prog.Atomic.{either};
+ghost use Rattle.row_table.specs.Benches.{fresh_kept, fresh_stance};
+ghost use Rattle.std.specs.Coded.{Coded-set};
+ghost use Rattle.std.specs.Slots.{slots_items, slots_len, IsFull};
+ghost use Rattle.book_base.specs.declared.TheConstants.{MAX_CALLERS, MAX_CALLS};
+ghost use Rattle.world_core.specs.Layout as words;
+ghost use Rattle.world_core.specs.Local as local;
+ghost use Rattle.world_core.specs.Event as event;
+
+use crate::action::Action;
+use crate::bench::{Bench, Kept};
+use crate::caller::{Caller, CallerSeat};
+use crate::layout::row_words;
+use crate::notes::Notes;
+use crate::plays::{Deed, Does, Holding, Key, Learns, Leaves, Returns, Worlds, Writes};
+use crate::stance::Stance;
+use crate::world::World;
+use atomic_table::{Closed, Seat, Table};
+use book_base::{MAX_CALLERS, MAX_CALLS, NoMemory};
+use std::alloc::{AllocError, Global};
+use std::marker::{Brand, PhantomData};
+use world_core::{Outside, Program};
+
+/// The table of rows of some callers, in a world of a program.
+///
+/// Each step is one sequentially consistent atomic step and one event of the world, on the local of the
+/// caller that makes it, with the word that was really loaded. Nothing locks, waits or takes memory but
+/// the calls that open and close the table.
+pub struct Rows<P: Program = Outside> {
+    pub(crate) table: Table<(), Holding, Key<P>, Worlds<P>, Global>,
+    pub(crate) program: P,
+    pub(crate) callers: u32,
+    pub(crate) cap: u64,
+    pub(crate) objects: u64,
+    ghost sized: { (table.shared.table_id.words ≡ words.row_words callers cap + objects) × (table.shared.table_id.slots ≡ 0) × (table.shared.key.callers ≡ callers) × (table.shared.key.cap ≡ cap) × (table.shared.key.objects ≡ objects) },
+    ghost few: { (1 ≤ callers) × (callers ≤ MAX_CALLERS) × (1 ≤ cap) × (cap ≤ MAX_CALLS) × (objects ≤ 65536) },
+    ghost told: { table.shared.key.program ≡ program } by { Coded-set P.code table.shared.key.program program },
+}
+
+// The words of a closed table.
+fn copied(alloc: Global, closed: &Closed<(), Global>, count: usize) -> Result<Vec<u64>, AllocError>
+    requires { (slots_len closed.now.words ≡ count) × IsFull closed.now.words }
+    ensures { IfOk result (λ v. v.items ≡ slots_items closed.now.words) }
+{
+    let mut words = Vec::with_capacity(alloc, count)?;
+    for i in 0..count {
+        words.push(closed.word(i))?;
+    }
+    Ok(words)
+}
+
+// What the bench keeps of all callers at the start.
+fn all_kept(alloc: Global, n: u32) -> Result<Vec<Option<Kept>>, AllocError>
+    ensures { IfOk result (λ v. v.items ≡ replicate n (Some fresh_kept)) }
+{
+    let mut places = Vec::with_capacity(alloc, n as usize)?;
+    for _i in 0..n {
+        places.push(Some(Kept {
+            notes: Notes::fresh(),
+            stance: Stance::fresh(),
+        }))?;
+    }
+    Ok(places)
+}
+
+impl<P: Program> Rows<P> {
+    ghost use Rattle.row_table.specs.Seats.{has, the, only, Makes, Together, IsWorldOf};
+    ghost use Rattle.row_table.specs.Actions.{event_of};
+    ghost use Rattle.row_table.specs.Callers.{key_of, shape_of, seated, who_of, local_with, stance_of, on_bench, stance_on, locals_on, IsSeatOf, IsCallerOf, IsBenchOf, Holds, HoldsAll};
+    ghost use Rattle.row_table.specs.Worlds.{words_in};
+    ghost use Rattle.world_core.specs.Shape.{words_of};
+    ghost use Rattle.world_core.specs.Calls.{AreTogether};
+
+    // A load that is this action of the caller of a seat.
+    pub(crate) fn load_as<J: Deed>(&self, seat: &mut CallerSeat, action: Action, word: usize) -> u64
+        requires seat { IsSeatOf P.meaning self.now seat.old }
+        requires word { word < self.now.table.shared.table_id.words }
+        requires deed { (J.shape ≡ shape_of P.meaning self.now) × (J.who ≡ seat.old.who) × (J.event ≡ event_of action) }
+        requires makes { Makes (shape_of P.meaning self.now) self.now.objects seat.old.who (seated seat.old) word (λ x. x) (event_of action) }
+        ensures seat { IsSeatOf P.meaning self.now seat.new × (seat.new.who ≡ seat.old.who) }
+        ensures event { seated seat.new ≡ event.local_after self.now.callers (seated seat.old) (event_of action result) }
+    {
+        self.table.shared.load::<Does<J>>(&mut seat.seat, word)
+    }
+
+    // A store that is this action of the caller of a seat.
+    pub(crate) fn store_as<J: Deed>(
+        &self,
+        seat: &mut CallerSeat,
+        action: Action,
+        word: usize,
+        new: u64,
+    )
+        requires seat { IsSeatOf P.meaning self.now seat.old }
+        requires word { word < self.now.table.shared.table_id.words }
+        requires deed { (J.shape ≡ shape_of P.meaning self.now) × (J.who ≡ seat.old.who) × (J.event ≡ event_of action) }
+        requires makes { Makes (shape_of P.meaning self.now) self.now.objects seat.old.who (seated seat.old) word (λ _. new) (event_of action) }
+        ensures seat { IsSeatOf P.meaning self.now seat.new × (seat.new.who ≡ seat.old.who) }
+        ensures event { (x : ℕ) × (x < 2 ^ 64) × (seated seat.new ≡ event.local_after self.now.callers (seated seat.old) (event_of action x)) }
+    {
+        self.table
+            .shared
+            .store::<Writes<J>>(&mut seat.seat, word, new)
+    }
+
+    // An addition that is this action of the caller of a seat.
+    pub(crate) fn add_as<J: Deed>(
+        &self,
+        seat: &mut CallerSeat,
+        action: Action,
+        word: usize,
+        add: u64,
+    ) -> u64
+        requires seat { IsSeatOf P.meaning self.now seat.old }
+        requires word { word < self.now.table.shared.table_id.words }
+        requires deed { (J.shape ≡ shape_of P.meaning self.now) × (J.who ≡ seat.old.who) × (J.event ≡ event_of action) }
+        requires makes { Makes (shape_of P.meaning self.now) self.now.objects seat.old.who (seated seat.old) word (λ x. (x + add) % 2 ^ 64) (event_of action) }
+        ensures seat { IsSeatOf P.meaning self.now seat.new × (seat.new.who ≡ seat.old.who) }
+        ensures event { seated seat.new ≡ event.local_after self.now.callers (seated seat.old) (event_of action result) }
+    {
+        self.table
+            .shared
+            .fetch_add::<Does<J>>(&mut seat.seat, word, add)
+    }
+
+    // A compare-exchange that is this action of the caller of a seat.
+    pub(crate) fn exchange_as<J: Deed>(
+        &self,
+        seat: &mut CallerSeat,
+        action: Action,
+        word: usize,
+        old: u64,
+        new: u64,
+    ) -> u64
+        requires seat { IsSeatOf P.meaning self.now seat.old }
+        requires word { word < self.now.table.shared.table_id.words }
+        requires deed { (J.shape ≡ shape_of P.meaning self.now) × (J.who ≡ seat.old.who) × (J.event ≡ event_of action) }
+        requires makes { Makes (shape_of P.meaning self.now) self.now.objects seat.old.who (seated seat.old) word (λ x. either (x == old) new x) (event_of action) }
+        ensures seat { IsSeatOf P.meaning self.now seat.new × (seat.new.who ≡ seat.old.who) }
+        ensures event { seated seat.new ≡ event.local_after self.now.callers (seated seat.old) (event_of action result) }
+    {
+        self.table
+            .shared
+            .compare_exchange::<Does<J>>(&mut seat.seat, word, old, new)
+    }
+
+    // The locals on the bench are those of one reachable world.
+    fn learn_as<J: Deed>(&self, bench: &mut Bench<P>)
+        requires shape { J.shape ≡ shape_of P.meaning self.now }
+        requires bench { bench.old.seat.table_id ≡ self.now.table.shared.table_id }
+        ensures seat { (bench.new.seat.table_id ≡ bench.old.seat.table_id) × (bench.new.seat.me ≡ bench.old.seat.me) }
+        ensures kept { (bench.new.places.items ≡ bench.old.places.items) × (bench.new.callers ≡ bench.old.callers) × (bench.new.cap ≡ bench.old.cap) }
+        ensures together { Together (shape_of P.meaning self.now) bench.new.seat.me.0 }
+    {
+        self.table.shared.load::<Learns<J>>(&mut bench.seat, 0);
+    }
+
+    // The seat of a caller that leaves the bench.
+    fn leave_as<J: Deed>(&self, seat: &mut Seat<(), Holding>, who: u32) -> CallerSeat
+        requires who { J.who ≡ who }
+        requires seat { seat.old.table_id ≡ self.now.table.shared.table_id }
+        requires here { has seat.old.me.0 who ≡ Some (the (has seat.old.me.0 who)) }
+        ensures seat { (seat.new.table_id ≡ seat.old.table_id) × (seat.new.me ≡ (slice_set seat.old.me.0 who None, seat.old.me.1)) }
+        ensures caller { (result.who ≡ who) × (result.seat.table_id ≡ seat.old.table_id) × (result.seat.me.0 ≡ only who (the (has seat.old.me.0 who))) }
+    {
+        let seat = self.table.shared.split_seat::<Leaves<J>>(seat);
+        CallerSeat { who, seat }
+    }
+
+    /// A table for `n` callers with `cap` calls each, and the bench that holds all of them, idle and live.
+    /// All words are 0.
+    pub fn open(
+        alloc: Global,
+        program: P,
+        n: u32,
+        cap: u64,
+    ) -> Result<(Rows<P>, Bench<P>), NoMemory>
+        requires some_callers { 1 ≤ n }
+        requires few_callers { n ≤ MAX_CALLERS }
+        requires some_calls { 1 ≤ cap }
+        requires few_calls { cap ≤ MAX_CALLS }
+        ensures rows { IfOk result (λ r. (r.0.callers ≡ n) × (r.0.cap ≡ cap) × (r.0.program ≡ program) × (r.0.objects ≡ (P.meaning program n cap).objects)) }
+        ensures bench { IfOk result (λ r. IsBenchOf P.meaning r.0 r.1) }
+        ensures fresh { IfOk result (λ r. (i : ℕ) → i < n → (on_bench r.1 i ≡ Some local.fresh) × (stance_on r.1 i ≡ Some fresh_stance)) }
+    {
+        let places = all_kept(alloc, n)?;
+        let objects = program.object_words(n, cap);
+        let count = row_words(n, cap) + objects as usize;
+        let words = Vec::from_elem(alloc, 0u64, count)?;
+        let key = Key {
+            program,
+            callers: n,
+            cap,
+            objects,
+        };
+        let (table, seat) = Table::of_words(alloc, words.as_slice(), &key)?;
+        let rows = Rows {
+            table,
+            program,
+            callers: n,
+            cap,
+            objects,
+        };
+        let bench = Bench {
+            callers: n,
+            cap,
+            places,
+            seat,
+            of: PhantomData,
+        };
+        Ok((rows, bench))
+    }
+
+    /// How many callers the table has.
+    pub fn callers(&self) -> u32
+        ensures { result ≡ self.now.callers }
+    {
+        self.callers
+    }
+
+    /// The program of the world.
+    pub fn program(&self) -> P
+        ensures { result ≡ self.now.program }
+    {
+        self.program
+    }
+
+    /// A caller leaves the bench with its local, and as live as it was there. One load of word 0, which is
+    /// no event.
+    pub fn part(&self, bench: &mut Bench<P>, caller: u32) -> Caller<P>
+        requires bench { IsBenchOf P.meaning self.now bench.old }
+        requires held { Holds bench.old caller }
+        ensures bench { IsBenchOf P.meaning self.now bench.new }
+        ensures gone { on_bench bench.new caller ≡ None }
+        ensures others { (i : ℕ) → i ≢ caller → (on_bench bench.new i ≡ on_bench bench.old i) × (stance_on bench.new i ≡ stance_on bench.old i) }
+        ensures caller { IsCallerOf P.meaning self.now result × (who_of result ≡ caller) }
+        ensures local { on_bench bench.old caller ≡ Some (local_with result) }
+        ensures stance { stance_on bench.old caller ≡ Some (stance_of result) }
+    {
+        let Some(kept) = bench.places[caller as usize].take() else {
+            unreachable!()
+        };
+        let Kept { notes, stance } = kept;
+        let seat = self.leave_as::<Brand>(&mut bench.seat, caller);
+        Caller {
+            callers: self.callers,
+            cap: self.cap,
+            notes,
+            stance,
+            seat,
+            of: PhantomData,
+        }
+    }
+
+    /// A caller comes back to the bench with its local, and as live as it is. Two loads of word 0, which are
+    /// no events: the second tells that the locals on the bench are those of one reachable world.
+    pub fn back(&self, bench: &mut Bench<P>, caller: Caller<P>)
+        requires bench { IsBenchOf P.meaning self.now bench.old }
+        requires caller { IsCallerOf P.meaning self.now caller }
+        requires gone { on_bench bench.old (who_of caller) ≡ None }
+        ensures bench { IsBenchOf P.meaning self.now bench.new }
+        ensures here { (on_bench bench.new (who_of caller) ≡ Some (local_with caller)) × (stance_on bench.new (who_of caller) ≡ Some (stance_of caller)) }
+        ensures others { (i : ℕ) → i ≢ who_of caller → (on_bench bench.new i ≡ on_bench bench.old i) × (stance_on bench.new i ≡ stance_on bench.old i) }
+    {
+        let Caller {
+            callers: _,
+            cap: _,
+            notes,
+            stance,
+            seat,
+            of: _,
+        } = caller;
+        let CallerSeat { who, seat } = seat;
+        bench.places[who as usize] = Some(Kept { notes, stance });
+        self.table
+            .shared
+            .join_seat::<Returns>(&mut bench.seat, seat);
+        self.learn_as::<Brand>(bench);
+    }
+
+    /// The locals of a bench that holds all callers are those of one reachable world.
+    pub fn whole_bench_is_together(&self, bench: &Bench<P>)
+        requires bench { IsBenchOf P.meaning self.now bench.now }
+        requires all { HoldsAll bench.now }
+        ensures { AreTogether (shape_of P.meaning self.now) (locals_on bench.now) }
+    {}
+
+    /// The words of the table, which with the locals of the bench are a reachable world. The bench holds all
+    /// callers. For want of memory the table is given up.
+    pub fn close(self, alloc: Global, bench: Bench<P>) -> Result<World<P>, NoMemory>
+        requires bench { IsBenchOf P.meaning self bench }
+        requires all { HoldsAll bench }
+        ensures world { IfOk result (λ world. IsWorldOf (shape_of P.meaning self) (words_in world) (locals_on bench)) }
+        ensures count { IfOk result (λ world. length (words_in world) ≡ words_of (shape_of P.meaning self)) }
+    {
+        let Rows {
+            table,
+            program: _,
+            callers: _,
+            cap: _,
+            objects: _,
+        } = self;
+        let Bench {
+            callers: _,
+            cap: _,
+            places: _,
+            seat,
+            of: _,
+        } = bench;
+        let count = table.word_count();
+        let closed = table.close_with(seat);
+        let words = copied(alloc, &closed, count);
+        closed.free();
+        Ok(World {
+            words: words?,
+            of: PhantomData,
+        })
+    }
+}
