@@ -41,6 +41,41 @@ impl SeqObject for Queue {
     }
 }
 
+// A register that begins with 0: the operation 0 reads it, and any other writes its low word.
+struct Register;
+
+impl SeqObject for Register {
+    ghost is_known = { λ _ _. true };
+
+    ghost init = { λ _. 0 ∷ [] };
+
+    ghost next = { λ _ list op. (if op == 0 then (list, slice_index list 0) else ((op % 2 ^ 64) ∷ [], 0)) };
+
+    ghost begins_small = { Prim.search (rules, common_steps) };
+
+    ghost grows_by_one = { Prim.search (rules, common_steps) };
+
+    ghost unknown_is_bad = { Prim.search rules };
+
+    fn known(&self, _op: OpWord) -> bool {
+        true
+    }
+
+    fn reset(&self, state: &mut State) {
+        state.clear();
+        state.push(0);
+    }
+
+    fn step(&self, state: &mut State, op: OpWord) -> u64 {
+        if op != 0 {
+            state.clear();
+            state.push(low(op));
+            return 0;
+        }
+        if state.is_empty() { 0 } else { state.get(0) }
+    }
+}
+
 // A call: its caller, its operation, and its reply and view where it is answered.
 type Line<'a> = (u32, OpWord, Option<(u64, &'a [u64])>);
 
@@ -76,9 +111,14 @@ fn book_of(alloc: Global, callers: u32, lines: &[Line]) -> Result<Book, Fail> {
     Ok(book)
 }
 
-// Whether a book is said to be legal, with this guide.
-fn is_legal(alloc: Global, book: &Book, guide: &mut Guide) -> Result<bool, Fail> {
-    match check_from(alloc, &Queue, book, guide)? {
+// Whether a book of an object is said to be legal, with this guide.
+fn is_legal<S: SeqObject>(
+    alloc: Global,
+    object: &S,
+    book: &Book,
+    guide: &mut Guide,
+) -> Result<bool, Fail> {
+    match check_from(alloc, object, book, guide)? {
         Verdict::Legal(_) => Ok(true),
         Verdict::Illegal => Ok(false),
     }
@@ -87,13 +127,15 @@ fn is_legal(alloc: Global, book: &Book, guide: &mut Guide) -> Result<bool, Fail>
 // Whether a book has this verdict without a guide, and with the guide that each of the cases leaves.
 fn has_verdict(alloc: Global, book: &Book, legal: bool, cases: &[Case]) -> Result<bool, Fail> {
     let mut guide = Guide::new(alloc)?;
-    if is_legal(alloc, book, &mut guide)? != legal || is_legal(alloc, book, &mut guide)? != legal {
+    if is_legal(alloc, &Queue, book, &mut guide)? != legal
+        || is_legal(alloc, &Queue, book, &mut guide)? != legal
+    {
         return Ok(false);
     }
     for (callers, lines, _) in cases {
         let other = book_of(alloc, *callers, lines)?;
-        is_legal(alloc, &other, &mut guide)?;
-        if is_legal(alloc, book, &mut guide)? != legal {
+        is_legal(alloc, &Queue, &other, &mut guide)?;
+        if is_legal(alloc, &Queue, book, &mut guide)? != legal {
             return Ok(false);
         }
     }
@@ -145,6 +187,44 @@ fn every_guide_gives_the_same_verdict(rt: HostRuntime) -> Result<(), Fail> {
     Ok(())
 }
 
+// Whether a book of an object has this verdict with a guide that has no places, and with the one that
+// another object's book leaves.
+fn has_verdict_after<S: SeqObject, T: SeqObject>(
+    alloc: Global,
+    object: &S,
+    book: &Book,
+    legal: bool,
+    other: &T,
+    other_book: &Book,
+) -> Result<bool, Fail> {
+    let mut guide = Guide::new(alloc)?;
+    if is_legal(alloc, object, book, &mut guide)? != legal {
+        return Ok(false);
+    }
+    is_legal(alloc, other, other_book, &mut guide)?;
+    Ok(is_legal(alloc, object, book, &mut guide)? == legal)
+}
+
+// The register writes what the queue puts, and reads what the queue takes first: both books are legal for
+// either object, and with the take or read that finds 0 neither is.
+#[test]
+fn guides_of_other_objects_and_sizes_change_no_verdict(rt: HostRuntime) -> Result<(), Fail> {
+    let put: Line = (0, 5, Some((0, &[1, 0])));
+    let took: Line = (1, 0, Some((5, &[1, 1])));
+    let found_none: Line = (1, 0, Some((0, &[1, 1])));
+    let put_at_once: Line = (0, 5, Some((0, &[1, 1, 0])));
+    let put_beside: Line = (1, 6, Some((0, &[1, 1, 0])));
+    let took_later: Line = (2, 0, Some((6, &[1, 1, 1])));
+    let wide = book_of(rt.alloc(), 3, &[put_at_once, put_beside, took_later])?;
+    for (lines, legal) in [([put, took], true), ([put, found_none], false)] {
+        let book = book_of(rt.alloc(), 2, &lines)?;
+        assert!(rt; has_verdict_after(rt.alloc(), &Register, &book, legal, &Queue, &wide)?);
+        assert!(rt; has_verdict_after(rt.alloc(), &Register, &book, legal, &Register, &wide)?);
+        assert!(rt; has_verdict_after(rt.alloc(), &Queue, &book, legal, &Register, &wide)?);
+    }
+    Ok(())
+}
+
 #[test]
 fn a_take_that_finds_nothing_after_overlapping_puts_is_illegal(
     rt: HostRuntime,
@@ -172,7 +252,7 @@ fn the_guide_keeps_the_order(rt: HostRuntime) -> Result<(), Fail> {
     let book = book_of(rt.alloc(), 2, &lines)?;
     let mut guide = Guide::new(rt.alloc())?;
     assert_eq!(rt; guide.places().len(), 0);
-    assert!(rt; is_legal(rt.alloc(), &book, &mut guide)?);
+    assert!(rt; is_legal(rt.alloc(), &Queue, &book, &mut guide)?);
     let first = Place {
         caller: 0,
         number: 0,
