@@ -1,0 +1,6 @@
+pub mod Lines
+pub mod Phases
+pub mod Progress
+pub mod Allotments
+pub mod Lawful
+pub mod Workers

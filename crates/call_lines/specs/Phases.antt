@@ -1,0 +1,78 @@
+-- The phases of a caller, counted over all its calls, five for each: what a caller has made that has gone so far.
+use Rattle.std.specs.Prelude.{◌≡◌, ℕ, ◌+◌, ◌/◌, ◌%◌, ◌==◌, nat_lt, if◌then◌else◌, List, [], ◌∷◌, ◌++◌, map, take, replicate}
+use Rattle.std.specs.List.{flat_map}
+use Rattle.book_base.specs.declared.call.Record.{Record}
+use Rattle.world_core.specs.Local.{Local}
+use Rattle.world_core.specs.Calls.{Reached, Is_announced, Has_record, Has_seen, Made, records_of, calls_in}
+
+-- After p phases: how many calls are announced, how many were asked of the object, how many have their record, how many records are
+-- published, and how many calls are judged.
+abbrev pub begun : ℕ → ℕ
+begun p = (p + 4) / 5
+
+abbrev pub asked : ℕ → ℕ
+asked p = (p + 3) / 5
+
+abbrev pub answered : ℕ → ℕ
+answered p = (p + 2) / 5
+
+abbrev pub published_by : ℕ → ℕ
+published_by p = (p + 1) / 5
+
+abbrev pub judged : ℕ → ℕ
+judged p = p / 5
+
+-- How far a call has come, without what it was told: it is announced, has its record, or has its seen cut too.
+pub data Mark : Type 0 where
+  Announced : Mark
+  Recorded : Mark
+  Seen : Mark
+
+abbrev pub mark_of : Reached → Mark
+mark_of Is_announced = Announced
+mark_of (Has_record r) = Recorded
+mark_of (Has_seen r cut) = Seen
+
+-- The mark of the call that is under way, so many phases after the calls before it were judged: none where it isn't announced.
+abbrev pub mark_under_way : ℕ → List Mark
+mark_under_way phases = if phases == 0 then [] else (if nat_lt phases 3 then Announced ∷ [] else Recorded ∷ [])
+
+-- The marks of a caller's calls after p phases: the judged ones, and that of the call under way.
+abbrev pub marks_after : ℕ → List Mark
+marks_after p = replicate (judged p) Seen ++ mark_under_way (p % 5)
+
+-- The operations and the marks of some calls.
+abbrev pub operations_of : List Made → List ℕ
+operations_of calls = map (λ (c : Made). c.operation) calls
+
+abbrev pub marks_of : List Made → List Mark
+marks_of calls = map (λ (c : Made). mark_of c.reached) calls
+
+-- How far a caller has come: its calls, and how many records it has published.
+pub record Progress : Type 0 where
+  pub calls : List Made
+  pub published : ℕ
+
+abbrev pub progress_of : Local → Progress
+progress_of l = record { calls = calls_in l; published = l.published }
+
+-- A caller with these operations has come exactly as far as its first p phases go: no call and no operation is left out, and none is
+-- further than that.
+pub record IsProgressAfter (operations : List ℕ) (p : ℕ) (progress : Progress) : Type 0 where
+  pub in_order : operations_of progress.calls ≡ take (begun p) operations
+  pub marks : marks_of progress.calls ≡ marks_after p
+  pub published : progress.published ≡ published_by p
+
+-- The local is that of a caller that has made exactly its first p phases.
+abbrev pub HasMade : List ℕ → ℕ → Local → Type 0
+HasMade operations p l = IsProgressAfter operations p (progress_of l)
+
+-- The operation and the reply of each call that has its record.
+abbrev pub answers_in : List Made → List (ℕ × ℕ)
+answers_in calls = flat_map (λ (c : Made). map (λ (r : Record). (c.operation, r.reply)) (records_of c.reached)) calls
+
+-- What an object tells of a caller that has made p phases, an operation and a reply for each call that it was asked: the operations
+-- are those of the first calls, and the first replies those of the answered calls. So there is at most one pair more than answers.
+pub record IsTold (p : ℕ) (calls : List Made) (pairs : List (ℕ × ℕ)) : Type 0 where
+  pub asked : map (λ (pair : ℕ × ℕ). pair.0) pairs ≡ take (asked p) (operations_of calls)
+  pub answered : take (answered p) pairs ≡ answers_in calls
