@@ -4,3 +4,4 @@ pub mod Progress
 pub mod Allotments
 pub mod Lawful
 pub mod Workers
+pub mod Cases

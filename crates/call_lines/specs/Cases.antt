@@ -1,0 +1,88 @@
+-- Worked lines of three callers, with all four ends: one delivered call and one that is under way, an error, and an unchecked call.
+use Rattle.std.specs.Prelude.{ℕ, List, [], ◌∷◌, Option, Some, None}
+use Rattle.book_base.specs.declared.call.Call.{Call}
+use Rattle.book_base.specs.declared.call.Record.{Record}
+use Rattle.book_base.specs.Book.{Page}
+use Rattle.world_core.specs.Calls.{Is_announced, Has_record, Has_seen, Made}
+use Rattle.call_lines.specs.declared.line.LineEnd.TheVariants.{Pending, Unchecked, Delivered, Error}
+use Rattle.call_lines.specs.declared.line.Line.{Line}
+use Rattle.call_lines.specs.Phases.{Progress}
+
+-- A call, and an answer.
+abbrev pub call : ℕ → ℕ → Call
+call who k = record { caller = who; number = k }
+
+abbrev pub answer : ℕ → List ℕ → Record
+answer reply view = record { reply = reply; view = view }
+
+-- A line with each of the ends.
+abbrev pub pending : ℕ → Line
+pending op = record { op = op; end = Pending }
+
+abbrev pub unchecked : ℕ → Record → Line
+unchecked op r = record { op = op; end = Unchecked r }
+
+abbrev pub delivered : ℕ → Record → List ℕ → Line
+delivered op r cut = record { op = op; end = Delivered r cut }
+
+abbrev pub failed : ℕ → Record → List ℕ → Line
+failed op r cut = record { op = op; end = Error r cut }
+
+-- The operations of the three callers; a stop of the first after one call and an announcement, and one of the third before it published.
+abbrev pub worked_operations : List (List ℕ)
+worked_operations = (5 ∷ 7 ∷ []) ∷ (6 ∷ 9 ∷ []) ∷ (8 ∷ []) ∷ []
+
+abbrev pub worked_stops : List (Option ℕ)
+worked_stops = Some 6 ∷ None ∷ Some 3 ∷ []
+
+-- What they were answered.
+abbrev pub first : Record
+first = answer 50 (1 ∷ 0 ∷ 0 ∷ [])
+
+abbrev pub second : Record
+second = answer 61 (1 ∷ 1 ∷ 0 ∷ [])
+
+abbrev pub third : Record
+third = answer 80 (1 ∷ 1 ∷ 1 ∷ [])
+
+-- Their lines.
+abbrev pub worked_lines : List (List Line)
+worked_lines =
+    (delivered 5 first (1 ∷ 0 ∷ 0 ∷ []) ∷ pending 7 ∷ [])
+    ∷ (failed 6 second (1 ∷ 1 ∷ 0 ∷ []) ∷ [])
+    ∷ (unchecked 8 third ∷ [])
+    ∷ []
+
+-- The calls and the book that these are.
+abbrev pub made : ℕ → Made
+made op = record { operation = op; reached = Is_announced }
+
+abbrev pub recorded : ℕ → Record → Made
+recorded op r = record { operation = op; reached = Has_record r }
+
+abbrev pub judged : ℕ → Record → List ℕ → Made
+judged op r cut = record { operation = op; reached = Has_seen r cut }
+
+abbrev pub worked_calls : List (List Made)
+worked_calls = (judged 5 first (1 ∷ 0 ∷ 0 ∷ []) ∷ made 7 ∷ []) ∷ (judged 6 second (1 ∷ 1 ∷ 0 ∷ []) ∷ []) ∷ (recorded 8 third ∷ []) ∷ []
+
+abbrev pub page : List ℕ → List Record → Page
+page operations records = record { operations = operations; records = records }
+
+abbrev pub worked_book : List Page
+worked_book = page (5 ∷ 7 ∷ []) (first ∷ []) ∷ page (6 ∷ []) (second ∷ []) ∷ page (8 ∷ []) (third ∷ []) ∷ []
+
+-- The second caller's line, with another seen cut.
+abbrev pub seen_by_second : List ℕ → List (List Line)
+seen_by_second cut = (delivered 5 first (1 ∷ 0 ∷ 0 ∷ []) ∷ pending 7 ∷ []) ∷ (delivered 6 second cut ∷ []) ∷ (unchecked 8 third ∷ []) ∷ []
+
+-- Three delivered lines of two callers, of which the one in the middle saw most; and an error line that saw still more.
+abbrev pub three_delivered : List (List Line)
+three_delivered =
+    (delivered 1 (answer 0 []) (1 ∷ 0 ∷ []) ∷ delivered 2 (answer 0 []) (2 ∷ 1 ∷ []) ∷ [])
+    ∷ (delivered 3 (answer 0 []) (1 ∷ 1 ∷ []) ∷ failed 4 (answer 0 []) (2 ∷ 2 ∷ []) ∷ [])
+    ∷ []
+
+-- How far a caller has come: its calls, and how many records it has published.
+abbrev pub progress : List Made → ℕ → Progress
+progress calls published = record { calls = calls; published = published }
