@@ -1,0 +1,93 @@
+-- What the workers of all callers leave are the lines of the locals that they leave.
+use Rattle.std.proofs.Common.{◌≡◌, ℕ, zero, suc, ◌+◌, ◌<◌, ◌≤◌, List, [], ◌∷◌, length, map, take, Some, slice_get, slice_index, slice_index_or, refl, sym, ap, ◌∙◌, subst, arith}
+use Rattle.std.specs.List.{All}
+use Rattle.std.proofs.lemmas.List.{length-map}
+use Rattle.std.proofs.lemmas.Option.{none-some, same_Some, slice_get_within, get_or_from_slice_get}
+use Rattle.book_base.specs.declared.call.Call.{Call}
+use Rattle.book_base.specs.Book.{Page}
+use Rattle.book_base.specs.BookAt.{book_at}
+use Rattle.book_base.specs.Order.{HasLegalOrder}
+use Rattle.world_core.specs.Shape.{Shape}
+use Rattle.world_core.specs.Local.{Local, fresh}
+use Rattle.world_core.specs.Calls.{Made, AreTogether, IsGathered, calls_in, book_of, book_in, local_at}
+use Rattle.world_laws.proofs.Locals.{locals_have_phases}
+use Rattle.world_books.proofs.Gathered.{gathered_is_the_book_at, gathered_stays}
+use Rattle.call_lines.specs.declared.line.LineEnd.{LineEnd}
+use Rattle.call_lines.specs.declared.line.LineEnd.TheVariants.{Pending, Unchecked, Delivered, Error}
+use Rattle.call_lines.specs.declared.line.Line.{Line}
+use Rattle.call_lines.specs.Lines.{made_of, calls_of, book_of_lines, lines_at, line_at, IsJudged, AreLinesOf}
+use Rattle.call_lines.specs.Phases.{Mark, begun, mark_of, marks_after, operations_of, marks_of}
+use Rattle.call_lines.specs.Allotments.{phases_of}
+use Rattle.call_lines.specs.Workers.{IsJudgedBy, HasWorked}
+use Rattle.report_laws.specs.Working.{VerdictsStay, WorkersKeepToTheirAllotments, HaveWorked, WorkersLeaveTheLines, WorkersAreLawful}
+use Rattle.report_laws.proofs.Stepping.{length-marks_after}
+use Rattle.report_laws.proofs.Lines.{caller_within}
+use Rattle.report_laws.proofs.Worlds.{worlds_are_lawful}
+
+pub verdicts_stay : VerdictsStay
+verdicts_stay init next n l m Pending more h = tt
+verdicts_stay init next n l m (Unchecked r) more h = tt
+verdicts_stay init next n l m (Delivered r cut) more h = (h.0, gathered_stays n l m cut h.0 more h.1, h.2)
+verdicts_stay init next n l m (Error r cut) more h = (h.0, gathered_stays n l m cut h.0 more h.1, h.2)
+
+-- calls that are the same place by place are the same
+same_calls : (lines : List (List Line)) (locals : List Local) → length lines ≡ length locals
+    → ((i : ℕ) → i < length lines → map made_of (lines_at lines i) ≡ calls_in (local_at locals i)) → calls_of lines ≡ map calls_in locals
+same_calls [] [] long each = refl
+same_calls [] (l ∷ locals) long each = absurd (omega (arith, long))
+same_calls (own ∷ lines) [] long each = absurd (omega (arith, long))
+same_calls (own ∷ lines) (l ∷ locals) long each =
+    let first : map made_of own ≡ calls_in l = each 0 (omega arith) in
+    let others = same_calls lines locals (omega (arith, long)) (λ i low. each (suc i) (omega (arith, low))) in
+    cc
+
+-- a verdict by a book that a caller gathered is one by the book of all locals
+judged_from_gathered : (init : List ℕ) (next : List ℕ → ℕ → List ℕ × ℕ) (s : Shape) (locals : List Local) (t : AreTogether s locals) (i : ℕ) → i < s.callers
+    → (end : LineEnd) → IsJudgedBy init next s.callers (local_at locals i) end → IsJudged init next (book_in locals) end
+judged_from_gathered init next s locals t i low Pending h = tt
+judged_from_gathered init next s locals t i low (Unchecked r) h = tt
+judged_from_gathered init next s locals t i low (Delivered r cut) h =
+    subst (HasLegalOrder init next) (gathered_is_the_book_at s locals i cut h.0 t low h.1) h.2
+judged_from_gathered init next s locals t i low (Error r cut) h =
+    subst (λ (book : List Page). ¬ HasLegalOrder init next book) (gathered_is_the_book_at s locals i cut h.0 t low h.1) h.2
+
+pub workers_leave_the_lines : WorkersLeaveTheLines
+workers_leave_the_lines init next s operations allotments locals lines t have =
+    let same : calls_of lines ≡ map calls_in locals =
+    same_calls lines locals (have.callers ∙ sym (locals_have_phases s locals t).0) (λ i low. (have.worked i (omega (arith, low, have.callers))).calls) in
+    record {
+      calls = same;
+      judged = λ call line there.
+          let low : call.caller < s.callers = omega (arith, caller_within lines call line there, have.callers) in
+          let own : List Line = lines_at lines call.caller in
+          let each = (have.worked call.caller low).judged call.number line (slice_get_within own call.number line there) in
+          let by : IsJudgedBy init next s.callers (local_at locals call.caller) line.end =
+          subst (λ (l : Line). IsJudgedBy init next s.callers (local_at locals call.caller) l.end) (get_or_from_slice_get own call.number line line there) each in
+          subst (λ (book : List Page). IsJudged init next book line.end) (sym (ap book_of same)) (judged_from_gathered init next s locals t call.caller low line.end by);
+    }
+
+pub workers_keep_to_their_allotments : WorkersKeepToTheirAllotments
+workers_keep_to_their_allotments init next n operations allotment l own h =
+    let p : ℕ = phases_of allotment own in
+    let marks : marks_of (map made_of own) ≡ marks_after p = ap marks_of h.calls ∙ h.made.marks in
+    let long : begun p ≡ length own =
+    omega (
+      arith,
+      ap (λ (ms : List Mark). length ms) marks,
+      length-marks_after p,
+      length-map (map made_of own) (λ (c : Made). mark_of c.reached),
+      length-map own made_of,
+    ) in
+    record {
+      in_order = ap operations_of h.calls ∙ h.made.in_order ∙ ap (λ (n : ℕ). take n operations) long;
+      marks = marks;
+      keeps = h.keeps;
+    }
+
+pub workers_are_lawful : WorkersAreLawful
+workers_are_lawful init next s operations allotments locals lines t have =
+    worlds_are_lawful init next s operations allotments locals lines t (workers_leave_the_lines init next s operations allotments locals lines t have) (record {
+      allotted = λ i low.
+          workers_keep_to_their_allotments init next s.callers (slice_index_or operations i []) (slice_index allotments i) (local_at locals i) (lines_at lines i) (have.worked i low);
+      made = λ i low. (have.worked i low).made;
+    })

@@ -1,0 +1,38 @@
+-- A caller's phases, one by one: what each does to how far the caller has come.
+use Rattle.std.specs.Prelude.{◌≡◌, ℕ, ◌+◌, ◌*◌, ◌<◌, List, [], length, slice_index}
+use Rattle.book_base.specs.declared.call.Record.{Record}
+use Rattle.call_lines.specs.Phases.{Progress, IsProgressAfter}
+use Rattle.call_lines.specs.Progress.{after_announcing, after_viewing, after_publishing, after_seeing}
+
+-- Before its first phase a caller has no calls, and has published nothing.
+abbrev pub NoPhaseIsMade : Type 0
+NoPhaseIsMade = (operations : List ℕ) → IsProgressAfter operations 0 (record { calls = []; published = 0 })
+
+-- With k calls judged, a caller that has an operation left announces it.
+abbrev pub AnnouncingIsAPhase : Type 0
+AnnouncingIsAPhase =
+    (operations : List ℕ) (k : ℕ) (progress : Progress) → k < length operations → IsProgressAfter operations (5 * k) progress
+    → IsProgressAfter operations (5 * k + 1) (after_announcing (slice_index operations k) progress)
+
+-- To ask the object changes nothing here.
+abbrev pub AskingIsAPhase : Type 0
+AskingIsAPhase =
+    (operations : List ℕ) (k : ℕ) (progress : Progress) → IsProgressAfter operations (5 * k + 1) progress → IsProgressAfter operations (5 * k + 2) progress
+
+-- The view gives the call its record.
+abbrev pub ViewingIsAPhase : Type 0
+ViewingIsAPhase =
+    (operations : List ℕ) (k : ℕ) (progress : Progress) (r : Record) → IsProgressAfter operations (5 * k + 2) progress
+    → IsProgressAfter operations (5 * k + 3) (after_viewing r progress)
+
+-- The record is published.
+abbrev pub PublishingIsAPhase : Type 0
+PublishingIsAPhase =
+    (operations : List ℕ) (k : ℕ) (progress : Progress) → IsProgressAfter operations (5 * k + 3) progress
+    → IsProgressAfter operations (5 * k + 4) (after_publishing progress)
+
+-- The call gets its seen cut, and is judged.
+abbrev pub SeeingIsAPhase : Type 0
+SeeingIsAPhase =
+    (operations : List ℕ) (k : ℕ) (progress : Progress) (cut : List ℕ) → IsProgressAfter operations (5 * k + 4) progress
+    → IsProgressAfter operations (5 * (k + 1)) (after_seeing cut progress)

@@ -1,0 +1,42 @@
+-- What the workers of all callers leave, each said of its own caller alone, is a lawful report.
+use Rattle.std.specs.Prelude.{◌≡◌, ℕ, ◌<◌, List, length, slice_index}
+use Rattle.world_core.specs.Shape.{Shape}
+use Rattle.world_core.specs.Local.{Local}
+use Rattle.world_core.specs.Calls.{AreTogether, local_at}
+use Rattle.world_books.specs.Gathering.{HasPeekedAll}
+use Rattle.call_lines.specs.declared.line.LineEnd.{LineEnd}
+use Rattle.call_lines.specs.declared.line.Line.{Line}
+use Rattle.call_lines.specs.Lines.{lines_at, AreLinesOf}
+use Rattle.call_lines.specs.Allotments.{operations_at}
+use Rattle.call_lines.specs.Lawful.{IsAllotted, IsLawful}
+use Rattle.call_lines.specs.Workers.{IsJudgedBy, HasWorked}
+
+-- A verdict by a gathered book stays one while its caller goes on.
+abbrev pub VerdictsStay : Type 0
+VerdictsStay =
+    (init : List ℕ) (next : List ℕ → ℕ → List ℕ × ℕ) (n : ℕ) (l m : Local) (end : LineEnd)
+    → HasPeekedAll l m → IsJudgedBy init next n l end → IsJudgedBy init next n m end
+
+-- The lines that a worker leaves are those of its allotment.
+abbrev pub WorkersKeepToTheirAllotments : Type 0
+WorkersKeepToTheirAllotments =
+    (init : List ℕ) (next : List ℕ → ℕ → List ℕ × ℕ) (n : ℕ) (operations : List ℕ) (allotment : ℕ) (l : Local) (own : List Line)
+    → HasWorked init next n operations allotment l own → IsAllotted operations allotment own
+
+-- Each caller of a world has worked, in these locals and lines.
+pub record HaveWorked (init : List ℕ) (next : List ℕ → ℕ → List ℕ × ℕ) (s : Shape) (operations : List (List ℕ)) (allotments : List ℕ) (locals : List Local) (lines : List (List Line)) : Type 0 where
+  pub callers : length lines ≡ s.callers
+  pub worked : (i : ℕ) → i < s.callers → HasWorked init next s.callers (operations_at operations i) (slice_index allotments i) (local_at locals i) (lines_at lines i)
+
+-- The lines that all workers leave are those of the locals that they leave: the book that each verdict was found by is the book of all
+-- lines at the line's seen cut.
+abbrev pub WorkersLeaveTheLines : Type 0
+WorkersLeaveTheLines =
+    (init : List ℕ) (next : List ℕ → ℕ → List ℕ × ℕ) (s : Shape) (operations : List (List ℕ)) (allotments : List ℕ) (locals : List Local) (lines : List (List Line))
+    → AreTogether s locals → HaveWorked init next s operations allotments locals lines → AreLinesOf init next locals lines
+
+-- And they are lawful.
+abbrev pub WorkersAreLawful : Type 0
+WorkersAreLawful =
+    (init : List ℕ) (next : List ℕ → ℕ → List ℕ × ℕ) (s : Shape) (operations : List (List ℕ)) (allotments : List ℕ) (locals : List Local) (lines : List (List Line))
+    → AreTogether s locals → HaveWorked init next s operations allotments locals lines → IsLawful init next s operations allotments lines

@@ -1,0 +1,43 @@
+//! The laws of reports. Each is the contract of a function with nothing in it.
+
+ghost use Rattle.report_laws.specs.Reporting.{WorldsAreLawful, LocalsDetermineLines, ErrorsAreFinal};
+ghost use Rattle.report_laws.specs.Steps.{NoPhaseIsMade, AnnouncingIsAPhase, AskingIsAPhase, ViewingIsAPhase, PublishingIsAPhase, SeeingIsAPhase};
+ghost use Rattle.report_laws.specs.Working.{VerdictsStay, WorkersKeepToTheirAllotments, WorkersLeaveTheLines, WorkersAreLawful};
+
+/// Phase by phase, a caller comes exactly as far as its phases go.
+pub fn phases_are_made_one_by_one()
+    ensures none { NoPhaseIsMade }
+    ensures announcing { AnnouncingIsAPhase }
+    ensures asking { AskingIsAPhase }
+    ensures viewing { ViewingIsAPhase }
+    ensures publishing { PublishingIsAPhase }
+    ensures seeing { SeeingIsAPhase }
+{}
+
+/// A verdict by a book that a caller gathered stays one while that caller goes on.
+pub fn verdicts_stay()
+    ensures { VerdictsStay }
+{}
+
+/// The lines of locals that are together, where each caller has made all its phases, are a lawful report.
+pub fn lawful_from_worlds()
+    ensures { WorldsAreLawful }
+{}
+
+/// What the workers of all callers leave, each said of its own caller alone, are the lines of the locals
+/// that they leave, and lawful.
+pub fn lawful_from_workers()
+    ensures allotted { WorkersKeepToTheirAllotments }
+    ensures lines { WorkersLeaveTheLines }
+    ensures lawful { WorkersAreLawful }
+{}
+
+/// Locals have one report: the same calls, and on each the same verdict.
+pub fn locals_determine_lines()
+    ensures { LocalsDetermineLines }
+{}
+
+/// In a lawful report no delivered line saw what an error line saw (Castañeda and Rodríguez 2023).
+pub fn errors_are_final()
+    ensures { ErrorsAreFinal }
+{}
