@@ -5,3 +5,4 @@ pub mod Worlds
 pub mod Workers
 pub mod Determined
 pub mod Finality
+pub mod Worked

@@ -1,3 +1,4 @@
 pub mod Steps
 pub mod Working
 pub mod Reporting
+pub mod Cases

@@ -1,0 +1,44 @@
+//! Worked reports: each law's premises are met by runs that are written out, and what isn't lawful of them.
+
+ghost use Rattle.std.specs.Prelude.{[], ◌∷◌, take};
+ghost use Rattle.world_core.specs.Schedules.{pair, two_calls, tenfold, silent};
+ghost use Rattle.world_core.specs.World.{IsRun};
+ghost use Rattle.world_core.specs.Calls.{AreTogether};
+ghost use Rattle.world_books.specs.Cases.{locals_after};
+ghost use Rattle.call_lines.specs.Lines.{AreLinesOf};
+ghost use Rattle.call_lines.specs.Lawful.{IsLawful};
+ghost use Rattle.report_laws.specs.Reporting.{HaveMade};
+ghost use Rattle.report_laws.specs.Cases.{five_and_six, both_delivered, both_failed, first_failed, seen_otherwise, stopped, nothing};
+
+/// A run of two whole calls: where the object should give ten times the operation, both are delivered, and
+/// the report is lawful; where it should give 0, both are errors, and that report is lawful. Every other
+/// verdict is wrong.
+pub fn a_run_is_reported()
+    ensures run { IsRun pair two_calls }
+    ensures lines { AreLinesOf [] tenfold (locals_after two_calls) both_delivered }
+    ensures made { HaveMade pair five_and_six (5 ∷ 5 ∷ []) (locals_after two_calls) both_delivered }
+    ensures lawful { IsLawful [] tenfold pair five_and_six (5 ∷ 5 ∷ []) both_delivered }
+    ensures errors { AreLinesOf [] silent (locals_after two_calls) both_failed }
+    ensures lawful_errors { IsLawful [] silent pair five_and_six (5 ∷ 5 ∷ []) both_failed }
+    ensures false_error { ¬ IsLawful [] tenfold pair five_and_six (5 ∷ 5 ∷ []) both_failed }
+    ensures one_false_error { ¬ IsLawful [] tenfold pair five_and_six (5 ∷ 5 ∷ []) first_failed }
+    ensures missed_errors { ¬ IsLawful [] silent pair five_and_six (5 ∷ 5 ∷ []) both_delivered }
+    ensures one_missed_error { ¬ IsLawful [] silent pair five_and_six (5 ∷ 5 ∷ []) first_failed }
+    ensures other_cuts { ¬ IsLawful [] tenfold pair five_and_six (5 ∷ 5 ∷ []) seen_otherwise }
+{}
+
+/// An error ends its caller's lines: two calls of five phases each were to be made.
+pub fn an_error_ends_the_lines()
+    ensures lawful { IsLawful [] silent pair ((5 ∷ 7 ∷ []) ∷ (6 ∷ 8 ∷ []) ∷ []) (10 ∷ 10 ∷ []) both_failed }
+    ensures left_out { ¬ IsLawful [] tenfold pair ((5 ∷ 7 ∷ []) ∷ (6 ∷ 8 ∷ []) ∷ []) (10 ∷ 10 ∷ []) both_delivered }
+{}
+
+/// Stopped callers: one has its record, the other has announced its call; or neither has made a call.
+pub fn stopped_callers_are_reported()
+    ensures run { AreTogether pair (locals_after (take 24 two_calls)) }
+    ensures made { HaveMade pair five_and_six (3 ∷ 2 ∷ []) (locals_after (take 24 two_calls)) stopped }
+    ensures lawful { IsLawful [] silent pair five_and_six (3 ∷ 2 ∷ []) stopped }
+    ensures without_calls { IsLawful [] silent pair five_and_six (0 ∷ 0 ∷ []) nothing }
+    ensures too_few { ¬ IsLawful [] silent pair five_and_six (0 ∷ 1 ∷ []) nothing }
+    ensures a_caller_left_out { ¬ IsLawful [] silent pair five_and_six (0 ∷ 0 ∷ []) ([] ∷ []) }
+{}
