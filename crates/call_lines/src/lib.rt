@@ -3,5 +3,6 @@
 
 mod line;
 pub mod cases;
+pub mod laws;
 
 pub use line::{Line, LineEnd};

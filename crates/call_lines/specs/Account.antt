@@ -1,0 +1,60 @@
+-- The parts of a local that tell of its calls; and how far the caller has come as one of them grows.
+use Rattle.std.specs.Prelude.{◌≡◌, ℕ, ◌+◌, List, [], ◌∷◌, ◌++◌, slice_index}
+use Rattle.book_base.specs.declared.call.Record.{Record}
+use Rattle.world_core.specs.Local.{Local, Announcing, Asking, Viewing, Judging}
+use Rattle.world_core.specs.Event.{Announce, Publish, staged_operation, local_after}
+use Rattle.world_core.specs.Agreement.{HasPhase}
+use Rattle.call_lines.specs.Phases.{progress_of}
+use Rattle.call_lines.specs.Progress.{after_announcing, after_viewing, after_publishing, after_seeing}
+
+-- A caller's operations, replies, views and seen cuts, and its count of published records.
+pub record Account : Type 0 where
+  pub operations : List ℕ
+  pub replies : List ℕ
+  pub views : List (List ℕ)
+  pub seen : List (List ℕ)
+  pub published : ℕ
+
+abbrev pub account_of : Local → Account
+account_of l = record { operations = l.operations; replies = l.replies; views = l.views; seen = l.seen; published = l.published }
+
+-- Where all of it stays, a caller has come as far as before.
+abbrev pub NothingGrows : Type 0
+NothingGrows = (l m : Local) → account_of m ≡ account_of l → progress_of m ≡ progress_of l
+
+-- One more operation is one more call.
+abbrev pub OperationsAreCalls : Type 0
+OperationsAreCalls =
+    (l m : Local) (operation : ℕ) → HasPhase l → l.phase ≡ Announcing
+    → account_of m ≡ record (account_of l) { operations = l.operations ++ operation ∷ [] } → progress_of m ≡ after_announcing operation (progress_of l)
+
+-- A reply is no record yet.
+abbrev pub RepliesAreNoRecords : Type 0
+RepliesAreNoRecords =
+    (l m : Local) (reply : ℕ) → HasPhase l → l.phase ≡ Asking
+    → account_of m ≡ record (account_of l) { replies = l.replies ++ reply ∷ [] } → progress_of m ≡ progress_of l
+
+-- With its view it is one: that of the last call.
+abbrev pub ViewsMakeRecords : Type 0
+ViewsMakeRecords =
+    (l m : Local) (view : List ℕ) → HasPhase l → l.phase ≡ Viewing → account_of m ≡ record (account_of l) { views = l.views ++ view ∷ [] }
+    → progress_of m ≡ after_viewing (record { reply = slice_index l.replies l.published; view = view }) (progress_of l)
+
+-- One more record is published.
+abbrev pub PublicationsCount : Type 0
+PublicationsCount =
+    (l m : Local) → account_of m ≡ record (account_of l) { published = l.published + 1 } → progress_of m ≡ after_publishing (progress_of l)
+
+-- One more seen cut is that of the last call.
+abbrev pub SeenCutsAreOfTheLastCall : Type 0
+SeenCutsAreOfTheLastCall =
+    (l m : Local) (cut : List ℕ) → HasPhase l → l.phase ≡ Judging
+    → account_of m ≡ record (account_of l) { seen = l.seen ++ cut ∷ [] } → progress_of m ≡ after_seeing cut (progress_of l)
+
+-- So it is at an announcement and at a publication.
+abbrev pub AnnouncementsAreCalls : Type 0
+AnnouncementsAreCalls =
+    (n : ℕ) (l : Local) → HasPhase l → l.phase ≡ Announcing → progress_of (local_after n l Announce) ≡ after_announcing (staged_operation l.staged) (progress_of l)
+
+abbrev pub PublishesCount : Type 0
+PublishesCount = (n : ℕ) (l : Local) → progress_of (local_after n l Publish) ≡ after_publishing (progress_of l)

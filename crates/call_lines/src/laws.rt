@@ -1,0 +1,21 @@
+//! How far a caller has come, by the parts of its local that tell of its calls. Each law is the contract of a
+//! function with nothing in it.
+
+ghost use Rattle.call_lines.specs.Account.{NothingGrows, OperationsAreCalls, RepliesAreNoRecords, ViewsMakeRecords, PublicationsCount, SeenCutsAreOfTheLastCall, AnnouncementsAreCalls, PublishesCount};
+
+/// As an operation, a view, a seen cut or the count of published records is one more, the caller has come one
+/// phase further; with one more reply, or where nothing of them changes, it hasn't.
+pub fn locals_tell_how_far_callers_are()
+    ensures nothing { NothingGrows }
+    ensures operations { OperationsAreCalls }
+    ensures replies { RepliesAreNoRecords }
+    ensures views { ViewsMakeRecords }
+    ensures publications { PublicationsCount }
+    ensures seen { SeenCutsAreOfTheLastCall }
+{}
+
+/// An announcement is one more call, and a publication one more published record.
+pub fn events_take_callers_on()
+    ensures announcements { AnnouncementsAreCalls }
+    ensures publications { PublishesCount }
+{}
