@@ -74,5 +74,5 @@ answers_in calls = flat_map (λ (c : Made). map (λ (r : Record). (c.operation, 
 -- What an object tells of a caller that has made p phases, an operation and a reply for each call that it was asked: the operations
 -- are those of the first calls, and the first replies those of the answered calls. So there is at most one pair more than answers.
 pub record IsTold (p : ℕ) (calls : List Made) (pairs : List (ℕ × ℕ)) : Type 0 where
-  pub asked : map (λ (pair : ℕ × ℕ). pair.0) pairs ≡ take (asked p) (operations_of calls)
-  pub answered : take (answered p) pairs ≡ answers_in calls
+  pub operations : map (λ (pair : ℕ × ℕ). pair.0) pairs ≡ take (asked p) (operations_of calls)
+  pub replies : take (answered p) pairs ≡ answers_in calls

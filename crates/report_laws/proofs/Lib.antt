@@ -1,4 +1,5 @@
 pub mod Stepping
+pub mod Telling
 pub mod Pieces
 pub mod Lines
 pub mod Worlds

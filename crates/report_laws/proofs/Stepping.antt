@@ -9,7 +9,7 @@ use Rattle.call_lines.specs.Progress.{with_last, with_seen, after_viewing, after
 use Rattle.report_laws.specs.Steps.{ViewingIsAPhase, SeeingIsAPhase}
 
 -- the operations stay
-operations_of-with_last : (further : Reached → Reached) (calls : List Made) → operations_of (with_last further calls) ≡ operations_of calls
+pub operations_of-with_last : (further : Reached → Reached) (calls : List Made) → operations_of (with_last further calls) ≡ operations_of calls
 operations_of-with_last further [] = refl
 operations_of-with_last further (c ∷ []) = refl
 operations_of-with_last further (c ∷ d ∷ calls) = ap (λ (ops : List ℕ). c.operation ∷ ops) (operations_of-with_last further (d ∷ calls))
@@ -57,7 +57,7 @@ pub length-marks_after : (p : ℕ) → length (marks_after p) ≡ begun p
 length-marks_after p = as_many_marks p (p % 5) refl
 
 -- The marks behind k judged calls.
-marks_with : (k p : ℕ) → p / 5 ≡ k → (place : ℕ) → p % 5 ≡ place → marks_after p ≡ replicate k Seen ++ mark_under_way place
+pub marks_with : (k p : ℕ) → p / 5 ≡ k → (place : ℕ) → p % 5 ≡ place → marks_after p ≡ replicate k Seen ++ mark_under_way place
 marks_with k p judged place under_way =
     ap (λ (n : ℕ). replicate n Seen ++ mark_under_way (p % 5)) judged ∙ ap (λ (n : ℕ). replicate k Seen ++ mark_under_way n) under_way
 

@@ -1,8 +1,10 @@
 -- What the workers of all callers leave are the lines of the locals that they leave.
-use Rattle.std.proofs.Common.{◌≡◌, ℕ, zero, suc, ◌+◌, ◌<◌, ◌≤◌, List, [], ◌∷◌, length, map, take, Some, slice_get, slice_index, slice_index_or, refl, sym, ap, ◌∙◌, subst, arith}
+use Rattle.std.proofs.Common.{◌≡◌, ℕ, zero, suc, ◌+◌, ◌<◌, ◌≤◌, List, [], ◌∷◌, length, map, take, Bool, true, false, cond, ◌*◌, ◌++◌, ◌||◌, inl, inr, Some, slice_get, slice_index, slice_index_or, refl, sym, ap, ◌∙◌, subst, arith}
 use Rattle.std.specs.List.{All}
-use Rattle.std.proofs.lemmas.List.{length-map}
+use Rattle.std.proofs.lemmas.Bool.{false≢true}
+use Rattle.std.proofs.lemmas.List.{length-map, length_push}
 use Rattle.std.proofs.lemmas.Option.{none-some, same_Some, slice_get_within, get_or_from_slice_get}
+use Rattle.list_laws.proofs.Places.{slice_get-push_last, slice_get-push_cases}
 use Rattle.book_base.specs.declared.call.Call.{Call}
 use Rattle.book_base.specs.Book.{Page}
 use Rattle.book_base.specs.BookAt.{book_at}
@@ -15,11 +17,11 @@ use Rattle.world_books.proofs.Gathered.{gathered_is_the_book_at, gathered_stays}
 use Rattle.call_lines.specs.declared.line.LineEnd.{LineEnd}
 use Rattle.call_lines.specs.declared.line.LineEnd.TheVariants.{Pending, Unchecked, Delivered, Error}
 use Rattle.call_lines.specs.declared.line.Line.{Line}
-use Rattle.call_lines.specs.Lines.{made_of, calls_of, book_of_lines, lines_at, line_at, IsJudged, AreLinesOf}
-use Rattle.call_lines.specs.Phases.{Mark, begun, mark_of, marks_after, operations_of, marks_of}
+use Rattle.call_lines.specs.Lines.{made_of, calls_of, book_of_lines, lines_at, line_at, is_error, any_error, IsJudged, AreLinesOf}
+use Rattle.call_lines.specs.Phases.{Mark, begun, mark_of, marks_after, operations_of, marks_of, HasMade}
 use Rattle.call_lines.specs.Allotments.{phases_of}
 use Rattle.call_lines.specs.Workers.{IsJudgedBy, HasWorked}
-use Rattle.report_laws.specs.Working.{VerdictsStay, WorkersKeepToTheirAllotments, HaveWorked, WorkersLeaveTheLines, WorkersAreLawful}
+use Rattle.report_laws.specs.Working.{VerdictsStay, WorkersGoThrough, WorkersHalt, WorkersKeepToTheirAllotments, HaveWorked, WorkersLeaveTheLines, WorkersAreLawful}
 use Rattle.report_laws.proofs.Stepping.{length-marks_after}
 use Rattle.report_laws.proofs.Lines.{caller_within}
 use Rattle.report_laws.proofs.Worlds.{worlds_are_lawful}
@@ -29,6 +31,16 @@ verdicts_stay init next n l m Pending more h = tt
 verdicts_stay init next n l m (Unchecked r) more h = tt
 verdicts_stay init next n l m (Delivered r cut) more h = (h.0, gathered_stays n l m cut h.0 more h.1, h.2)
 verdicts_stay init next n l m (Error r cut) more h = (h.0, gathered_stays n l m cut h.0 more h.1, h.2)
+
+-- an error line among some lines is an error of them
+any_at : (own : List Line) (k : ℕ) (line : Line) → slice_get own k ≡ Some line → is_error line ≡ true → any_error own ≡ true
+any_at [] k line there error = absurd (none-some line there)
+any_at (first ∷ own) zero line there error = ap (λ (b : Bool). b || any_error own) (ap is_error (same_Some first line there) ∙ error)
+any_at (first ∷ own) (suc k) line there error = behind (is_error first) (any_error own) (any_at own k line there error)
+  where
+    behind : (a b : Bool) → b ≡ true → (a || b) ≡ true
+    behind true b e = refl
+    behind false b e = e
 
 -- calls that are the same place by place are the same
 same_calls : (lines : List (List Line)) (locals : List Local) → length lines ≡ length locals
@@ -82,6 +94,39 @@ workers_keep_to_their_allotments init next n operations allotment l own h =
       in_order = ap operations_of h.calls ∙ h.made.in_order ∙ ap (λ (n : ℕ). take n operations) long;
       marks = marks;
       keeps = h.keeps;
+    }
+
+-- lines without an error keep to every allotment
+pub workers_go_through : WorkersGoThrough
+workers_go_through init next n operations allotment l own calls none made judged =
+    let phases : phases_of allotment own ≡ allotment = ap (λ (b : Bool). cond b (5 * length own) allotment) none in
+    record {
+      calls = calls;
+      made = subst (λ (p : ℕ). HasMade operations p l) (sym phases) made;
+      keeps = record {
+        within = omega (arith, phases);
+        last = λ k line there error. absurd (false≢true (sym none ∙ any_at own k line there error));
+      };
+      judged = judged;
+    }
+
+pub workers_halt : WorkersHalt
+workers_halt init next n operations allotment l own line calls none error made few judged =
+    let all : List Line = own ++ line ∷ [] in
+    let some : any_error all ≡ true = any_at all (length own) line (slice_get-push_last own line) error in
+    let long : length all ≡ length own + 1 = length_push own line in
+    let phases : phases_of allotment all ≡ 5 * (length own + 1) = ap (λ (b : Bool). cond b (5 * length all) allotment) some ∙ omega (arith, long) in
+    record {
+      calls = calls;
+      made = subst (λ (p : ℕ). HasMade operations p l) (sym phases) made;
+      keeps = record {
+        within = omega (arith, phases, few);
+        last = λ k other there e. elim (slice_get-push_cases own line k other there) [
+          | inl before ↦ absurd (false≢true (sym none ∙ any_at own k other before e))
+          | inr at ↦ omega (arith, at.0, long)
+        ];
+      };
+      judged = judged;
     }
 
 pub workers_are_lawful : WorkersAreLawful

@@ -1,4 +1,5 @@
 pub mod Steps
+pub mod Telling
 pub mod Working
 pub mod Reporting
 pub mod Cases

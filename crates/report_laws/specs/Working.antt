@@ -1,12 +1,14 @@
 -- What the workers of all callers leave, each said of its own caller alone, is a lawful report.
-use Rattle.std.specs.Prelude.{◌≡◌, ℕ, ◌<◌, List, length, slice_index}
+use Rattle.std.specs.Prelude.{◌≡◌, ℕ, ◌+◌, ◌*◌, ◌<◌, ◌≤◌, true, false, List, [], ◌∷◌, ◌++◌, length, map, slice_index}
+use Rattle.std.specs.List.{All}
 use Rattle.world_core.specs.Shape.{Shape}
 use Rattle.world_core.specs.Local.{Local}
-use Rattle.world_core.specs.Calls.{AreTogether, local_at}
+use Rattle.world_core.specs.Calls.{AreTogether, calls_in, local_at}
 use Rattle.world_books.specs.Gathering.{HasPeekedAll}
 use Rattle.call_lines.specs.declared.line.LineEnd.{LineEnd}
 use Rattle.call_lines.specs.declared.line.Line.{Line}
-use Rattle.call_lines.specs.Lines.{lines_at, AreLinesOf}
+use Rattle.call_lines.specs.Lines.{made_of, lines_at, is_error, any_error, AreLinesOf}
+use Rattle.call_lines.specs.Phases.{HasMade}
 use Rattle.call_lines.specs.Allotments.{operations_at}
 use Rattle.call_lines.specs.Lawful.{IsAllotted, IsLawful}
 use Rattle.call_lines.specs.Workers.{IsJudgedBy, HasWorked}
@@ -16,6 +18,21 @@ abbrev pub VerdictsStay : Type 0
 VerdictsStay =
     (init : List ℕ) (next : List ℕ → ℕ → List ℕ × ℕ) (n : ℕ) (l m : Local) (end : LineEnd)
     → HasPeekedAll l m → IsJudgedBy init next n l end → IsJudgedBy init next n m end
+
+-- What a worker leaves that made all phases of its allotment, and met no error.
+abbrev pub WorkersGoThrough : Type 0
+WorkersGoThrough =
+    (init : List ℕ) (next : List ℕ → ℕ → List ℕ × ℕ) (n : ℕ) (operations : List ℕ) (allotment : ℕ) (l : Local) (own : List Line)
+    → map made_of own ≡ calls_in l → any_error own ≡ false → HasMade operations allotment l → All (λ (line : Line). IsJudgedBy init next n l line.end) own
+    → HasWorked init next n operations allotment l own
+
+-- And what it leaves that halted at an error, behind lines without one.
+abbrev pub WorkersHalt : Type 0
+WorkersHalt =
+    (init : List ℕ) (next : List ℕ → ℕ → List ℕ × ℕ) (n : ℕ) (operations : List ℕ) (allotment : ℕ) (l : Local) (own : List Line) (line : Line)
+    → map made_of (own ++ line ∷ []) ≡ calls_in l → any_error own ≡ false → is_error line ≡ true
+    → HasMade operations (5 * (length own + 1)) l → 5 * (length own + 1) ≤ allotment
+    → All (λ (line : Line). IsJudgedBy init next n l line.end) (own ++ line ∷ []) → HasWorked init next n operations allotment l (own ++ line ∷ [])
 
 -- The lines that a worker leaves are those of its allotment.
 abbrev pub WorkersKeepToTheirAllotments : Type 0

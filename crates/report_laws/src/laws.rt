@@ -2,7 +2,8 @@
 
 ghost use Rattle.report_laws.specs.Reporting.{WorldsAreLawful, LocalsDetermineLines, ErrorsAreFinal};
 ghost use Rattle.report_laws.specs.Steps.{NoPhaseIsMade, AnnouncingIsAPhase, AskingIsAPhase, ViewingIsAPhase, PublishingIsAPhase, SeeingIsAPhase};
-ghost use Rattle.report_laws.specs.Working.{VerdictsStay, WorkersKeepToTheirAllotments, WorkersLeaveTheLines, WorkersAreLawful};
+ghost use Rattle.report_laws.specs.Telling.{NothingIsTold, ToldAsAnnounced, ToldAsAsked, ToldAsViewed, ToldAsPublished, ToldAsSeen};
+ghost use Rattle.report_laws.specs.Working.{VerdictsStay, WorkersGoThrough, WorkersHalt, WorkersKeepToTheirAllotments, WorkersLeaveTheLines, WorkersAreLawful};
 
 /// Phase by phase, a caller comes exactly as far as its phases go.
 pub fn phases_are_made_one_by_one()
@@ -14,9 +15,26 @@ pub fn phases_are_made_one_by_one()
     ensures seeing { SeeingIsAPhase }
 {}
 
+/// Phase by phase, an object that tells its pairs tells an operation and a reply for each call that it was
+/// asked.
+pub fn objects_tell_phase_by_phase()
+    ensures none { NothingIsTold }
+    ensures announcing { ToldAsAnnounced }
+    ensures asking { ToldAsAsked }
+    ensures viewing { ToldAsViewed }
+    ensures publishing { ToldAsPublished }
+    ensures seeing { ToldAsSeen }
+{}
+
 /// A verdict by a book that a caller gathered stays one while that caller goes on.
 pub fn verdicts_stay()
     ensures { VerdictsStay }
+{}
+
+/// Where a worker went through its allotment, or halted at an error, it has worked.
+pub fn workers_go_through_or_halt()
+    ensures through { WorkersGoThrough }
+    ensures halted { WorkersHalt }
 {}
 
 /// The lines of locals that are together, where each caller has made all its phases, are a lawful report.
