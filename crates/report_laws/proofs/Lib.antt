@@ -7,3 +7,4 @@ pub mod Workers
 pub mod Determined
 pub mod Finality
 pub mod Worked
+pub mod Runs

@@ -1,12 +1,16 @@
 -- The lines of a reachable world's locals are a lawful report; and what holds of each lawful report.
-use Rattle.std.specs.Prelude.{◌≡◌, ℕ, ◌<◌, List, Some, slice_index}
+use Rattle.std.specs.Prelude.{◌≡◌, ℕ, ◌<◌, List, Some, None, slice_index}
 use Rattle.book_base.specs.declared.call.Call.{Call}
 use Rattle.book_base.specs.Cut.{IsWithin}
+use Rattle.world_core.specs.declared.region.Region.TheVariants.{M}
 use Rattle.world_core.specs.Shape.{Shape}
 use Rattle.world_core.specs.Local.{Local}
+use Rattle.world_core.specs.World.{Step, IsRun, end_of}
+use Rattle.world_core.specs.History.{IsLinearizable, history_of}
 use Rattle.world_core.specs.Calls.{AreTogether, local_at}
+use Rattle.world_laws.specs.Cuts.{WereOwnCounts}
 use Rattle.call_lines.specs.declared.line.Line.{Line}
-use Rattle.call_lines.specs.Lines.{lines_at, delivered_at, error_at, AreLinesOf}
+use Rattle.call_lines.specs.Lines.{lines_at, seen_at, delivered_at, error_at, AreLinesOf}
 use Rattle.call_lines.specs.Phases.{HasMade}
 use Rattle.call_lines.specs.Allotments.{operations_at, phases_of}
 use Rattle.call_lines.specs.Lawful.{IsAllotted, IsLawful}
@@ -35,3 +39,15 @@ ErrorsAreFinal =
     (init : List ℕ) (next : List ℕ → ℕ → List ℕ × ℕ) (s : Shape) (operations : List (List ℕ)) (allotments : List ℕ) (lines : List (List Line)) (a b : Call) (x y : List ℕ)
     → IsLawful init next s operations allotments lines → delivered_at lines a ≡ Some x → error_at lines b ≡ Some y
     → IsWithin x y × ¬ IsWithin y x
+
+-- What a line saw was published: at one moment of a run that ends with these locals the callers' published records were exactly those.
+abbrev pub SeenCutsWerePublished : Type 0
+SeenCutsWerePublished =
+    (init : List ℕ) (next : List ℕ → ℕ → List ℕ × ℕ) (s : Shape) (locals : List Local) (lines : List (List Line)) (call : Call) (cut : List ℕ)
+    → AreTogether s locals → AreLinesOf init next locals lines → seen_at lines call ≡ Some cut → WereOwnCounts s locals M cut
+
+-- Where the object history of a run is linearizable, none of the lines of its locals is an error.
+abbrev pub LinearizableRunsHaveNoError : Type 0
+LinearizableRunsHaveNoError =
+    (init : List ℕ) (next : List ℕ → ℕ → List ℕ × ℕ) (s : Shape) (steps : List Step) (lines : List (List Line)) (call : Call) → IsRun s steps
+    → IsLinearizable init next (history_of s steps) → AreLinesOf init next (end_of s steps).locals lines → error_at lines call ≡ None

@@ -1,6 +1,6 @@
 //! The laws of reports. Each is the contract of a function with nothing in it.
 
-ghost use Rattle.report_laws.specs.Reporting.{WorldsAreLawful, LocalsDetermineLines, ErrorsAreFinal};
+ghost use Rattle.report_laws.specs.Reporting.{WorldsAreLawful, LocalsDetermineLines, ErrorsAreFinal, SeenCutsWerePublished, LinearizableRunsHaveNoError};
 ghost use Rattle.report_laws.specs.Steps.{NoPhaseIsMade, AnnouncingIsAPhase, AskingIsAPhase, ViewingIsAPhase, PublishingIsAPhase, SeeingIsAPhase};
 ghost use Rattle.report_laws.specs.Telling.{NothingIsTold, ToldAsAnnounced, ToldAsAsked, ToldAsViewed, ToldAsPublished, ToldAsSeen};
 ghost use Rattle.report_laws.specs.Working.{VerdictsStay, WorkersGoThrough, WorkersHalt, WorkersKeepToTheirAllotments, WorkersLeaveTheLines, WorkersAreLawful};
@@ -58,4 +58,15 @@ pub fn locals_determine_lines()
 /// In a lawful report no delivered line saw what an error line saw (Castañeda and Rodríguez 2023).
 pub fn errors_are_final()
     ensures { ErrorsAreFinal }
+{}
+
+/// The book that a verdict speaks of was the table's at one moment: what a line saw was exactly what was
+/// published then (Afek and others 1993).
+pub fn seen_cuts_were_published()
+    ensures { SeenCutsWerePublished }
+{}
+
+/// No line of a run over linearizable object calls is an error, whatever its program.
+pub fn linearizable_runs_have_no_error()
+    ensures { LinearizableRunsHaveNoError }
 {}
