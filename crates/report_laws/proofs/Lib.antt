@@ -8,3 +8,4 @@ pub mod Determined
 pub mod Finality
 pub mod Worked
 pub mod Runs
+pub mod WorkedWorkers

@@ -1,6 +1,9 @@
 -- Worked reports of two callers, of the run in which each of them makes one whole call.
-use Rattle.std.specs.Prelude.{ℕ, List, [], ◌∷◌}
+use Rattle.std.specs.Prelude.{ℕ, List, [], ◌∷◌, ◌++◌, length, drop}
 use Rattle.book_base.specs.declared.call.Record.{Record}
+use Rattle.world_core.specs.World.{Step}
+use Rattle.world_core.specs.Schedules.{announced_both, published_one, judged_both, two_calls}
+use Rattle.world_books.specs.Cases.{gathering}
 use Rattle.call_lines.specs.declared.line.Line.{Line}
 use Rattle.call_lines.specs.Cases.{answer, pending, unchecked, delivered, failed}
 
@@ -36,3 +39,11 @@ stopped = (unchecked 5 fifty ∷ []) ∷ (pending 6 ∷ []) ∷ []
 -- Neither has made a call.
 abbrev pub nothing : List (List Line)
 nothing = [] ∷ [] ∷ []
+
+-- The first caller stops before it judges, and the second is delivered.
+abbrev pub one_unchecked : List (List Line)
+one_unchecked = (unchecked 5 fifty ∷ []) ∷ (delivered 6 sixty (1 ∷ 1 ∷ []) ∷ []) ∷ []
+
+-- A run that leaves these lines: the second caller peeks each word of the book at its seen cut.
+abbrev pub one_judging : List Step
+one_judging = ((announced_both ++ published_one) ++ judged_both) ++ drop (length two_calls) gathering

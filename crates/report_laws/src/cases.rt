@@ -1,14 +1,17 @@
 //! Worked reports: each law's premises are met by runs that are written out, and what isn't lawful of them.
 
 ghost use Rattle.std.specs.Prelude.{[], ◌∷◌, take};
-ghost use Rattle.world_core.specs.Schedules.{pair, two_calls, tenfold, silent};
+ghost use Rattle.world_core.specs.Schedules.{pair, two_calls, tenfold, silent, local_at as local_after};
 ghost use Rattle.world_core.specs.World.{IsRun};
 ghost use Rattle.world_core.specs.Calls.{AreTogether};
 ghost use Rattle.world_books.specs.Cases.{locals_after};
+ghost use Rattle.call_lines.specs.declared.line.LineEnd.TheVariants.{Delivered};
 ghost use Rattle.call_lines.specs.Lines.{AreLinesOf};
 ghost use Rattle.call_lines.specs.Lawful.{IsLawful};
+ghost use Rattle.call_lines.specs.Workers.{IsJudgedBy};
 ghost use Rattle.report_laws.specs.Reporting.{HaveMade};
-ghost use Rattle.report_laws.specs.Cases.{five_and_six, both_delivered, both_failed, first_failed, seen_otherwise, stopped, nothing};
+ghost use Rattle.report_laws.specs.Working.{HaveWorked};
+ghost use Rattle.report_laws.specs.Cases.{five_and_six, both_delivered, both_failed, first_failed, seen_otherwise, sixty, stopped, nothing, one_unchecked, one_judging};
 
 /// A run of two whole calls: where the object should give ten times the operation, both are delivered, and
 /// the report is lawful; where it should give 0, both are errors, and that report is lawful. Every other
@@ -41,4 +44,16 @@ pub fn stopped_callers_are_reported()
     ensures without_calls { IsLawful [] silent pair five_and_six (0 ∷ 0 ∷ []) nothing }
     ensures too_few { ¬ IsLawful [] silent pair five_and_six (0 ∷ 1 ∷ []) nothing }
     ensures a_caller_left_out { ¬ IsLawful [] silent pair five_and_six (0 ∷ 0 ∷ []) ([] ∷ []) }
+{}
+
+/// What workers leave where one is stopped before it judges: the other has judged by words that it peeked.
+/// What it saw is no cut of a report where the first one is stopped before it published.
+pub fn workers_leave_a_report()
+    ensures run { IsRun pair one_judging }
+    ensures worked { HaveWorked [] tenfold pair five_and_six (4 ∷ 5 ∷ []) (locals_after one_judging) one_unchecked }
+    ensures lawful { IsLawful [] tenfold pair five_and_six (4 ∷ 5 ∷ []) one_unchecked }
+    ensures unpublished { ¬ IsLawful [] tenfold pair five_and_six (3 ∷ 5 ∷ []) one_unchecked }
+    // The same caller before it peeked a word: no book is one that it gathered at its seen cut.
+    ensures unread { ¬ IsJudgedBy [] tenfold 2 (local_after two_calls 1) (Delivered sixty (1 ∷ 1 ∷ [])) }
+    ensures read { IsJudgedBy [] tenfold 2 (local_after one_judging 1) (Delivered sixty (1 ∷ 1 ∷ [])) }
 {}

@@ -1,0 +1,23 @@
+use Rattle.std.proofs.Common.{◌≤◌, [], ◌∷◌, refl, arith}
+use Rattle.world_core.specs.Schedules.{pair, tenfold}
+use Rattle.world_books.specs.Cases.{locals_after}
+use Rattle.call_lines.specs.Cases.{call}
+use Rattle.report_laws.specs.Cases.{five_and_six, one_unchecked, one_judging}
+use Rattle.report_laws.proofs.Workers.{workers_are_lawful}
+use Rattle.report_laws.proofs.WorkedWorkers.{judging_together, read, both_worked, unread}
+use Rattle.report_laws.proofs.cases.workers_leave_a_report.Goals as goal
+
+pub returns-clause-worked : goal.returns-clause-worked
+returns-clause-worked c = both_worked
+
+pub returns-clause-lawful : goal.returns-clause-lawful
+returns-clause-lawful c = workers_are_lawful [] tenfold pair five_and_six (4 ∷ 5 ∷ []) (locals_after one_judging) one_unchecked judging_together both_worked
+
+pub returns-clause-unpublished : goal.returns-clause-unpublished
+returns-clause-unpublished c h = let low : 1 ≤ 0 = h.seen.within (call 1 0) (1 ∷ 1 ∷ []) refl 0 in absurd (omega (arith, low))
+
+pub returns-clause-unread : goal.returns-clause-unread
+returns-clause-unread c = unread
+
+pub returns-clause-read : goal.returns-clause-read
+returns-clause-read c = read
