@@ -9,3 +9,4 @@ pub mod Finality
 pub mod Worked
 pub mod Runs
 pub mod WorkedWorkers
+pub mod Fitting

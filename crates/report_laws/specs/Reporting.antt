@@ -1,7 +1,9 @@
 -- The lines of a reachable world's locals are a lawful report; and what holds of each lawful report.
-use Rattle.std.specs.Prelude.{◌≡◌, ℕ, ◌<◌, List, Some, None, slice_index}
+use Rattle.std.specs.Prelude.{◌≡◌, ℕ, ◌+◌, ◌<◌, List, length, Some, None, slice_get, slice_index}
 use Rattle.book_base.specs.declared.call.Call.{Call}
+use Rattle.book_base.specs.declared.call.Record.{Record}
 use Rattle.book_base.specs.Cut.{IsWithin}
+use Rattle.book_base.specs.Book.{answered}
 use Rattle.world_core.specs.declared.region.Region.TheVariants.{M}
 use Rattle.world_core.specs.Shape.{Shape}
 use Rattle.world_core.specs.Local.{Local}
@@ -9,8 +11,9 @@ use Rattle.world_core.specs.World.{Step, IsRun, end_of}
 use Rattle.world_core.specs.History.{IsLinearizable, history_of}
 use Rattle.world_core.specs.Calls.{AreTogether, local_at}
 use Rattle.world_laws.specs.Cuts.{WereOwnCounts}
+use Rattle.call_lines.specs.declared.line.LineEnd.TheVariants.{Delivered}
 use Rattle.call_lines.specs.declared.line.Line.{Line}
-use Rattle.call_lines.specs.Lines.{lines_at, seen_at, delivered_at, error_at, AreLinesOf}
+use Rattle.call_lines.specs.Lines.{book_of_lines, lines_at, seen_at, delivered_at, error_at, AreLinesOf}
 use Rattle.call_lines.specs.Phases.{HasMade}
 use Rattle.call_lines.specs.Allotments.{operations_at, phases_of}
 use Rattle.call_lines.specs.Lawful.{IsAllotted, IsLawful}
@@ -39,6 +42,18 @@ ErrorsAreFinal =
     (init : List ℕ) (next : List ℕ → ℕ → List ℕ × ℕ) (s : Shape) (operations : List (List ℕ)) (allotments : List ℕ) (lines : List (List Line)) (a b : Call) (x y : List ℕ)
     → IsLawful init next s operations allotments lines → delivered_at lines a ≡ Some x → error_at lines b ≡ Some y
     → IsWithin x y × ¬ IsWithin y x
+
+-- What a line saw is in the book of the lines: no count is above its caller's records.
+abbrev pub SeenCutsAreInTheBook : Type 0
+SeenCutsAreInTheBook =
+    (init : List ℕ) (next : List ℕ → ℕ → List ℕ × ℕ) (s : Shape) (locals : List Local) (lines : List (List Line)) (call : Call) (cut : List ℕ)
+    → AreTogether s locals → AreLinesOf init next locals lines → seen_at lines call ≡ Some cut → IsWithin cut (answered (book_of_lines lines))
+
+-- Of the lines of an allotment each but the last is delivered.
+abbrev pub LinesBeforeTheLastAreDelivered : Type 0
+LinesBeforeTheLastAreDelivered =
+    (operations : List ℕ) (allotment : ℕ) (own : List Line) (k : ℕ) (line : Line) → IsAllotted operations allotment own → slice_get own k ≡ Some line
+    → k + 1 < length own → (r : Record) × (cut : List ℕ) × (line.end ≡ Delivered r cut)
 
 -- What a line saw was published: at one moment of a run that ends with these locals the callers' published records were exactly those.
 abbrev pub SeenCutsWerePublished : Type 0

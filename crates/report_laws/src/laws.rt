@@ -1,6 +1,6 @@
 //! The laws of reports. Each is the contract of a function with nothing in it.
 
-ghost use Rattle.report_laws.specs.Reporting.{WorldsAreLawful, LocalsDetermineLines, ErrorsAreFinal, SeenCutsWerePublished, LinearizableRunsHaveNoError};
+ghost use Rattle.report_laws.specs.Reporting.{WorldsAreLawful, LocalsDetermineLines, ErrorsAreFinal, SeenCutsAreInTheBook, LinesBeforeTheLastAreDelivered, SeenCutsWerePublished, LinearizableRunsHaveNoError};
 ghost use Rattle.report_laws.specs.Steps.{NoPhaseIsMade, AnnouncingIsAPhase, AskingIsAPhase, ViewingIsAPhase, PublishingIsAPhase, SeeingIsAPhase};
 ghost use Rattle.report_laws.specs.Telling.{NothingIsTold, ToldAsAnnounced, ToldAsAsked, ToldAsViewed, ToldAsPublished, ToldAsSeen};
 ghost use Rattle.report_laws.specs.Working.{VerdictsStay, WorkersGoThrough, WorkersHalt, WorkersKeepToTheirAllotments, WorkersLeaveTheLines, WorkersAreLawful};
@@ -58,6 +58,12 @@ pub fn locals_determine_lines()
 /// In a lawful report no delivered line saw what an error line saw (Castañeda and Rodríguez 2023).
 pub fn errors_are_final()
     ensures { ErrorsAreFinal }
+{}
+
+/// What a line saw is in the book of the lines, and each line but a caller's last is delivered.
+pub fn lines_fit_a_report()
+    ensures seen { SeenCutsAreInTheBook }
+    ensures delivered { LinesBeforeTheLastAreDelivered }
 {}
 
 /// The book that a verdict speaks of was the table's at one moment: what a line saw was exactly what was
