@@ -46,7 +46,7 @@ seen_in l k r cut e =
     ]
 
 -- the calls of a caller among those of all
-calls_at : (locals : List Local) (i : ℕ) → slice_index_or (map calls_in locals) i [] ≡ calls_in (local_at locals i)
+pub calls_at : (locals : List Local) (i : ℕ) → slice_index_or (map calls_in locals) i [] ≡ calls_in (local_at locals i)
 calls_at [] i = refl
 calls_at (l ∷ ls) zero = refl
 calls_at (l ∷ ls) (suc i) = calls_at ls i

@@ -6,12 +6,12 @@ ghost use Rattle.world_core.specs.World.{IsRun};
 ghost use Rattle.world_core.specs.Calls.{AreTogether};
 ghost use Rattle.world_books.specs.Cases.{locals_after};
 ghost use Rattle.call_lines.specs.declared.line.LineEnd.TheVariants.{Delivered};
-ghost use Rattle.call_lines.specs.Lines.{AreLinesOf};
-ghost use Rattle.call_lines.specs.Lawful.{IsLawful};
+ghost use Rattle.call_lines.specs.Lines.{lines_at, AreLinesOf};
+ghost use Rattle.call_lines.specs.Lawful.{IsAllotted, AreSeen, IsLawful};
 ghost use Rattle.call_lines.specs.Workers.{IsJudgedBy};
 ghost use Rattle.report_laws.specs.Reporting.{HaveMade};
 ghost use Rattle.report_laws.specs.Working.{HaveWorked};
-ghost use Rattle.report_laws.specs.Cases.{five_and_six, both_delivered, both_failed, first_failed, seen_otherwise, sixty, stopped, nothing, one_unchecked, one_judging};
+ghost use Rattle.report_laws.specs.Cases.{five_and_six, both_delivered, both_failed, first_failed, seen_otherwise, sixty, stopped, nothing, one_unchecked, second_begun, one_judging};
 
 /// A run of two whole calls: where the object should give ten times the operation, both are delivered, and
 /// the report is lawful; where it should give 0, both are errors, and that report is lawful. Every other
@@ -44,6 +44,14 @@ pub fn stopped_callers_are_reported()
     ensures without_calls { IsLawful [] silent pair five_and_six (0 ∷ 0 ∷ []) nothing }
     ensures too_few { ¬ IsLawful [] silent pair five_and_six (0 ∷ 1 ∷ []) nothing }
     ensures a_caller_left_out { ¬ IsLawful [] silent pair five_and_six (0 ∷ 0 ∷ []) ([] ∷ []) }
+{}
+
+/// Where a caller has one row, the lines of a second call are those of no reachable world. Else nothing is
+/// wrong with these lines.
+pub fn calls_beyond_the_rows_are_of_no_world()
+    ensures allotted { IsAllotted (5 ∷ 7 ∷ []) 6 (lines_at second_begun 0) }
+    ensures seen { AreSeen (1 ∷ 0 ∷ []) second_begun }
+    ensures unlawful { ¬ IsLawful [] tenfold pair ((5 ∷ 7 ∷ []) ∷ (6 ∷ []) ∷ []) (6 ∷ 0 ∷ []) second_begun }
 {}
 
 /// What workers leave where one is stopped before it judges: the other has judged by words that it peeked.
