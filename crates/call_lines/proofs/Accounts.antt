@@ -1,5 +1,5 @@
 -- How far a caller has come, by the parts of its local that tell of its calls.
-use Rattle.std.proofs.Common.{◌≡◌, ℕ, zero, suc, ◌+◌, ◌<◌, ◌≤◌, Bool, true, false, cond, nat_lt, List, [], ◌∷◌, ◌++◌, length, map, slice_index, slice_index_or, refl, sym, ap, ◌∙◌, arith, inl, inr}
+use Rattle.std.proofs.Common.{◌≡◌, ℕ, zero, suc, ◌+◌, ◌<◌, ◌≤◌, Bool, false, cond, nat_lt, List, [], ◌∷◌, ◌++◌, length, map, slice_index, slice_index_or, refl, sym, ap, ◌∙◌, arith, inl, inr}
 use Rattle.std.specs.List.{range_with_len}
 use Rattle.std.proofs.lemmas.Bool.{cases_lt, lt-ltb, le-ltb}
 use Rattle.std.proofs.lemmas.List.{length_push, get_or_append_left, get_or_at}
@@ -7,10 +7,10 @@ use Rattle.std.proofs.lemmas.List.FromFn.{map-range_with_len_more}
 use Rattle.book_base.specs.declared.call.Record.{Record}
 use Rattle.world_core.specs.Local.{Local}
 use Rattle.world_core.specs.Event.{Announce, Publish, staged_operation, local_after}
-use Rattle.world_core.specs.Agreement.{HasPhase, unpublished_calls, unpublished_replies, unpublished_views, unseen_records}
+use Rattle.world_core.specs.Agreement.{unpublished_calls, unpublished_replies, unpublished_views, unseen_records}
 use Rattle.world_core.specs.Calls.{Reached, Is_announced, Has_record, Has_seen, Made}
 use Rattle.call_lines.specs.Phases.{Progress, progress_of}
-use Rattle.call_lines.specs.Progress.{with_last, with_seen, after_announcing, after_viewing, after_seeing}
+use Rattle.call_lines.specs.Progress.{with_last, with_seen, after_viewing}
 use Rattle.call_lines.specs.Account.{Account, account_of, NothingGrows, OperationsAreCalls, RepliesAreNoRecords, ViewsMakeRecords, PublicationsCount, SeenCutsAreOfTheLastCall, AnnouncementsAreCalls, PublishesCount}
 
 -- How far call k has come, and the calls, by an account.
@@ -72,16 +72,16 @@ announced a op few fewer =
     let p : ℕ = length a.operations in
     let operation : slice_index (a.operations ++ op ∷ []) p ≡ op = get_or_at a.operations op [] 0 p refl in
     let reached : reached_by a p ≡ Is_announced =
-        ap (λ seen. reached_when seen (nat_lt p (length a.views)) (record_by a p) (slice_index_or a.seen p [])) (le-ltb p (length a.seen) few)
-        ∙ ap (λ viewed. reached_when false viewed (record_by a p) (slice_index_or a.seen p [])) (le-ltb p (length a.views) fewer) in
+    ap (λ seen. reached_when seen (nat_lt p (length a.views)) (record_by a p) (slice_index_or a.seen p [])) (le-ltb p (length a.seen) few)
+    ∙ ap (λ viewed. reached_when false viewed (record_by a p) (slice_index_or a.seen p [])) (le-ltb p (length a.views) fewer) in
     let last : call_by b p ≡ record { operation = op; reached = Is_announced } =
-        ap (λ o. record { operation = o; reached = reached_by a p }) operation ∙ ap (λ v. record { operation = op; reached = v }) reached in
+    ap (λ o. record { operation = o; reached = reached_by a p }) operation ∙ ap (λ v. record { operation = op; reached = v }) reached in
     ap (λ (m : ℕ). map (λ k. call_by b k) (range_with_len 0 m)) (length_push a.operations op)
     ∙ map-range_with_len_more (λ k. call_by b k) 0 p p (omega arith)
     ∙ ap (λ (c : Made). map (λ k. call_by b k) (range_with_len 0 p) ++ c ∷ []) last
     ∙ ap (λ (cs : List Made). cs ++ record { operation = op; reached = Is_announced } ∷ [])
-      (same_range (λ k. call_by a k) (λ k. call_by b k) 0 p
-      (λ k low. ap (λ o. record { operation = o; reached = reached_by a k }) (get_or_append_left a.operations (op ∷ []) 0 k (omega (arith, low)))))
+    (same_range (λ k. call_by a k) (λ k. call_by b k) 0 p
+    (λ k low. ap (λ o. record { operation = o; reached = reached_by a k }) (get_or_append_left a.operations (op ∷ []) 0 k (omega (arith, low)))))
 
 pub operations_are_calls : OperationsAreCalls
 operations_are_calls l m op phase at e =
@@ -103,8 +103,8 @@ replied_at a reply k few fewer =
           (get_or_append_left a.replies (reply ∷ []) 0 k (omega (arith, low, few)))
       | inr past ↦
           let none : (r : Record) → reached_when seen viewed r cut ≡ Is_announced = λ r.
-              ap (λ x. reached_when x viewed r cut) (le-ltb k (length a.seen) (omega (arith, past, fewer)))
-              ∙ ap (λ x. reached_when false x r cut) (le-ltb k (length a.views) past) in
+          ap (λ x. reached_when x viewed r cut) (le-ltb k (length a.seen) (omega (arith, past, fewer)))
+          ∙ ap (λ x. reached_when false x r cut) (le-ltb k (length a.views) past) in
           none (record_by b k) ∙ sym (none (record_by a k))
     ]
 
@@ -115,8 +115,8 @@ replies_are_no_records l m reply phase at e =
     let fewer : length l.seen ≤ length l.views = omega (arith, phase.views, phase.seen, ap unpublished_views at) in
     ap progress_by e
     ∙ ap (λ (cs : List Made). record { calls = cs; published = l.published })
-      (same_range (λ k. call_by a k) (λ k. call_by (record a { replies = l.replies ++ reply ∷ [] }) k) 0 (length l.operations)
-      (λ k low. ap (λ v. record { operation = slice_index l.operations k; reached = v }) (replied_at a reply k few fewer)))
+    (same_range (λ k. call_by a k) (λ k. call_by (record a { replies = l.replies ++ reply ∷ [] }) k) 0 (length l.operations)
+    (λ k low. ap (λ v. record { operation = slice_index l.operations k; reached = v }) (replied_at a reply k few fewer)))
 
 -- one more view
 module _ (a : Account) (view : List ℕ) (few : length a.seen ≤ length a.views) where
@@ -131,7 +131,7 @@ module _ (a : Account) (view : List ℕ) (few : length a.seen ≤ length a.views
       lt-ltb k (length (a.views ++ view ∷ [])) (omega (arith, low, length_push a.views view)) ∙ sym (lt-ltb k (length a.views) low) in
       ap (λ x. record { operation = slice_index a.operations k; reached = reached_when seen x (record_by with_view k) cut }) now
       ∙ ap (λ v. record { operation = slice_index a.operations k; reached = reached_when seen (nat_lt k (length a.views)) (record { reply = slice_index a.replies k; view = v }) cut })
-        (get_or_append_left a.views (view ∷ []) [] k low)
+      (get_or_append_left a.views (view ∷ []) [] k low)
 
   viewed_last : call_by with_view (length a.views)
       ≡ record { operation = slice_index a.operations (length a.views); reached = Has_record (record { reply = slice_index a.replies (length a.views); view = view }) }
@@ -143,7 +143,7 @@ module _ (a : Account) (view : List ℕ) (few : length a.seen ≤ length a.views
       ap (λ x. record { operation = op; reached = reached_when x (nat_lt p (length (a.views ++ view ∷ []))) (record_by with_view p) cut })
       (le-ltb p (length a.seen) few)
       ∙ ap (λ x. record { operation = op; reached = reached_when false x (record_by with_view p) cut })
-        (lt-ltb p (length (a.views ++ view ∷ [])) (omega (arith, length_push a.views view)))
+      (lt-ltb p (length (a.views ++ view ∷ [])) (omega (arith, length_push a.views view)))
       ∙ ap (λ v. record { operation = op; reached = Has_record (r v) }) (get_or_at a.views view [] [] p refl)
 
 pub views_make_records : ViewsMakeRecords
@@ -156,8 +156,8 @@ views_make_records l m view phase at e =
     let record_with : ℕ → Record = λ k. record { reply = slice_index l.replies k; view = view } in
     ap progress_by e
     ∙ ap (λ (cs : List Made). record { calls = cs; published = l.published })
-      (grown (λ k. call_by a k) (λ k. call_by (with_view a view few) k) (λ _. Has_record (record_with p)) (length l.operations) p long
-      (viewed_before a view few) (viewed_last a view few))
+    (grown (λ k. call_by a k) (λ k. call_by (with_view a view few) k) (λ _. Has_record (record_with p)) (length l.operations) p long
+    (viewed_before a view few) (viewed_last a view few))
     ∙ ap (λ k. after_viewing (record_with k) (progress_of l)) last
 
 -- one more seen cut
@@ -173,7 +173,7 @@ module _ (a : Account) (cut : List ℕ) (few : length a.seen < length a.views) w
       lt-ltb k (length (a.seen ++ cut ∷ [])) (omega (arith, low, length_push a.seen cut)) ∙ sym (lt-ltb k (length a.seen) low) in
       ap (λ x. record { operation = op; reached = reached_when x viewed (record_by a k) (slice_index_or (a.seen ++ cut ∷ []) k []) }) now
       ∙ ap (λ c. record { operation = op; reached = reached_when (nat_lt k (length a.seen)) viewed (record_by a k) c })
-        (get_or_append_left a.seen (cut ∷ []) [] k low)
+      (get_or_append_left a.seen (cut ∷ []) [] k low)
 
   seen_last : call_by with_cut (length a.seen)
       ≡ record { operation = slice_index a.operations (length a.seen); reached = with_seen cut (reached_by a (length a.seen)) }
@@ -182,12 +182,12 @@ module _ (a : Account) (cut : List ℕ) (few : length a.seen < length a.views) w
       let op : ℕ = slice_index a.operations p in
       let r : Record = record_by a p in
       let before : reached_by a p ≡ Has_record r =
-          ap (λ x. reached_when x (nat_lt p (length a.views)) r (slice_index_or a.seen p [])) (le-ltb p (length a.seen) (omega arith))
-          ∙ ap (λ x. reached_when false x r (slice_index_or a.seen p [])) (lt-ltb p (length a.views) few) in
+      ap (λ x. reached_when x (nat_lt p (length a.views)) r (slice_index_or a.seen p [])) (le-ltb p (length a.seen) (omega arith))
+      ∙ ap (λ x. reached_when false x r (slice_index_or a.seen p [])) (lt-ltb p (length a.views) few) in
       let now : reached_by with_cut p ≡ Has_seen r cut =
-          ap (λ x. reached_when x (nat_lt p (length a.views)) r (slice_index_or (a.seen ++ cut ∷ []) p []))
-          (lt-ltb p (length (a.seen ++ cut ∷ [])) (omega (arith, length_push a.seen cut)))
-          ∙ ap (λ c. Has_seen r c) (get_or_at a.seen cut [] [] p refl) in
+      ap (λ x. reached_when x (nat_lt p (length a.views)) r (slice_index_or (a.seen ++ cut ∷ []) p []))
+      (lt-ltb p (length (a.seen ++ cut ∷ [])) (omega (arith, length_push a.seen cut)))
+      ∙ ap (λ c. Has_seen r c) (get_or_at a.seen cut [] [] p refl) in
       ap (λ v. record { operation = op; reached = v }) (now ∙ sym (ap (with_seen cut) before))
 
 pub seen_cuts_are_of_the_last_call : SeenCutsAreOfTheLastCall
@@ -198,8 +198,8 @@ seen_cuts_are_of_the_last_call l m cut phase at e =
     omega (arith, phase.operations, phase.announced, phase.seen, ap unpublished_calls at, ap unseen_records at) in
     ap progress_by e
     ∙ ap (λ (cs : List Made). record { calls = cs; published = l.published })
-      (grown (λ k. call_by a k) (λ k. call_by (with_cut a cut few) k) (with_seen cut) (length l.operations) (length l.seen) long
-      (seen_before a cut few) (seen_last a cut few))
+    (grown (λ k. call_by a k) (λ k. call_by (with_cut a cut few) k) (with_seen cut) (length l.operations) (length l.seen) long
+    (seen_before a cut few) (seen_last a cut few))
 
 pub nothing_grows : NothingGrows
 nothing_grows l m e = ap progress_by e

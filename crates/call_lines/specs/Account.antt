@@ -1,6 +1,5 @@
 -- The parts of a local that tell of its calls; and how far the caller has come as one of them grows.
 use Rattle.std.specs.Prelude.{◌≡◌, ℕ, ◌+◌, List, [], ◌∷◌, ◌++◌, slice_index}
-use Rattle.book_base.specs.declared.call.Record.{Record}
 use Rattle.world_core.specs.Local.{Local, Announcing, Asking, Viewing, Judging}
 use Rattle.world_core.specs.Event.{Announce, Publish, staged_operation, local_after}
 use Rattle.world_core.specs.Agreement.{HasPhase}

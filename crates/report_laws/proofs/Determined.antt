@@ -1,5 +1,5 @@
 -- Locals have one report.
-use Rattle.std.proofs.Common.{◌≡◌, ℕ, zero, suc, List, [], ◌∷◌, length, map, Some, slice_get, refl, sym, ap, ◌∙◌, subst, arith}
+use Rattle.std.proofs.Common.{◌≡◌, ℕ, suc, List, [], ◌∷◌, length, map, Some, slice_get, refl, sym, ap, ◌∙◌, subst, arith}
 use Rattle.book_base.specs.declared.call.Call.{Call}
 use Rattle.book_base.specs.Book.{Page}
 use Rattle.world_core.specs.Calls.{Made, book_of}

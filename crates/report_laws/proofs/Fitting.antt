@@ -42,12 +42,12 @@ lines_before_the_last_are_delivered operations allotment own k line h there low 
     omega (arith, ap (λ (ms : List Mark). length ms) h.marks, length-map (map made_of own) mark, length-map own made_of) in
     let below : k < q = omega (arith, low, long, length-marks_after p) in
     let is : slice_get (marks_of (map made_of own)) k ≡ Some (mark_of (reached_of line.end)) =
-        slice_get-map mark (map made_of own) k
-        ∙ ap (λ (o : Option Made). option_map mark o) (slice_get-map made_of own k ∙ ap (λ (o : Option Line). option_map made_of o) there) in
+    slice_get-map mark (map made_of own) k
+    ∙ ap (λ (o : Option Made). option_map mark o) (slice_get-map made_of own k ∙ ap (λ (o : Option Line). option_map made_of o) there) in
     let should : slice_get (marks_after p) k ≡ Some Seen =
-        slice_get-append_within (replicate q Seen) (mark_under_way (p % 5)) k (omega (arith, below, length-replicate q Seen))
-        ∙ slice_get-get_or (replicate q Seen) k Seen (omega (arith, below, length-replicate q Seen))
-        ∙ ap (λ (m : Mark). Some m) (get_or-replicate q k Seen Seen below) in
+    slice_get-append_within (replicate q Seen) (mark_under_way (p % 5)) k (omega (arith, below, length-replicate q Seen))
+    ∙ slice_get-get_or (replicate q Seen) k Seen (omega (arith, below, length-replicate q Seen))
+    ∙ ap (λ (m : Mark). Some m) (get_or-replicate q k Seen Seen below) in
     let seen : mark_of (reached_of line.end) ≡ Seen =
     same_Some (mark_of (reached_of line.end)) Seen (sym is ∙ ap (λ (ms : List Mark). slice_get ms k) h.marks ∙ should) in
     delivered_end line.end seen (λ r cut e.

@@ -1,5 +1,5 @@
 -- What the lines of a run's locals say of the run.
-use Rattle.std.proofs.Common.{◌≡◌, ℕ, zero, suc, ◌<◌, Bool, false, nat_lt, List, [], ◌∷◌, length, map, cond, Some, slice_get, slice_index_or, refl, sym, ap, ◌∙◌, subst, arith, inl, inr}
+use Rattle.std.proofs.Common.{◌≡◌, ℕ, zero, suc, ◌<◌, Bool, nat_lt, List, [], ◌∷◌, length, map, cond, Some, slice_get, slice_index_or, refl, sym, ap, ◌∙◌, subst, arith, inl, inr}
 use Rattle.std.proofs.lemmas.Bool.{cases_lt, lt-ltb, le-ltb, cond_both}
 use Rattle.std.proofs.lemmas.List.{get_or_past}
 use Rattle.std.proofs.lemmas.List.FromFn.{length-map-range_with_len}
@@ -19,8 +19,7 @@ use Rattle.world_laws.proofs.Instants.{given_cuts_were_counts}
 use Rattle.world_books.specs.Verdicts.{HasSeenCut}
 use Rattle.world_books.proofs.Judging.{no_run_has_this_error_seen}
 use Rattle.world_books.proofs.Pages.{slice_get-made}
-use Rattle.call_lines.specs.declared.line.Line.{Line}
-use Rattle.call_lines.specs.Lines.{calls_of, seen_at, error_at, AreLinesOf}
+use Rattle.call_lines.specs.Lines.{calls_of, error_at}
 use Rattle.report_laws.specs.Reporting.{SeenCutsWerePublished, LinearizableRunsHaveNoError}
 use Rattle.report_laws.proofs.Lines.{has_seen_cut, seen_from_error}
 use Rattle.report_laws.proofs.Worlds.{illegal_at, sees}

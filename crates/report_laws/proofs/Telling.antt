@@ -1,12 +1,11 @@
 -- What an object tells after each phase of a caller.
-use Rattle.std.proofs.Common.{◌≡◌, ℕ, zero, suc, ◌+◌, ◌*◌, ◌/◌, ◌<◌, ◌≤◌, List, [], ◌∷◌, ◌++◌, length, map, take, replicate, slice_index, refl, sym, ap, ◌∙◌, arith}
-use Rattle.std.specs.List.{flat_map}
+use Rattle.std.proofs.Common.{◌≡◌, ℕ, ◌+◌, ◌*◌, ◌≤◌, List, [], ◌∷◌, ◌++◌, length, map, take, replicate, slice_index, refl, sym, ap, ◌∙◌, arith}
 use Rattle.std.proofs.lemmas.List.{length-append, length-map, length-take, length_push, map-append, append-nil, take_all, take-append-le, get_or-take, take_more}
 use Rattle.std.proofs.lemmas.List.Concat.{flat_map-append}
 use Rattle.book_base.specs.declared.call.Record.{Record}
 use Rattle.world_core.specs.Calls.{Reached, Is_announced, Has_record, Has_seen, Made, records_of}
-use Rattle.call_lines.specs.Phases.{Mark, Announced, Recorded, Seen, begun, asked, answered, mark_of, marks_after, operations_of, marks_of, Progress, IsProgressAfter, answers_in, IsTold}
-use Rattle.call_lines.specs.Progress.{with_last, with_seen, after_announcing, after_viewing, after_seeing}
+use Rattle.call_lines.specs.Phases.{Mark, Announced, Seen, begun, asked, answered, mark_of, operations_of, marks_of, Progress, IsProgressAfter, answers_in, IsTold}
+use Rattle.call_lines.specs.Progress.{with_last, with_seen}
 use Rattle.report_laws.specs.Telling.{ToldAsAnnounced, ToldAsAsked, ToldAsViewed, ToldAsPublished, ToldAsSeen}
 use Rattle.report_laws.proofs.Stepping.{operations_of-with_last, marks_with, length-marks_after}
 
@@ -135,28 +134,28 @@ told_as_viewed operations k progress operation r pairs h told =
     let short : length pairs ≡ k = omega (arith, long, length_push pairs pair) in
     let end : EndsWith calls Announced = ends_with calls (replicate k Seen) Announced (h.marks ∙ marks_with k (5 * k + 2) (omega arith) 2 (omega arith)) in
     let own : map (λ (pair : ℕ × ℕ). pair.0) pairs ++ operation ∷ [] ≡ operations_of end.before ++ end.last.operation ∷ [] =
-        sym (map-append (λ (pair : ℕ × ℕ). pair.0) pairs (pair ∷ []))
-        ∙ told.operations
-        ∙ take_all (asked (5 * k + 2)) (operations_of calls) (omega (arith, many))
-        ∙ ap operations_of end.are
-        ∙ operations_of-push end.before end.last in
+    sym (map-append (λ (pair : ℕ × ℕ). pair.0) pairs (pair ∷ []))
+    ∙ told.operations
+    ∙ take_all (asked (5 * k + 2)) (operations_of calls) (omega (arith, many))
+    ∙ ap operations_of end.are
+    ∙ operations_of-push end.before end.last in
     let same : operation ≡ end.last.operation = same_last (map (λ (pair : ℕ × ℕ). pair.0) pairs) (operations_of end.before) operation end.last.operation own in
     let answers_before : answers_in end.before ≡ pairs =
-        sym (append-nil (answers_in end.before))
-        ∙ ap (λ (ps : List (ℕ × ℕ)). answers_in end.before ++ ps) (sym (no_answer end.last end.mark))
-        ∙ sym (answers_in-push end.before end.last)
-        ∙ ap answers_in (sym end.are)
-        ∙ sym told.replies
-        ∙ ap (λ (n : ℕ). take n all) (omega arith)
-        ∙ take-append-le k pairs (pair ∷ []) (omega (arith, short))
-        ∙ take_all k pairs (omega (arith, short)) in
+    sym (append-nil (answers_in end.before))
+    ∙ ap (λ (ps : List (ℕ × ℕ)). answers_in end.before ++ ps) (sym (no_answer end.last end.mark))
+    ∙ sym (answers_in-push end.before end.last)
+    ∙ ap answers_in (sym end.are)
+    ∙ sym told.replies
+    ∙ ap (λ (n : ℕ). take n all) (omega arith)
+    ∙ take-append-le k pairs (pair ∷ []) (omega (arith, short))
+    ∙ take_all k pairs (omega (arith, short)) in
     let viewed : Made = record { operation = end.last.operation; reached = Has_record r } in
     let answers_after : answers_in (with_last (λ _. Has_record r) calls) ≡ all =
-        ap (λ (cs : List Made). answers_in (with_last (λ _. Has_record r) cs)) end.are
-        ∙ ap answers_in (with_last-push (λ _. Has_record r) end.before end.last)
-        ∙ answers_in-push end.before viewed
-        ∙ ap (λ (ps : List (ℕ × ℕ)). ps ++ (end.last.operation, r.reply) ∷ []) answers_before
-        ∙ ap (λ (o : ℕ). pairs ++ (o, r.reply) ∷ []) (sym same) in
+    ap (λ (cs : List Made). answers_in (with_last (λ _. Has_record r) cs)) end.are
+    ∙ ap answers_in (with_last-push (λ _. Has_record r) end.before end.last)
+    ∙ answers_in-push end.before viewed
+    ∙ ap (λ (ps : List (ℕ × ℕ)). ps ++ (end.last.operation, r.reply) ∷ []) answers_before
+    ∙ ap (λ (o : ℕ). pairs ++ (o, r.reply) ∷ []) (sym same) in
     record {
       operations =
           told.operations

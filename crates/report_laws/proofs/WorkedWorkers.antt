@@ -1,11 +1,9 @@
 -- The run in which one caller is stopped before it judges, and the other judges by what it peeked.
-use Rattle.std.proofs.Common.{◌≡◌, ℕ, zero, suc, ◌+◌, ◌<◌, ◌≤◌, List, [], ◌∷◌, get_or, length, Some, slice_get, slice_index, refl, arith, rules}
-use Rattle.std.specs.List.{All}
+use Rattle.std.proofs.Common.{◌≡◌, ℕ, zero, suc, ◌<◌, List, [], ◌∷◌, get_or, length, Some, slice_index, refl, arith}
 use Rattle.std.proofs.lemmas.Option.{slice_get-get_or}
 use Rattle.std.proofs.lemmas.List.Elements.{All-cons, All-nil}
 use Rattle.book_base.specs.declared.call.Record.{Record}
 use Rattle.book_base.specs.Book.{page_of, record_of}
-use Rattle.book_base.specs.Order.{HasLegalOrder}
 use Rattle.world_core.specs.World.{end_of}
 use Rattle.world_core.specs.Calls.{AreTogether, local_at}
 use Rattle.world_core.specs.Schedules.{pair, two_calls, tenfold, local_at as local_after}
@@ -13,7 +11,7 @@ use Rattle.world_books.specs.Cases.{locals_after, both_answered}
 use Rattle.world_books.proofs.WorkedGathering.{gathered}
 use Rattle.call_lines.specs.declared.line.LineEnd.TheVariants.{Delivered}
 use Rattle.call_lines.specs.declared.line.Line.{Line}
-use Rattle.call_lines.specs.Cases.{call, answer, unchecked, delivered}
+use Rattle.call_lines.specs.Cases.{call, unchecked, delivered}
 use Rattle.call_lines.specs.Workers.{IsJudgedBy, HasWorked}
 use Rattle.report_laws.specs.Working.{HaveWorked}
 use Rattle.report_laws.specs.Cases.{five_and_six, fifty, sixty, one_unchecked, one_judging}

@@ -1,27 +1,24 @@
 -- What the workers of all callers leave are the lines of the locals that they leave.
-use Rattle.std.proofs.Common.{◌≡◌, ℕ, zero, suc, ◌+◌, ◌<◌, ◌≤◌, List, [], ◌∷◌, length, map, take, Bool, true, false, cond, ◌*◌, ◌++◌, ◌||◌, inl, inr, Some, slice_get, slice_index, slice_index_or, refl, sym, ap, ◌∙◌, subst, arith}
-use Rattle.std.specs.List.{All}
+use Rattle.std.proofs.Common.{◌≡◌, ℕ, zero, suc, ◌+◌, ◌<◌, List, [], ◌∷◌, length, map, take, Bool, true, false, cond, ◌*◌, ◌++◌, ◌||◌, inl, inr, Some, slice_get, slice_index, slice_index_or, refl, sym, ap, ◌∙◌, subst, arith}
 use Rattle.std.proofs.lemmas.Bool.{false≢true}
 use Rattle.std.proofs.lemmas.List.{length-map, length_push}
 use Rattle.std.proofs.lemmas.Option.{none-some, same_Some, slice_get_within, get_or_from_slice_get}
 use Rattle.list_laws.proofs.Places.{slice_get-push_last, slice_get-push_cases}
-use Rattle.book_base.specs.declared.call.Call.{Call}
 use Rattle.book_base.specs.Book.{Page}
-use Rattle.book_base.specs.BookAt.{book_at}
 use Rattle.book_base.specs.Order.{HasLegalOrder}
 use Rattle.world_core.specs.Shape.{Shape}
-use Rattle.world_core.specs.Local.{Local, fresh}
-use Rattle.world_core.specs.Calls.{Made, AreTogether, IsGathered, calls_in, book_of, book_in, local_at}
+use Rattle.world_core.specs.Local.{Local}
+use Rattle.world_core.specs.Calls.{Made, AreTogether, calls_in, book_of, book_in, local_at}
 use Rattle.world_laws.proofs.Locals.{locals_have_phases}
 use Rattle.world_books.proofs.Gathered.{gathered_is_the_book_at, gathered_stays}
 use Rattle.call_lines.specs.declared.line.LineEnd.{LineEnd}
 use Rattle.call_lines.specs.declared.line.LineEnd.TheVariants.{Pending, Unchecked, Delivered, Error}
 use Rattle.call_lines.specs.declared.line.Line.{Line}
-use Rattle.call_lines.specs.Lines.{made_of, calls_of, book_of_lines, lines_at, line_at, is_error, any_error, IsJudged, AreLinesOf}
+use Rattle.call_lines.specs.Lines.{made_of, calls_of, lines_at, is_error, any_error, IsJudged}
 use Rattle.call_lines.specs.Phases.{Mark, begun, mark_of, marks_after, operations_of, marks_of, HasMade}
 use Rattle.call_lines.specs.Allotments.{phases_of}
-use Rattle.call_lines.specs.Workers.{IsJudgedBy, HasWorked}
-use Rattle.report_laws.specs.Working.{VerdictsStay, WorkersGoThrough, WorkersHalt, WorkersKeepToTheirAllotments, HaveWorked, WorkersLeaveTheLines, WorkersAreLawful}
+use Rattle.call_lines.specs.Workers.{IsJudgedBy}
+use Rattle.report_laws.specs.Working.{VerdictsStay, WorkersGoThrough, WorkersHalt, WorkersKeepToTheirAllotments, WorkersLeaveTheLines, WorkersAreLawful}
 use Rattle.report_laws.proofs.Stepping.{length-marks_after}
 use Rattle.report_laws.proofs.Lines.{caller_within}
 use Rattle.report_laws.proofs.Worlds.{worlds_are_lawful}

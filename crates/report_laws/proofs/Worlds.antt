@@ -1,12 +1,11 @@
 -- The lines of a reachable world's locals are a lawful report.
-use Rattle.std.proofs.Common.{◌≡◌, ℕ, ◌+◌, ◌<◌, ◌≤◌, List, [], ◌∷◌, length, map, Some, slice_get, slice_index, slice_index_or, refl, sym, ap, ◌∙◌, subst, arith, inl, inr}
-use Rattle.std.specs.List.{range_with_len}
+use Rattle.std.proofs.Common.{◌≡◌, ℕ, ◌<◌, List, [], ◌∷◌, length, map, Some, slice_get, slice_index, sym, ap, ◌∙◌, subst, arith, inl, inr}
 use Rattle.std.proofs.lemmas.Bool.{cases_lt}
 use Rattle.std.proofs.lemmas.List.{length-map, get_or_past}
-use Rattle.std.proofs.lemmas.List.FromFn.{get_or-map-range_with_len, length-map-range_with_len}
+use Rattle.std.proofs.lemmas.List.FromFn.{get_or-map-range_with_len}
 use Rattle.std.proofs.lemmas.Option.{none-some}
 use Rattle.book_base.specs.declared.call.Call.{Call}
-use Rattle.book_base.specs.Cut.{IsWithin, AreComparable}
+use Rattle.book_base.specs.Cut.{IsWithin}
 use Rattle.book_base.specs.Book.{IsValid}
 use Rattle.book_base.specs.BookAt.{book_at}
 use Rattle.book_base.specs.Order.{HasLegalOrder}
@@ -14,7 +13,7 @@ use Rattle.book_laws.specs.Greatest.{greatest_counts, AreCutsOf, AreComparableBy
 use Rattle.book_laws.proofs.GreatestCuts.{greatest_is_one}
 use Rattle.world_core.specs.Shape.{Shape}
 use Rattle.world_core.specs.Local.{Local}
-use Rattle.world_core.specs.Calls.{Made, AreTogether, IsPublished, calls_in, book_of, book_in, local_at}
+use Rattle.world_core.specs.Calls.{Made, AreTogether, calls_in, book_of, book_in, local_at}
 use Rattle.world_laws.proofs.Locals.{locals_have_phases}
 use Rattle.world_books.specs.Verdicts.{HasSeenCut, AreSeenCuts, AreDelivered, HasAllDelivered}
 use Rattle.world_books.proofs.Validity.{books_are_valid}
@@ -129,7 +128,7 @@ module _ (init : List ℕ) (next : List ℕ → ℕ → List ℕ × ℕ) (locals
         no_order = illegal_at;
         no_run = λ call cut e other steps run same.
             no_run_has_this_error_seen init next (calls_of lines) call cut (has_seen_cut lines call cut (seen_from_error lines call cut e)) (illegal_at call cut e)
-                other steps run (sym same.calls);
+            other steps run (sym same.calls);
         reached = (t.0, t.1, subst (λ (ls : List Local). AreLinesOf init next ls lines) (sym t.2) are);
       }
 

@@ -1,5 +1,5 @@
 -- A caller's phases, one by one: what each does to how far the caller has come.
-use Rattle.std.specs.Prelude.{◌≡◌, ℕ, ◌+◌, ◌*◌, ◌<◌, List, [], length, slice_index}
+use Rattle.std.specs.Prelude.{ℕ, ◌+◌, ◌*◌, ◌<◌, List, [], length, slice_index}
 use Rattle.book_base.specs.declared.call.Record.{Record}
 use Rattle.call_lines.specs.Phases.{Progress, IsProgressAfter}
 use Rattle.call_lines.specs.Progress.{after_announcing, after_viewing, after_publishing, after_seeing}

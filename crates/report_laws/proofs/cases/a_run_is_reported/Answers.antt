@@ -5,7 +5,7 @@ use Rattle.world_books.proofs.Worked.{both_together}
 use Rattle.call_lines.specs.Cases.{call}
 use Rattle.report_laws.specs.Cases.{five_and_six, both_delivered, both_failed}
 use Rattle.report_laws.proofs.Worlds.{worlds_are_lawful}
-use Rattle.report_laws.proofs.Worked.{first_is_legal, delivered_lines, first_is_illegal, second_is_illegal, failed_lines}
+use Rattle.report_laws.proofs.Worked.{first_is_legal, delivered_lines, second_is_illegal, failed_lines}
 use Rattle.report_laws.proofs.cases.a_run_is_reported.Goals as goal
 
 pub returns-clause-lines : goal.returns-clause-lines
