@@ -1,18 +1,18 @@
 -- What a step does to what a caller keeps of its local.
-use Rattle.std.proofs.Common.{◌≡◌, ℕ, Bool, true, false, ◌&&◌, if◌then◌else◌, List, Option, Some, None, refl, sym, ap, ◌∙◌}
+use Rattle.std.proofs.Common.{◌≡◌, ℕ, Bool, true, false, ◌&&◌, if◌then◌else◌, List, [], ◌∷◌, ◌++◌, Option, Some, None, refl, sym, ap, ◌∙◌}
 use Rattle.world_core.specs.declared.region.Region.{Region}
 use Rattle.world_core.specs.declared.region.Region.TheVariants.{N, M}
 use Rattle.world_core.specs.declared.want.Want.{Want}
 use Rattle.world_core.specs.declared.want.Want.TheVariants.{Look, Peek, Done}
 use Rattle.world_core.specs.Local as local
-use Rattle.world_core.specs.Local.{Local, Scan, Staged}
-use Rattle.world_core.specs.Event.{Purpose, For_row, For_view, For_seen, For_nothing, is_same_region, is_unstaged, purpose_of, served, went_on, with_word, fed}
-use Rattle.world_core.specs.Scan.{wanted, is_done}
+use Rattle.world_core.specs.Local.{Local, Scan, Staged, Given}
+use Rattle.world_core.specs.Event.{Purpose, For_row, For_view, For_seen, For_nothing, is_same_region, is_unstaged, purpose_of, served, given_by, went_on, with_word, fed}
+use Rattle.world_core.specs.Scan.{wanted}
 use Rattle.row_table.specs.declared.phase.Phase.{Phase}
 use Rattle.row_table.specs.declared.phase.Phase.TheVariants.{Announcing, Publishing}
 use Rattle.row_table.specs.declared.notes.ScanUnderWay.{ScanUnderWay}
 use Rattle.row_table.specs.declared.notes.Notes.{Notes}
-use Rattle.row_table.specs.Notes.{phase_in, under_way, scan_kept, notes_of, phase_after, takes}
+use Rattle.row_table.specs.Notes.{phase_in, under_way, scan_kept, notes_of, last_given, cut_of, phase_after, takes}
 
 -- the phase after a cut served its purpose
 abbrev served_phase : Phase → Purpose → Phase
@@ -42,17 +42,27 @@ purpose_phase local.Viewing staged M is_view since taken = refl
 purpose_phase local.Judging staged N is_view since taken = refl
 purpose_phase local.Judging staged M is_view since taken = refl
 
--- a scan that has ended leaves no scan, and the phase that its cut leads to
-pub scan_ended : (n me : ℕ) (l : Local) (s : Scan) (w : Want) → is_done w ≡ true
-    → notes_of n me (went_on l s w) ≡ record (notes_of n me l) { phase = phase_after (phase_in l.phase) s.region s.is_view; scan = None }
-scan_ended n me l s (Look j) e = absurd cc
-scan_ended n me l s (Peek j row entry) e = absurd cc
-scan_ended n me l s (Done cut) e =
-    served_notes n me _ (purpose_of l.phase l.staged s) cut
-    ∙ ap (λ (q : Phase). record (notes_of n me l) { phase = q; scan = None }) (purpose_phase l.phase l.staged s.region s.is_view s.since s.taken)
+-- the last cut is the one that was given last
+pub last_given-push : (gs : List Given) (g : Given) → last_given (gs ++ g ∷ []) ≡ Some g.cut
+last_given-push [] g = refl
+last_given-push (h ∷ []) g = refl
+last_given-push (h ∷ k ∷ gs) g = last_given-push (k ∷ gs) g
+
+-- a scan that has ended leaves no scan, the phase that its cut leads to, and the cut
+pub scan_ended : (n me : ℕ) (l : Local) (s : Scan) (w : Want) (cut : List ℕ) → cut_of w ≡ Some cut
+    → notes_of n me (went_on l s w) ≡ record (notes_of n me l) { phase = phase_after (phase_in l.phase) s.region s.is_view; scan = None; given = Some cut }
+scan_ended n me l s (Look j) cut e = absurd cc
+scan_ended n me l s (Peek j row entry) cut e = absurd cc
+scan_ended n me l s (Done other) cut e =
+    served_notes n me _ (purpose_of l.phase l.staged s) other
+    ∙ (λ i. record (notes_of n me l) {
+      phase = purpose_phase l.phase l.staged s.region s.is_view s.since s.taken i;
+      scan = None;
+      given = (last_given-push l.cuts (given_by s other) ∙ e) i;
+    })
 
 -- one that hasn't goes on
-pub scan_goes : (n me : ℕ) (l : Local) (s : Scan) (w : Want) → is_done w ≡ false → notes_of n me (went_on l s w) ≡ record (notes_of n me l) { scan = Some (under_way n me s) }
+pub scan_goes : (n me : ℕ) (l : Local) (s : Scan) (w : Want) → cut_of w ≡ None → notes_of n me (went_on l s w) ≡ record (notes_of n me l) { scan = Some (under_way n me s) }
 scan_goes n me l s (Look j) e = refl
 scan_goes n me l s (Peek j row entry) e = refl
 scan_goes n me l s (Done cut) e = absurd cc
@@ -88,15 +98,20 @@ takes_kept n me None u region is_it b e h = absurd cc
 takes_kept n me (Some s) u region is_it b e h = h s cc
 
 -- a scan that ended, and one that goes on, as they are kept
-pub notes_ended : (n me : ℕ) (k : Notes) (u : ScanUnderWay) (l : Local) (s : Scan) (x : ℕ) → k ≡ notes_of n me l → u ≡ under_way n me (with_word s x)
-    → is_done (wanted n (with_word s x).taken) ≡ true
-    → ◌≡◌ {A = Notes} (record k { phase = phase_after k.phase u.core.region u.is_view; scan = None }) (notes_of n me (went_on l (with_word s x) (wanted n (with_word s x).taken)))
-notes_ended n me k u l s x is it done =
-    (λ i. record (is i) { phase = phase_after (ap (λ (k : Notes). k.phase) is i) (ap (λ (u : ScanUnderWay). u.core.region) it i) (ap (λ (u : ScanUnderWay). u.is_view) it i); scan = None })
-    ∙ sym (scan_ended n me l (with_word s x) (wanted n (with_word s x).taken) done)
+pub notes_ended : (n me : ℕ) (k : Notes) (u : ScanUnderWay) (l : Local) (s : Scan) (x : ℕ) (cut : List ℕ) → k ≡ notes_of n me l → u ≡ under_way n me (with_word s x)
+    → cut_of (wanted n (with_word s x).taken) ≡ Some cut
+    → ◌≡◌ {A = Notes} (record k { phase = phase_after k.phase u.core.region u.is_view; scan = None; given = Some cut })
+    (notes_of n me (went_on l (with_word s x) (wanted n (with_word s x).taken)))
+notes_ended n me k u l s x cut is it done =
+    (λ i. record (is i) {
+      phase = phase_after (ap (λ (k : Notes). k.phase) is i) (ap (λ (u : ScanUnderWay). u.core.region) it i) (ap (λ (u : ScanUnderWay). u.is_view) it i);
+      scan = None;
+      given = Some cut;
+    })
+    ∙ sym (scan_ended n me l (with_word s x) (wanted n (with_word s x).taken) cut done)
 
 pub notes_go : (n me : ℕ) (k : Notes) (u : ScanUnderWay) (l : Local) (s : Scan) (x : ℕ) → k ≡ notes_of n me l → u ≡ under_way n me (with_word s x)
-    → is_done (wanted n (with_word s x).taken) ≡ false
+    → cut_of (wanted n (with_word s x).taken) ≡ None
     → ◌≡◌ {A = Notes} (record k { scan = Some u }) (notes_of n me (went_on l (with_word s x) (wanted n (with_word s x).taken)))
 notes_go n me k u l s x is it goes =
     (λ i. record (is i) { scan = Some (it i) }) ∙ sym (scan_goes n me l (with_word s x) (wanted n (with_word s x).taken) goes)

@@ -3,10 +3,11 @@ use Rattle.std.specs.Prelude.{◌≡◌, ℕ, suc, Bool, true, false, ◌&&◌, 
 use Rattle.world_core.specs.declared.region.Region.{Region}
 use Rattle.world_core.specs.declared.region.Region.TheVariants.{N, M}
 use Rattle.world_core.specs.Local as local
-use Rattle.world_core.specs.Local.{Local, Scan}
+use Rattle.world_core.specs.Local.{Local, Scan, Given}
 use Rattle.world_core.specs.Event.{is_unstaged, is_same_region}
 use Rattle.world_core.specs.Scan.{wanted, has_ended}
 use Rattle.world_core.specs.declared.want.Want.{Want}
+use Rattle.world_core.specs.declared.want.Want.TheVariants.{Done}
 use Rattle.world_core.specs.Standing.{standing}
 use Rattle.row_table.specs.declared.phase.Phase.{Phase}
 use Rattle.row_table.specs.declared.phase.Phase.TheVariants.{Announcing, Asking, Viewing, Publishing, Judging}
@@ -29,7 +30,19 @@ abbrev pub scan_kept : ℕ → ℕ → Option Scan → Option ScanUnderWay
 scan_kept n me None = None
 scan_kept n me (Some scan) = Some (under_way n me scan)
 
--- What caller `me` of n keeps of its local: its counts, its phase, whether its row under way has no staged word, and its scan.
+-- The last cut that scans gave, if there is one.
+abbrev pub last_given : List Given → Option (List ℕ)
+last_given [] = None
+last_given (given ∷ []) = Some given.cut
+last_given (given ∷ next ∷ more) = last_given (next ∷ more)
+
+-- The cut with which a scan has ended, if what it wants is nothing more.
+abbrev pub cut_of : Want → Option (List ℕ)
+cut_of (Done cut) = Some cut
+cut_of _ = None
+
+-- What caller `me` of n keeps of its local: its counts, its phase, whether its row under way has no staged word, its scan, and the
+-- last cut that a scan gave it.
 abbrev pub notes_of : ℕ → ℕ → Local → Notes
 notes_of n me l =
     record {
@@ -38,6 +51,7 @@ notes_of n me l =
       phase = phase_in l.phase;
       unstaged = is_unstaged l.staged;
       scan = scan_kept n me l.scan;
+      given = last_given l.cuts;
     }
 
 -- What is kept of the locals of a view, from caller number i on.
@@ -61,3 +75,16 @@ takes n (Some scan) region is_it = is_same_region scan.region region && is_it (w
 abbrev pub IsOpen : Option ScanUnderWay → Type 0
 IsOpen None = ⊥
 IsOpen (Some scan) = has_ended scan.core.course ≡ false
+
+-- What a scan under way wants next, if there is one.
+abbrev pub wanted_next : ℕ → Option Scan → Option Want
+wanted_next n None = None
+wanted_next n (Some scan) = Some (wanted n scan.taken)
+
+-- The cut that the last scan to end gave, if one has ended and none is under way.
+abbrev pub given_by_last : Option Scan → List Given → Option (List ℕ)
+given_by_last None cuts = last_given cuts
+given_by_last (Some scan) cuts = None
+
+abbrev pub given_now : Local → Option (List ℕ)
+given_now l = given_by_last l.scan l.cuts

@@ -1,4 +1,4 @@
-ghost use Rattle.std.specs.Prelude.{◌≡◌, ◌≢◌, ℕ, ◌+◌, ◌-◌, ◌<◌, ◌≤◌, ◌↔◌, [], true, false, None, Some, IsTrue};
+ghost use Rattle.std.specs.Prelude.{◌≡◌, ◌≢◌, ℕ, ◌+◌, ◌-◌, ◌<◌, ◌≤◌, ◌↔◌, [], true, false, None, Some, IfSome, IsTrue};
 ghost use Rattle.world_core.specs.Local as local;
 ghost use Rattle.world_core.specs.Event as event;
 ghost use Rattle.world_core.specs.declared.region.Region.{Region};
@@ -10,8 +10,9 @@ use crate::phase::Phase;
 use crate::plays::Holding;
 use crate::stance::Stance;
 use atomic_table::Seat;
+use book_base::Cut;
 use std::marker::PhantomData;
-use world_core::{Outside, Region};
+use world_core::{Outside, Region, Want};
 
 /// The seat of one caller, whose local alone is with it.
 pub struct CallerSeat {
@@ -34,6 +35,8 @@ pub struct Caller<P = Outside> {
 }
 
 impl<P> Caller<P> {
+    ghost use Rattle.world_core.specs.Scan.{FitsCallers};
+    ghost use Rattle.row_table.specs.Notes.{wanted_next, given_now};
     ghost use Rattle.row_table.specs.Callers.{who_of, local_with, stance_of, StaysWith};
 
     /// The number of this caller.
@@ -69,6 +72,27 @@ impl<P> Caller<P> {
         ensures { IsTrue result ↔ local.IsIdle (local_with self.now) }
     {
         self.notes.phase == Phase::Announcing && self.notes.unstaged
+    }
+
+    /// What its scan under way wants next, if one is under way. No step is made.
+    pub fn wants(&self) -> Option<Want>
+        ensures wants { result ≡ wanted_next self.now.callers (local_with self.now).scan }
+        ensures fits { IfSome result (λ want. FitsCallers self.now.callers want) }
+    {
+        match &self.notes.scan {
+            Some(scan) => Some(scan.core.next()),
+            None => None,
+        }
+    }
+
+    /// The cut that its last scan to end gave it, if one has ended and none is under way. No step is made.
+    pub fn given(&self) -> Option<Cut>
+        ensures { result ≡ given_now (local_with self.now) }
+    {
+        match self.notes.scan {
+            Some(_) => None,
+            None => self.notes.given,
+        }
     }
 
     /// The caller, with its local as it is, which makes no more calls.

@@ -8,6 +8,7 @@ ghost use Rattle.world_core.specs.Scan as scan;
 use crate::action::Opening;
 use crate::layout::embedded_place;
 use crate::phase::Phase;
+use book_base::Cut;
 use world_core::{Region, ScanCore, Want};
 
 /// A scan under way, as its caller keeps it.
@@ -18,7 +19,7 @@ pub struct ScanUnderWay {
 }
 
 /// What a caller keeps of its local: its counts in N and M, its phase, whether its row under way has no
-/// staged word, and its scan under way.
+/// staged word, its scan under way, and the last cut that a scan gave it.
 #[derive(Debug, Drop)]
 pub struct Notes {
     pub announced: u64,
@@ -26,10 +27,11 @@ pub struct Notes {
     pub phase: Phase,
     pub unstaged: bool,
     pub scan: Option<ScanUnderWay>,
+    pub given: Option<Cut>,
 }
 
 impl ScanUnderWay {
-    ghost use Rattle.row_table.specs.Notes.{under_way, phase_after};
+    ghost use Rattle.row_table.specs.Notes.{under_way, phase_after, cut_of};
 
     fn begin(n: u32, me: u32, region: Region, is_view: bool) -> ScanUnderWay
         requires caller { me < n }
@@ -72,16 +74,16 @@ impl ScanUnderWay {
         }
     }
 
-    // The scan takes the word that it wants. Whether it has ended now.
-    fn take(&mut self, word: u64) -> bool
+    // The scan takes the word that it wants. The cut with which it has ended, if it has now.
+    fn take(&mut self, word: u64) -> Option<Cut>
         requires { scan.has_ended self.old.core.course ≡ false }
         ensures taken { (n me : ℕ) (s : local.Scan) → self.old ≡ under_way n me s → self.new ≡ under_way n me (event.with_word s word) }
-        ensures ended { (n me : ℕ) (s : local.Scan) → self.old ≡ under_way n me s → result ≡ scan.is_done (scan.wanted n (event.with_word s word).taken) }
+        ensures ended { (n me : ℕ) (s : local.Scan) → self.old ≡ under_way n me s → result ≡ cut_of (scan.wanted n (event.with_word s word).taken) }
     {
         self.core.take(word);
         match self.core.next() {
-            Want::Done(_) => true,
-            _ => false,
+            Want::Done(cut) => Some(cut),
+            _ => None,
         }
     }
 
@@ -111,6 +113,7 @@ impl Notes {
             phase: Phase::Announcing,
             unstaged: true,
             scan: None,
+            given: None,
         }
     }
 
@@ -171,9 +174,10 @@ impl Notes {
         let Some(scan) = &mut self.scan else {
             unreachable!()
         };
-        if scan.take(word) {
+        if let Some(cut) = scan.take(word) {
             self.phase = scan.phase_after(phase);
             self.scan = None;
+            self.given = Some(cut);
         }
     }
 

@@ -11,7 +11,7 @@ ghost use Rattle.world_core.specs.Event as event;
 use crate::action::Action;
 use crate::bench::{Bench, Kept};
 use crate::caller::{Caller, CallerSeat};
-use crate::layout::row_words;
+use crate::layout::{embedded_place, row_words};
 use crate::notes::Notes;
 use crate::plays::{Deed, Does, Holding, Key, Learns, Leaves, Returns, Worlds, Writes};
 use crate::stance::Stance;
@@ -20,7 +20,7 @@ use atomic_table::{Closed, Seat, Table};
 use book_base::{MAX_CALLERS, MAX_CALLS, NoMemory};
 use std::alloc::{AllocError, Global};
 use std::marker::{Brand, PhantomData};
-use world_core::{Outside, Program};
+use world_core::{Outside, Program, Region};
 
 /// The table of rows of some callers, in a world of a program.
 ///
@@ -217,6 +217,15 @@ impl<P: Program> Rows<P> {
         ensures { result ≡ self.now.callers }
     {
         self.callers
+    }
+
+    /// The place for the entry of a caller of the cut that a row embeds in a region.
+    pub fn embedded_place(&self, region: Region, caller: u32) -> u32
+        requires { caller < self.now.callers }
+        ensures place { result ≡ words.embedded_place self.now.callers region caller }
+        ensures fits { result < words.places self.now.callers region }
+    {
+        embedded_place(self.callers, region, caller) as u32
     }
 
     /// The program of the world.

@@ -1,0 +1,75 @@
+-- A scan that its caller makes turn by turn.
+use Rattle.std.specs.Prelude.{◌≡◌, ℕ, ◌<◌, Bool, true, false, IsTrue, List, [], ◌∷◌, ◌++◌, length, Option, Some, None}
+use Rattle.world_core.specs.declared.region.Region.{Region}
+use Rattle.world_core.specs.Shape.{Meaning}
+use Rattle.world_core.specs.Scan.{wanted, is_done, first_caller}
+use Rattle.world_core.specs.Local.{Local}
+use Rattle.world_core.specs.Event as event
+use Rattle.row_table.specs.declared.stance.Stance.{Stance}
+use Rattle.row_table.specs.declared.caller.Caller.{Caller}
+use Rattle.row_table.specs.declared.rows.Rows.{Rows}
+use Rattle.row_table.specs.Actions.{opening_in}
+use Rattle.row_table.specs.Stances.{opening_with, looked}
+use Rattle.row_table.specs.Callers.{shape_of, who_of, local_with, stance_of}
+use Rattle.collect_scan.specs.declared.turns.Scan.{Scan}
+use Rattle.collect_scan.specs.Scanned.{local_in_scan, most_words, HasScanned}
+
+-- How a caller stands after it began a scan of a region: nothing is to begin any more, and a reply that it kept for a scan of N
+-- is handed over.
+abbrev pub stance_scanned : Stance → Region → Stance
+stance_scanned s region = looked (record s { begins = Some region })
+
+-- How it stands after a turn: the first begins the scan.
+abbrev pub stance_turned : Bool → Stance → Region → Stance
+stance_turned false s region = stance_scanned s region
+stance_turned true s region = s
+
+-- A scan of this region that isn't done is under way on this local, and since it began its caller has made no other step.
+pub record IsScanning (n : ℕ) (region : Region) (l : Local) : Type 0 where
+  pub before : Local
+  pub opening : event.Opening
+  pub taken : List ℕ
+  pub is : l ≡ local_in_scan n before region opening taken
+  pub goes : is_done (wanted n taken) ≡ false
+
+-- What a turn leaves of a scan that began so on a local and had taken these words: it has taken one more and wants a further one;
+-- or it has ended with this cut.
+abbrev pub HasTurned : ℕ → Region → event.Opening → List ℕ → Option (List ℕ) → Local → Local → Type 0
+HasTurned n region opening taken None before now =
+    (x : ℕ) × (now ≡ local_in_scan n before region opening (taken ++ x ∷ [])) × (length (taken ++ x ∷ []) < most_words n)
+HasTurned n region opening taken (Some cut) before now = HasScanned n region opening cut before now
+
+module _ {P : Type 0} where
+  -- Whose a scan is, its region, and whether its first turn was made.
+  abbrev pub scanner_of : Scan P → ℕ
+  scanner_of s = s.who
+
+  abbrev pub region_of : Scan P → Region
+  region_of s = s.region
+
+  abbrev pub has_begun : Scan P → Bool
+  has_begun s = s.begun
+
+  -- What the first look of a scan of this region begins: the view's scan, where the region is N and the caller keeps a reply.
+  abbrev pub opening_at : Caller P → Region → event.Opening
+  opening_at c region = opening_in (opening_with (Some region) (stance_of c).reply)
+
+  -- The caller may begin a scan of this region: the view's scan isn't under way, and the program allows a reply that it begins
+  -- with.
+  pub record MayScan (meaning : P → ℕ → ℕ → Meaning) (r : Rows P) (c : Caller P) (region : Region) : Type 0 where
+    pub free : event.is_view_under_way (local_with c).scan ≡ false
+    pub begins : IsTrue (event.may_begin (shape_of meaning r) (who_of c) (local_with c) region first_caller (opening_at c region))
+
+  -- The caller may go on with its scan of this region, which isn't done.
+  pub record MayGoOn (r : Rows P) (c : Caller P) (region : Region) : Type 0 where
+    pub plain : (stance_of c).begins ≡ None
+    pub scanning : IsScanning r.callers region (local_with c)
+
+  -- The next turn may be made: the first where the caller may begin the scan, and a later one where it may go on with it.
+  abbrev pub MayTurnAs : Bool → (P → ℕ → ℕ → Meaning) → Rows P → Caller P → Region → Type 0
+  MayTurnAs false meaning r c region = MayScan meaning r c region
+  MayTurnAs true meaning r c region = MayGoOn r c region
+
+  pub record MayTurn (meaning : P → ℕ → ℕ → Meaning) (r : Rows P) (c : Caller P) (s : Scan P) : Type 0 where
+    pub who : scanner_of s ≡ who_of c
+    pub may : MayTurnAs (has_begun s) meaning r c (region_of s)

@@ -1,0 +1,67 @@
+ghost use Rattle.std.specs.Prelude.{◌≡◌, ℕ, ◌+◌, true, false, List, [], None};
+ghost use Rattle.world_core.specs.Local.{Local};
+ghost use Rattle.world_core.specs.Event.{Opening};
+ghost use Rattle.row_table.specs.Callers.{IsCallerOf, IsStill, who_of, local_with, stance_of};
+ghost use Rattle.collect_scan.specs.Scanned.{local_in_scan};
+
+use crate::steps::{go_on, set_out};
+use book_base::Cut;
+use row_table::{Caller, Rows, Steps};
+use std::marker::PhantomData;
+use std::sync::ledger::Ledger;
+use world_core::{Outside, Program, Region};
+
+/// A scan of a region by one caller, which makes one step a turn, so that others may step between.
+#[derive(Drop)]
+pub struct Scan<P = Outside> {
+    who: u32,
+    region: Region,
+    begun: bool,
+    of: PhantomData<P>,
+}
+
+impl<P: Program> Scan<P> {
+    ghost use Rattle.collect_scan.specs.Turns.{scanner_of, region_of, has_begun, opening_at, stance_turned, HasTurned, MayTurn};
+
+    /// A scan of a region by this caller of these rows, before its first turn. No step is made.
+    pub fn begin(_rows: &Rows<P>, caller: &Caller<P>, region: Region) -> Scan<P>
+        ensures scanner { scanner_of result ≡ who_of caller.now }
+        ensures region { region_of result ≡ region }
+        ensures unbegun { has_begun result ≡ false }
+    {
+        Scan {
+            who: caller.who(),
+            region,
+            begun: false,
+            of: PhantomData,
+        }
+    }
+
+    /// Makes the one step that the scan wants, and answers its cut where it is done with that. The first turn
+    /// begins the scan. Between turns the caller makes no other step, and where the scan is done there is no
+    /// further turn. A scan of `n` callers has at most `n * (n + 1) + n` turns.
+    pub fn turn<L: Ledger>(
+        &mut self,
+        rows: &Rows<P>,
+        caller: &mut Caller<P>,
+        steps: &mut Steps<L>,
+    ) -> Option<Cut>
+        requires caller { IsCallerOf P.meaning rows.now caller.old }
+        requires turn { MayTurn P.meaning rows.now caller.old self.old }
+        ensures caller { IsStill P.meaning rows.now caller.old caller.new }
+        ensures stance { stance_of caller.new ≡ stance_turned (has_begun self.old) (stance_of caller.old) (region_of self.old) }
+        ensures scan { (scanner_of self.new ≡ scanner_of self.old) × (region_of self.new ≡ region_of self.old) × (has_begun self.new ≡ true) }
+        ensures first { has_begun self.old ≡ false → HasTurned rows.now.callers (region_of self.old) (opening_at caller.old (region_of self.old)) [] result (local_with caller.old) (local_with caller.new) }
+        ensures later { (before : Local) (opening : Opening) (taken : List ℕ) → has_begun self.old ≡ true → local_with caller.old ≡ local_in_scan rows.now.callers before (region_of self.old) opening taken → HasTurned rows.now.callers (region_of self.old) opening taken result before (local_with caller.new) }
+        ensures goes_on { result ≡ None → MayTurn P.meaning rows.now caller.new self.new }
+        ensures tick { steps.new ≡ steps.old + 1 }
+    {
+        if self.begun {
+            go_on(rows, caller, self.region, steps);
+        } else {
+            set_out(rows, caller, self.region, steps);
+            self.begun = true;
+        }
+        caller.given()
+    }
+}

@@ -1,0 +1,40 @@
+ghost use Rattle.std.specs.Prelude.{◌≡◌, ◌+◌, ◌≤◌, length};
+ghost use Rattle.row_table.specs.Callers.{IsCallerOf, IsStill, local_with, stance_of};
+ghost use Rattle.collect_scan.specs.Scanned.{HasScanned, most_words};
+ghost use Rattle.collect_scan.specs.Turns.{MayScan, opening_at, stance_scanned};
+
+use crate::steps::{go_on, set_out};
+use book_base::Cut;
+use row_table::{Caller, Rows, Steps};
+use std::sync::ledger::Ledger;
+use world_core::{Program, Region};
+
+/// Scans a region, and answers the cut: the counts of the region at one moment of the scan.
+///
+/// Two equal collects end it. Where a caller has moved twice since the first collect, it ends with the cut
+/// that this caller's latest counted row embeds (Afek and others 1993). So a scan of `n` callers makes at
+/// most `n + 1` collects, which is `n * (n + 1)` looks, and at most `n` peeks, whatever the others do.
+///
+/// A scan of N is the view's where the caller keeps a reply of the object. It takes no memory.
+pub fn scan<P: Program, L: Ledger>(
+    rows: &Rows<P>,
+    caller: &mut Caller<P>,
+    region: Region,
+    steps: &mut Steps<L>,
+) -> Cut
+    requires caller { IsCallerOf P.meaning rows.now caller.old }
+    requires begins { MayScan P.meaning rows.now caller.old region }
+    ensures caller { IsStill P.meaning rows.now caller.old caller.new }
+    ensures stance { stance_of caller.new ≡ stance_scanned (stance_of caller.old) region }
+    ensures scanned { HasScanned rows.now.callers region (opening_at caller.old region) result (local_with caller.old) (local_with caller.new) }
+    ensures wide { length result ≡ rows.now.callers }
+    ensures ticks { (steps.old ≤ steps.new) × (steps.new ≤ steps.old + most_words rows.now.callers) }
+{
+    set_out(rows, caller, region, steps);
+    loop {
+        if let Some(cut) = caller.given() {
+            return cut;
+        }
+        go_on(rows, caller, region, steps);
+    }
+}
