@@ -1,0 +1,217 @@
+-- Books with a front of another's records, and books that are filled with records.
+use Rattle.std.proofs.Common.{◌≡◌, ℕ, ◌+◌, ◌<◌, ◌≤◌, List, [], ◌∷◌, ◌++◌, length, take, set, get_or, slice_get, Some, refl, sym, ap, ◌∙◌, subst, arith, inl, inr}
+use Rattle.std.proofs.lemmas.Bool.{cases_lt, cases_eq}
+use Rattle.std.proofs.lemmas.List.{set-set, set-get_or, length-set, take_more, take_all, get_or_past, get_or-take, length-take}
+use Rattle.std.proofs.lemmas.List.FromFn.{length-map-range_with_len, get_or-map-range_with_len}
+use Rattle.std.proofs.lemmas.Option.{slice_get_within, slice_get_read, none-some}
+use Rattle.list_laws.proofs.Places.{slice_get-take}
+use Rattle.book_base.specs.declared.call.Call.{Call}
+use Rattle.book_base.specs.declared.call.Record.{Record}
+use Rattle.book_base.specs.Book.{Page, page_of, calls_of, answers_of, record_of, IsValid, with_answer}
+use Rattle.book_base.specs.Refusal.{MayAnswer}
+use Rattle.book_base.proofs.PageLemmas.{empty, page_past}
+use Rattle.book_base.proofs.GrowthLemmas.{within_announced, below_calls, page_of-set_same, page_of-set_other, MayAnswer-from_valid}
+use Rattle.book_base.proofs.ViewLemmas.{answer_stands}
+use Rattle.row_gather.specs.Words.{records_at}
+use Rattle.row_gather.specs.Filling.{with_records, filled, IsFilled}
+
+-- A book has the calls of another, and a front of its records.
+pub record IsFrontOf (part whole : List Page) : Type 0 where
+  pub callers : length part ≡ length whole
+  pub operations : (i : ℕ) → (page_of part i).operations ≡ (page_of whole i).operations
+  pub records : (call : Call) (r : Record) → record_of part call ≡ Some r → record_of whole call ≡ Some r
+
+-- It is valid where the other is.
+pub front_is_valid : (part whole : List Page) → IsFrontOf part whole → IsValid whole → IsValid part
+front_is_valid part whole front valid =
+    let calls : (i : ℕ) → calls_of part i ≡ calls_of whole i = λ i. ap (length {A = ℕ}) (front.operations i) in
+    record {
+      answers = λ i. elim (cases_lt (calls_of part i) (answers_of part i)) [
+        | inl more ↦
+            let it : Call = record { caller = i; number = calls_of part i } in
+            let there = answer_stands part it more in
+            let was = front.records it there.0 there.1 in
+            absurd (omega (arith, slice_get_within (page_of whole i).records (calls_of part i) there.0 was, valid.answers i, calls i))
+        | inr fits ↦ fits
+      ];
+      wide = λ call r e. valid.wide call r (front.records call r e) ∙ sym front.callers;
+      within = λ call r e. within_announced part r.view (λ i. omega (arith, below_calls whole r.view (valid.within call r (front.records call r e)) i, calls i));
+      own = λ call r e. valid.own call r (front.records call r e);
+      comparable = λ a b r s x y. valid.comparable a b r s (front.records a r x) (front.records b s y);
+    }
+
+-- ---- the records of one caller
+
+abbrev page_with : List Page → ℕ → List Record → Page
+page_with book j rs = record (page_of book j) { records = rs }
+
+-- a page without records is the page with none
+none_from_length : (rs : List Record) → length rs ≡ 0 → rs ≡ []
+none_from_length [] e = refl
+none_from_length (r ∷ rs) e = absurd (omega (arith, e))
+
+pub with_records_none : (book : List Page) (j : ℕ) (rs : List Record) → answers_of book j ≡ 0 → book ≡ with_records book j (take 0 rs)
+with_records_none book j rs none =
+    let nothing : (page_of book j).records ≡ take 0 rs = none_from_length (page_of book j).records none in
+    sym (set-get_or book j empty) ∙ ap (λ (x : List Record). set book j (page_with book j x)) nothing
+
+-- one answer more
+pub with_records_more : (book : List Page) (j k : ℕ) (rs : List Record) (r : Record) → j < length book → k < length rs → r ≡ get_or rs k r
+    → with_answer (with_records book j (take k rs)) j r ≡ with_records book j (take (k + 1) rs)
+with_records_more book j k rs r low inside is =
+    ap (λ (q : Page). set (with_records book j (take k rs)) j (record q { records = q.records ++ r ∷ [] })) (page_of-set_same book j (page_with book j (take k rs)) low)
+    ∙ set-set book j (page_with book j (take k rs)) (page_with book j (take k rs ++ r ∷ []))
+    ∙ ap (λ (x : List Record). set book j (page_with book j x)) (ap (λ (y : Record). take k rs ++ y ∷ []) is ∙ sym (take_more rs k r inside))
+
+-- the first ones are a front of all
+with_records_front : (book : List Page) (j k : ℕ) (rs : List Record) → j < length book → IsFrontOf (with_records book j (take k rs)) (with_records book j rs)
+with_records_front book j k rs low =
+    let few : Page = page_with book j (take k rs) in
+    let all : Page = page_with book j rs in
+    record {
+      callers = length-set book j few ∙ sym (length-set book j all);
+      operations = λ i. elim (cases_eq i j) [
+        | inl same ↦
+            subst (λ (x : ℕ). (page_of (set book j few) x).operations ≡ (page_of (set book j all) x).operations) (sym same)
+            (ap (λ (q : Page). q.operations) (page_of-set_same book j few low) ∙ sym (ap (λ (q : Page). q.operations) (page_of-set_same book j all low)))
+        | inr other ↦ ap (λ (q : Page). q.operations) (page_of-set_other book j i few other ∙ sym (page_of-set_other book j i all other))
+      ];
+      records = λ call r e. elim (cases_eq call.caller j) [
+        | inl same ↦
+            let here : slice_get (take k rs) call.number ≡ Some r
+            = sym (ap (λ (x : ℕ). slice_get (page_of (set book j few) x).records call.number) same ∙ ap (λ (q : Page). slice_get q.records call.number) (page_of-set_same book j few low)) ∙ e in
+            ap (λ (x : ℕ). slice_get (page_of (set book j all) x).records call.number) same
+            ∙ (ap (λ (q : Page). slice_get q.records call.number) (page_of-set_same book j all low) ∙ slice_get-take k rs call.number r here)
+        | inr other ↦
+            ap (λ (q : Page). slice_get q.records call.number) (page_of-set_other book j call.caller all other ∙ sym (page_of-set_other book j call.caller few other)) ∙ e
+      ];
+    }
+
+-- so the next answer may be given where all of them are a valid book
+pub may_next : (book now : List Page) (j k : ℕ) (rs : List Record) (r : Record) → now ≡ with_records book j (take k rs) → j < length book → k < length rs → r ≡ get_or rs k r
+    → IsValid (with_records book j rs) → MayAnswer now j r.view
+may_next book now j k rs r at low inside is valid =
+    let few : Page = page_with book j (take k rs) in
+    let next : IsValid (with_answer (with_records book j (take k rs)) j r)
+    = subst IsValid (sym (with_records_more book j k rs r low inside is))
+    (front_is_valid (with_records book j (take (k + 1) rs)) (with_records book j rs) (with_records_front book j (k + 1) rs low) valid) in
+    subst (λ (b : List Page). MayAnswer b j r.view) (sym at) (MayAnswer-from_valid (with_records book j (take k rs)) j r (omega (arith, low, length-set book j few)) next)
+
+-- and its view has one count per caller
+pub wide_next : (book now : List Page) (j k : ℕ) (rs : List Record) (r : Record) → now ≡ with_records book j (take k rs) → j < length book → k < length rs → r ≡ get_or rs k r
+    → IsValid (with_records book j rs) → length r.view ≡ length now
+wide_next book now j k rs r at low inside is valid =
+    let all : Page = page_with book j rs in
+    let there : record_of (with_records book j rs) (record { caller = j; number = k }) ≡ Some r
+    = ap (λ (q : Page). slice_get q.records k) (page_of-set_same book j all low) ∙ slice_get_read rs (length rs) k r refl inside is in
+    valid.wide (record { caller = j; number = k }) r there
+    ∙ (length-set book j all ∙ sym (ap (length {A = Page}) at ∙ length-set book j (page_with book j (take k rs))))
+
+-- ---- the records of all callers
+
+pub filled_is : (book : List Page) (lists : List (List Record)) → length lists ≡ length book → IsFilled book lists (filled book lists)
+filled_is book lists long =
+    let made : ℕ → Page = λ i. record { operations = (page_of book i).operations; records = records_at lists i } in
+    let wide : length (filled book lists) ≡ length book = length-map-range_with_len made 0 (length book) in
+    let inside : (i : ℕ) → i < length book → page_of (filled book lists) i ≡ made i = λ i low. get_or-map-range_with_len made 0 (length book) i i empty low (omega arith) in
+    record {
+      callers = wide;
+      operations = λ i. elim (cases_lt i (length book)) [
+        | inl low ↦ ap (λ (q : Page). q.operations) (inside i low)
+        | inr past ↦ ap (λ (q : Page). q.operations) (page_past (filled book lists) i (omega (arith, past, wide)) ∙ sym (page_past book i past))
+      ];
+      records = λ i. elim (cases_lt i (length book)) [
+        | inl low ↦ ap (λ (q : Page). q.records) (inside i low)
+        | inr past ↦ ap (λ (q : Page). q.records) (page_past (filled book lists) i (omega (arith, past, wide))) ∙ sym (get_or_past lists i [] (omega (arith, past, long)))
+      ];
+    }
+
+pub filled_none : (book : List Page) (lists : List (List Record)) → ((i : ℕ) → answers_of book i ≡ 0) → IsFilled book (take 0 lists) book
+filled_none book lists none =
+    record { callers = refl; operations = λ i. refl; records = λ i. none_from_length (page_of book i).records (none i) ∙ sym (get_or_past (take 0 lists) i [] (omega arith)) }
+
+pub filled_all : (book now : List Page) (lists : List (List Record)) (n : ℕ) → length lists ≤ n → IsFilled book (take n lists) now → IsFilled book lists now
+filled_all book now lists n all h = subst (λ (ls : List (List Record)). IsFilled book ls now) (take_all n lists all) h
+
+-- of the first callers' records
+records_at-take : (lists : List (List Record)) (n i : ℕ) → i < n → records_at (take n lists) i ≡ records_at lists i
+records_at-take lists n i low = get_or-take n lists i [] low
+
+length-take-at_most : (n : ℕ) (lists : List (List Record)) → length (take n lists) ≤ n
+length-take-at_most n lists = omega (arith, length-take n lists)
+
+-- what they have at a place
+records_of_first : (lists : List (List Record)) (j i k : ℕ) (r : Record) → slice_get (records_at (take j lists) i) k ≡ Some r → (i < j) × (slice_get (records_at lists i) k ≡ Some r)
+records_of_first lists j i k r e =
+    elim (cases_lt i j) [
+      | inl below ↦ (below, ap (λ (rs : List Record). slice_get rs k) (sym (records_at-take lists j i below)) ∙ e)
+      | inr past ↦
+          let none : records_at (take j lists) i ≡ [] = get_or_past (take j lists) i [] (omega (arith, past, length-take-at_most j lists)) in
+          absurd (none-some r (sym (ap (λ (rs : List Record). slice_get rs k) none) ∙ e))
+    ]
+
+-- the caller j has no records yet where the first j have theirs
+pub unanswered_next : (book now : List Page) (lists : List (List Record)) (j : ℕ) → IsFilled book (take j lists) now → answers_of now j ≡ 0
+unanswered_next book now lists j h =
+    let none : records_at (take j lists) j ≡ [] = get_or_past (take j lists) j [] (length-take-at_most j lists) in
+    ap (length {A = Record}) (h.records j ∙ none)
+
+-- and with them the book is a front of the one with all
+pub valid_next : (book now : List Page) (lists : List (List Record)) (j : ℕ) (rs : List Record) → IsFilled book (take j lists) now → length lists ≡ length book → j < length book
+    → records_at lists j ≡ rs → IsValid (filled book lists) → IsValid (with_records now j rs)
+valid_next book now lists j rs h long low at valid =
+    let whole = filled_is book lists long in
+    let p : Page = page_with now j rs in
+    let inside : j < length now = omega (arith, low, h.callers) in
+    front_is_valid (with_records now j rs) (filled book lists)
+    (record {
+      callers = length-set now j p ∙ (h.callers ∙ sym whole.callers);
+      operations = λ i. elim (cases_eq i j) [
+        | inl same ↦
+            subst (λ (x : ℕ). (page_of (set now j p) x).operations ≡ (page_of (filled book lists) x).operations) (sym same)
+            (ap (λ (q : Page). q.operations) (page_of-set_same now j p inside) ∙ (h.operations j ∙ sym (whole.operations j)))
+        | inr other ↦ ap (λ (q : Page). q.operations) (page_of-set_other now j i p other) ∙ (h.operations i ∙ sym (whole.operations i))
+      ];
+      records = λ call r e. elim (cases_eq call.caller j) [
+        | inl same ↦
+            let here : slice_get rs call.number ≡ Some r
+            = sym (ap (λ (x : ℕ). slice_get (page_of (set now j p) x).records call.number) same ∙ ap (λ (q : Page). slice_get q.records call.number) (page_of-set_same now j p inside)) ∙ e in
+            ap (λ (x : List Record). slice_get x call.number) (whole.records call.caller ∙ (ap (records_at lists) same ∙ at)) ∙ here
+        | inr other ↦
+            let here : slice_get (records_at (take j lists) call.caller) call.number ≡ Some r
+            = sym (ap (λ (q : Page). slice_get q.records call.number) (page_of-set_other now j call.caller p other) ∙ ap (λ (x : List Record). slice_get x call.number) (h.records call.caller)) ∙ e in
+            ap (λ (x : List Record). slice_get x call.number) (whole.records call.caller) ∙ (records_of_first lists j call.caller call.number r here).1
+      ];
+    })
+    valid
+
+-- one caller more
+pub filled_more : (book now new : List Page) (lists : List (List Record)) (j : ℕ) (rs : List Record) → IsFilled book (take j lists) now → length lists ≡ length book → j < length book
+    → records_at lists j ≡ rs → new ≡ with_records now j rs → IsFilled book (take (j + 1) lists) new
+filled_more book now new lists j rs h long low at is =
+    let p : Page = page_with now j rs in
+    let inside : j < length now = omega (arith, low, h.callers) in
+    let made : IsFilled book (take (j + 1) lists) (set now j p)
+    = record {
+      callers = length-set now j p ∙ h.callers;
+      operations = λ i. elim (cases_eq i j) [
+        | inl same ↦
+            subst (λ (x : ℕ). (page_of (set now j p) x).operations ≡ (page_of book x).operations) (sym same)
+            (ap (λ (q : Page). q.operations) (page_of-set_same now j p inside) ∙ h.operations j)
+        | inr other ↦ ap (λ (q : Page). q.operations) (page_of-set_other now j i p other) ∙ h.operations i
+      ];
+      records = λ i. elim (cases_eq i j) [
+        | inl same ↦
+            subst (λ (x : ℕ). (page_of (set now j p) x).records ≡ records_at (take (j + 1) lists) x) (sym same)
+            (ap (λ (q : Page). q.records) (page_of-set_same now j p inside) ∙ (sym at ∙ sym (records_at-take lists (j + 1) j (omega arith))))
+        | inr other ↦
+            ap (λ (q : Page). q.records) (page_of-set_other now j i p other)
+            ∙ (h.records i ∙ elim (cases_lt i j) as (λ _. records_at (take j lists) i ≡ records_at (take (j + 1) lists) i) [
+              | inl below ↦ records_at-take lists j i below ∙ sym (records_at-take lists (j + 1) i (omega arith))
+              | inr past ↦
+                  get_or_past (take j lists) i [] (omega (arith, past, length-take-at_most j lists))
+                  ∙ sym (get_or_past (take (j + 1) lists) i [] (omega (arith, past, other, length-take-at_most (j + 1) lists)))
+            ])
+      ];
+    } in
+    subst (IsFilled book (take (j + 1) lists)) (sym is) made

@@ -1,0 +1,5 @@
+pub mod Peeking
+pub mod Reading
+pub mod Counting
+pub mod Filling
+pub mod Gathering

@@ -1,0 +1,4 @@
+pub mod Peeks
+pub mod Words
+pub mod Filling
+pub mod Exact

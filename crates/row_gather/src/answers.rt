@@ -1,0 +1,47 @@
+//! Puts records into a book that has their calls.
+ghost use Rattle.std.specs.Prelude.{ℕ, ◌≡◌, ◌<◌, OnOk, length, map};
+ghost use Rattle.book_base.specs.Book.{answers_of, IsValid, with_answer};
+ghost use Rattle.book_base.specs.Refusal.{MayAnswer};
+ghost use Rattle.row_gather.specs.Filling.{with_records, filled, IsFilled};
+
+use book_base::{Book, BookFault, NoMemory, Record};
+
+// An answer that keeps the book valid is refused for want of memory alone.
+fn add_answer(book: &mut Book, j: u32, answer: Record) -> Result<(), NoMemory>
+    requires caller { j < length book.old }
+    requires wide { length answer.view ≡ length book.old }
+    requires may { MayAnswer book.old j answer.view }
+    ensures { OnOk result (book.new ≡ with_answer book.old j answer) }
+{
+    match book.add_answer(j, answer.reply, answer.view) {
+        Ok(()) => Ok(()),
+        Err(BookFault::NoMemory) => Err(NoMemory),
+        Err(_) => unreachable!(),
+    }
+}
+
+// Adds all answers of caller j, which has none so far.
+fn add_answers_of(book: &mut Book, j: u32, records: &[Record]) -> Result<(), NoMemory>
+    requires caller { j < length book.old }
+    requires unanswered { answers_of book.old j ≡ 0 }
+    requires valid { IsValid (with_records book.old j records.now) }
+    ensures { OnOk result (book.new ≡ with_records book.old j records.now) }
+{
+    for answer in records {
+        add_answer(book, j, *answer)?;
+    }
+    Ok(())
+}
+
+// Adds the answers of all callers, which have none so far.
+pub fn add_answers(book: &mut Book, lists: &[Vec<Record>]) -> Result<(), NoMemory>
+    requires callers { length lists.now ≡ length book.old }
+    requires unanswered { (i : ℕ) → answers_of book.old i ≡ 0 }
+    requires valid { IsValid (filled book.old (map (λ records. records.items) lists.now)) }
+    ensures { OnOk result (IsFilled book.old (map (λ records. records.items) lists.now) book.new) }
+{
+    for j in 0..book.callers() {
+        add_answers_of(book, j, &lists[j as usize])?;
+    }
+    Ok(())
+}

@@ -1,0 +1,45 @@
+ghost use Rattle.std.specs.Prelude.{◌≡◌, IfOk, None};
+ghost use Rattle.world_core.specs.declared.region.Region.{Region};
+ghost use Rattle.world_core.specs.Calls.{IsGathered};
+ghost use Rattle.world_laws.specs.Given.{IsGivenIn};
+ghost use Rattle.row_table.specs.Callers.{shape_of, who_of, local_with, stance_of, IsCallerOf, IsStill};
+ghost use Rattle.row_gather.specs.Peeks.{HasOnlyPeeked};
+ghost use Rattle.row_gather.specs.Exact.{IsBookOfAll};
+
+use crate::answers::add_answers;
+use crate::held::held_calls;
+use crate::operations::peek_operations;
+use crate::records::peek_records;
+use book_base::{Book, Cut, NoMemory};
+use row_table::{Caller, Rows, Steps};
+use std::alloc::Global;
+use std::sync::ledger::Ledger;
+use world_core::Program;
+
+/// The book at a cut, read from the rows of the table: the records that the cut holds, of all callers, and
+/// the calls that some of their views hold, answered or not (Castañeda and Rodríguez 2023).
+///
+/// The cut is one that a scan of the region of answers gave this caller, and no scan of the caller is under
+/// way. Each word of the book is one peek. After want of memory the caller may have peeked a part of them.
+pub fn gather_at<P: Program, L: Ledger>(
+    alloc: Global,
+    rows: &Rows<P>,
+    caller: &mut Caller<P>,
+    cut: &Cut,
+    steps: &mut Steps<L>,
+) -> Result<Book, NoMemory>
+    requires caller { IsCallerOf P.meaning rows.now caller.old }
+    requires given { IsGivenIn (local_with caller.old).cuts Region.M cut.now }
+    requires unscanned { (local_with caller.old).scan ≡ None }
+    ensures caller { IsStill P.meaning rows.now caller.old caller.new }
+    ensures stance { stance_of caller.new ≡ stance_of caller.old }
+    ensures peeks { HasOnlyPeeked (local_with caller.old) (local_with caller.new) steps.old steps.new }
+    ensures gathered { IfOk result (IsGathered rows.now.callers (local_with caller.new) cut.now) }
+    ensures exact { IfOk result (IsBookOfAll (shape_of P.meaning rows.now) (who_of caller.new) (local_with caller.new) cut.now) }
+{
+    let records = peek_records(alloc, rows, caller, cut, steps)?;
+    let mut book = Book::with_calls(alloc, &held_calls(cut.n(), &records))?;
+    peek_operations(rows, caller, &mut book, steps);
+    add_answers(&mut book, &records)?;
+    Ok(book)
+}

@@ -1,0 +1,10 @@
+//! Reads the published records at a cut from the rows of a table, as a book: exactly the book at that cut.
+#![tactic(auto)]
+
+mod answers;
+mod gather;
+mod held;
+mod operations;
+mod records;
+
+pub use gather::gather_at;

@@ -1,0 +1,97 @@
+//! The records that a cut holds, word by word.
+ghost use Rattle.std.specs.Prelude.{ℕ, ◌≡◌, ◌<◌, ◌≤◌, IfOk, IsTrue, length, map, slice_index};
+ghost use Rattle.book_base.specs.declared.TheConstants.{MAX_CALLERS};
+ghost use Rattle.world_core.specs.declared.region.Region.{Region};
+ghost use Rattle.world_core.specs.Event.{knows_row};
+ghost use Rattle.row_table.specs.Callers.{local_with};
+ghost use Rattle.row_gather.specs.Peeks.{IsReady, PeeksAlone};
+ghost use Rattle.row_gather.specs.Words.{KnowsRows, IsPeekedView, IsPeekedRecord, ArePeekedRecords, ArePeekedTo};
+
+use book_base::{Call, Cut, NoMemory, Record};
+use row_table::{Caller, Rows, Steps};
+use std::alloc::Global;
+use std::sync::ledger::Ledger;
+use world_core::{Program, Region};
+
+// The view of a call: each of its entries is one peek.
+fn peek_view<P: Program, L: Ledger>(
+    rows: &Rows<P>,
+    caller: &mut Caller<P>,
+    call: Call,
+    steps: &mut Steps<L>,
+) -> Cut
+    requires ready { IsReady P.meaning rows.now caller.old }
+    requires caller_fits { call.caller < rows.now.callers }
+    requires known { IsTrue (knows_row rows.now.callers (local_with caller.old) Region.M call.caller call.number) }
+    ensures peeks { PeeksAlone P.meaning rows.now caller.old caller.new steps.old steps.new }
+    ensures view { IsPeekedView rows.now.callers (local_with caller.new) call result }
+{
+    let mut view = Cut::zero(rows.callers());
+    for j in 0..rows.callers() {
+        let count = rows.peek(caller, Region::M, call.caller, call.number, 1 + j, steps);
+        view.set(j, count);
+    }
+    view
+}
+
+// The record of a call: its reply and its view.
+fn peek_record<P: Program, L: Ledger>(
+    rows: &Rows<P>,
+    caller: &mut Caller<P>,
+    call: Call,
+    steps: &mut Steps<L>,
+) -> Record
+    requires ready { IsReady P.meaning rows.now caller.old }
+    requires caller_fits { call.caller < rows.now.callers }
+    requires known { IsTrue (knows_row rows.now.callers (local_with caller.old) Region.M call.caller call.number) }
+    ensures peeks { PeeksAlone P.meaning rows.now caller.old caller.new steps.old steps.new }
+    ensures record { IsPeekedRecord rows.now.callers (local_with caller.new) call result }
+{
+    let reply = rows.peek(caller, Region::M, call.caller, call.number, 0, steps);
+    let view = peek_view(rows, caller, call, steps);
+    Record { reply, view }
+}
+
+// The first so many records of caller j.
+fn peek_records_of<P: Program, L: Ledger>(
+    alloc: Global,
+    rows: &Rows<P>,
+    caller: &mut Caller<P>,
+    j: u32,
+    count: u64,
+    steps: &mut Steps<L>,
+) -> Result<Vec<Record>, NoMemory>
+    requires ready { IsReady P.meaning rows.now caller.old }
+    requires caller_fits { j < rows.now.callers }
+    requires known { KnowsRows rows.now.callers (local_with caller.old) Region.M j count }
+    ensures peeks { PeeksAlone P.meaning rows.now caller.old caller.new steps.old steps.new }
+    ensures records { IfOk result (λ records. ArePeekedRecords rows.now.callers (local_with caller.new) j count records.items) }
+{
+    let mut records = Vec::with_capacity(alloc, count as usize)?;
+    for number in 0..count {
+        let call = Call { caller: j, number };
+        records.push(peek_record(rows, caller, call, steps))?;
+    }
+    Ok(records)
+}
+
+// All records that the cut holds, by caller.
+pub fn peek_records<P: Program, L: Ledger>(
+    alloc: Global,
+    rows: &Rows<P>,
+    caller: &mut Caller<P>,
+    cut: &Cut,
+    steps: &mut Steps<L>,
+) -> Result<Vec<Vec<Record>>, NoMemory>
+    requires ready { IsReady P.meaning rows.now caller.old }
+    requires wide { length cut.now ≡ rows.now.callers }
+    requires known { (j : ℕ) → j < rows.now.callers → KnowsRows rows.now.callers (local_with caller.old) Region.M j (slice_index cut.now j) }
+    ensures peeks { PeeksAlone P.meaning rows.now caller.old caller.new steps.old steps.new }
+    ensures records { IfOk result (λ lists. ArePeekedTo rows.now.callers (local_with caller.new) cut.now rows.now.callers (map (λ records. records.items) lists.items)) }
+{
+    let mut lists = Vec::with_capacity(alloc, cut.n() as usize)?;
+    for j in 0..cut.n() {
+        lists.push(peek_records_of(alloc, rows, caller, j, cut.get(j), steps)?)?;
+    }
+    Ok(lists)
+}
