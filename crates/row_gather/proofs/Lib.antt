@@ -3,3 +3,4 @@ pub mod Reading
 pub mod Counting
 pub mod Filling
 pub mod Gathering
+pub mod Ticking

@@ -2,3 +2,4 @@ pub mod Peeks
 pub mod Words
 pub mod Filling
 pub mod Exact
+pub mod Worked

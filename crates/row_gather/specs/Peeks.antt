@@ -28,3 +28,7 @@ module _ {P : Type 0} where
     pub still : IsStill meaning r c d
     pub stance : stance_of d ≡ stance_of c
     pub peeks : HasOnlyPeeked (local_with c) (local_with d) before after
+
+  -- The local of a caller has become that of another by peeks alone.
+  abbrev pub OnlyPeeks : Caller P → Caller P → ℕ → ℕ → Type 0
+  OnlyPeeks c d before after = HasOnlyPeeked (local_with c) (local_with d) before after

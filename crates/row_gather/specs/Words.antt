@@ -1,15 +1,19 @@
 -- The words of a book, as a caller has peeked them.
-use Rattle.std.specs.Prelude.{◌≡◌, ℕ, ◌+◌, ◌<◌, IsTrue, max, List, [], ◌∷◌, length, map, Some, slice_get, slice_index, slice_index_or}
+use Rattle.std.specs.Prelude.{◌≡◌, ℕ, ◌+◌, ◌*◌, ◌<◌, IsTrue, max, sum, List, [], ◌∷◌, length, map, Some, slice_get, slice_index, slice_index_or}
 use Rattle.book_base.specs.declared.call.Call.{Call}
 use Rattle.book_base.specs.declared.call.Record.{Record}
 use Rattle.book_base.specs.OperationWord.{low_of, high_of}
-use Rattle.book_base.specs.Book.{Page, calls_of, answers_of, operation_of}
+use Rattle.book_base.specs.Book.{Page, calls_of, answers_of, announced, answered, operation_of}
 use Rattle.book_base.specs.BookAt.{greatest_count}
 use Rattle.world_core.specs.declared.region.Region.{Region}
 use Rattle.world_core.specs.declared.region.Region.TheVariants.{N, M}
 use Rattle.world_core.specs.Local.{Local}
 use Rattle.world_core.specs.Event.{knows_row}
 use Rattle.world_core.specs.Calls.{HasPeeked}
+
+-- How many row words a book has: two of each call, and of each record its reply and the entries of its view.
+abbrev pub words_of_book : List Page → ℕ
+words_of_book book = 2 * sum (announced book) + (1 + length book) * sum (answered book)
 
 -- A caller of n knows the first rows of caller j in a region, as many as the count says.
 abbrev pub KnowsRows : ℕ → Local → Region → ℕ → ℕ → Type 0

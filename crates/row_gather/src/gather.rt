@@ -1,10 +1,11 @@
-ghost use Rattle.std.specs.Prelude.{◌≡◌, IfOk, None};
+ghost use Rattle.std.specs.Prelude.{◌≡◌, ◌+◌, IfOk, None};
 ghost use Rattle.world_core.specs.declared.region.Region.{Region};
 ghost use Rattle.world_core.specs.Calls.{IsGathered};
 ghost use Rattle.world_laws.specs.Given.{IsGivenIn};
-ghost use Rattle.row_table.specs.Callers.{shape_of, who_of, local_with, stance_of, IsCallerOf, IsStill};
-ghost use Rattle.row_gather.specs.Peeks.{HasOnlyPeeked};
-ghost use Rattle.row_gather.specs.Exact.{IsBookOfAll};
+ghost use Rattle.row_table.specs.Callers.{local_with, stance_of, IsCallerOf, IsStill};
+ghost use Rattle.row_gather.specs.Peeks.{OnlyPeeks};
+ghost use Rattle.row_gather.specs.Words.{words_of_book};
+ghost use Rattle.row_gather.specs.Exact.{IsTheBookAt};
 
 use crate::answers::add_answers;
 use crate::held::held_calls;
@@ -33,9 +34,10 @@ pub fn gather_at<P: Program, L: Ledger>(
     requires unscanned { (local_with caller.old).scan ≡ None }
     ensures caller { IsStill P.meaning rows.now caller.old caller.new }
     ensures stance { stance_of caller.new ≡ stance_of caller.old }
-    ensures peeks { HasOnlyPeeked (local_with caller.old) (local_with caller.new) steps.old steps.new }
+    ensures peeks { OnlyPeeks caller.old caller.new steps.old steps.new }
     ensures gathered { IfOk result (IsGathered rows.now.callers (local_with caller.new) cut.now) }
-    ensures exact { IfOk result (IsBookOfAll (shape_of P.meaning rows.now) (who_of caller.new) (local_with caller.new) cut.now) }
+    ensures exact { IfOk result (IsTheBookAt P.meaning rows.now caller.new cut.now) }
+    ensures ticks { IfOk result (λ book. steps.new ≡ steps.old + words_of_book book) }
 {
     let records = peek_records(alloc, rows, caller, cut, steps)?;
     let mut book = Book::with_calls(alloc, &held_calls(cut.n(), &records))?;

@@ -8,3 +8,6 @@ mod operations;
 mod records;
 
 pub use gather::gather_at;
+
+#[cfg(test)]
+mod tests;

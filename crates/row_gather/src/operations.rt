@@ -1,6 +1,6 @@
 //! The operations of a book's calls, word by word.
-ghost use Rattle.std.specs.Prelude.{ℕ, ◌≡◌, ◌<◌, IsTrue, length};
-ghost use Rattle.book_base.specs.Book.{calls_of, answers_of};
+ghost use Rattle.std.specs.Prelude.{ℕ, ◌≡◌, ◌+◌, ◌*◌, ◌<◌, IsTrue, length, sum};
+ghost use Rattle.book_base.specs.Book.{calls_of, answers_of, announced};
 ghost use Rattle.world_core.specs.declared.region.Region.{Region};
 ghost use Rattle.world_core.specs.Event.{knows_row};
 ghost use Rattle.row_table.specs.Callers.{local_with};
@@ -23,6 +23,7 @@ fn peek_operation<P: Program, L: Ledger>(
     requires caller_fits { call.caller < rows.now.callers }
     requires known { IsTrue (knows_row rows.now.callers (local_with caller.old) Region.N call.caller call.number) }
     ensures peeks { PeeksAlone P.meaning rows.now caller.old caller.new steps.old steps.new }
+    ensures ticks { steps.new ≡ steps.old + 2 }
     ensures operation { IsPeekedOperation (local_with caller.new) call result }
 {
     let low = rows.peek(caller, Region::N, call.caller, call.number, 0, steps);
@@ -44,6 +45,7 @@ fn peek_operations_of<P: Program, L: Ledger>(
     requires unanswered { (i : ℕ) → answers_of book.old i ≡ 0 }
     requires known { KnowsRows rows.now.callers (local_with caller.old) Region.N j (calls_of book.old j) }
     ensures peeks { PeeksAlone P.meaning rows.now caller.old caller.new steps.old steps.new }
+    ensures ticks { steps.new ≡ steps.old + 2 * calls_of book.old j }
     ensures same { HasCallsOf book.old book.new }
     ensures calls { ArePeekedCallsOf (local_with caller.new) j (calls_of book.old j) book.old book.new }
 {
@@ -66,6 +68,7 @@ pub fn peek_operations<P: Program, L: Ledger>(
     requires unanswered { (i : ℕ) → answers_of book.old i ≡ 0 }
     requires known { (j : ℕ) → j < rows.now.callers → KnowsRows rows.now.callers (local_with caller.old) Region.N j (calls_of book.old j) }
     ensures peeks { PeeksAlone P.meaning rows.now caller.old caller.new steps.old steps.new }
+    ensures ticks { steps.new ≡ steps.old + 2 * sum (announced book.old) }
     ensures same { HasCallsOf book.old book.new }
     ensures calls { ArePeekedCalls (local_with caller.new) rows.now.callers book.new }
 {

@@ -1,5 +1,5 @@
 //! The records that a cut holds, word by word.
-ghost use Rattle.std.specs.Prelude.{ℕ, ◌≡◌, ◌<◌, ◌≤◌, IfOk, IsTrue, length, map, slice_index};
+ghost use Rattle.std.specs.Prelude.{ℕ, ◌≡◌, ◌+◌, ◌*◌, sum, ◌<◌, ◌≤◌, IfOk, IsTrue, length, map, slice_index};
 ghost use Rattle.book_base.specs.declared.TheConstants.{MAX_CALLERS};
 ghost use Rattle.world_core.specs.declared.region.Region.{Region};
 ghost use Rattle.world_core.specs.Event.{knows_row};
@@ -24,6 +24,7 @@ fn peek_view<P: Program, L: Ledger>(
     requires caller_fits { call.caller < rows.now.callers }
     requires known { IsTrue (knows_row rows.now.callers (local_with caller.old) Region.M call.caller call.number) }
     ensures peeks { PeeksAlone P.meaning rows.now caller.old caller.new steps.old steps.new }
+    ensures ticks { steps.new ≡ steps.old + rows.now.callers }
     ensures view { IsPeekedView rows.now.callers (local_with caller.new) call result }
 {
     let mut view = Cut::zero(rows.callers());
@@ -45,6 +46,7 @@ fn peek_record<P: Program, L: Ledger>(
     requires caller_fits { call.caller < rows.now.callers }
     requires known { IsTrue (knows_row rows.now.callers (local_with caller.old) Region.M call.caller call.number) }
     ensures peeks { PeeksAlone P.meaning rows.now caller.old caller.new steps.old steps.new }
+    ensures ticks { steps.new ≡ steps.old + (1 + rows.now.callers) }
     ensures record { IsPeekedRecord rows.now.callers (local_with caller.new) call result }
 {
     let reply = rows.peek(caller, Region::M, call.caller, call.number, 0, steps);
@@ -65,6 +67,7 @@ fn peek_records_of<P: Program, L: Ledger>(
     requires caller_fits { j < rows.now.callers }
     requires known { KnowsRows rows.now.callers (local_with caller.old) Region.M j count }
     ensures peeks { PeeksAlone P.meaning rows.now caller.old caller.new steps.old steps.new }
+    ensures ticks { IfOk result (λ _. steps.new ≡ steps.old + (1 + rows.now.callers) * count) }
     ensures records { IfOk result (λ records. ArePeekedRecords rows.now.callers (local_with caller.new) j count records.items) }
 {
     let mut records = Vec::with_capacity(alloc, count as usize)?;
@@ -87,11 +90,13 @@ pub fn peek_records<P: Program, L: Ledger>(
     requires wide { length cut.now ≡ rows.now.callers }
     requires known { (j : ℕ) → j < rows.now.callers → KnowsRows rows.now.callers (local_with caller.old) Region.M j (slice_index cut.now j) }
     ensures peeks { PeeksAlone P.meaning rows.now caller.old caller.new steps.old steps.new }
+    ensures ticks { IfOk result (λ _. steps.new ≡ steps.old + (1 + rows.now.callers) * sum cut.now) }
     ensures records { IfOk result (λ lists. ArePeekedTo rows.now.callers (local_with caller.new) cut.now rows.now.callers (map (λ records. records.items) lists.items)) }
 {
     let mut lists = Vec::with_capacity(alloc, cut.n() as usize)?;
     for j in 0..cut.n() {
-        lists.push(peek_records_of(alloc, rows, caller, j, cut.get(j), steps)?)?;
+        let count = cut.get(j);
+        lists.push(peek_records_of(alloc, rows, caller, j, count, steps)?)?;
     }
     Ok(lists)
 }

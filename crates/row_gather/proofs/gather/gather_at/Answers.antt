@@ -9,6 +9,7 @@ use Rattle.row_gather.proofs.Peeking.{all_stay, knows_given, only_peeked_then}
 use Rattle.row_gather.proofs.Reading.{lists_wide}
 use Rattle.row_gather.proofs.Filling.{filled_is}
 use Rattle.row_gather.proofs.Gathering.{given_wide, counts_few, answers_begun, length_begun, known_begun, gathered_from, gathered_is_valid, is_book_of_all}
+use Rattle.row_gather.proofs.Ticking.{words_read}
 use Rattle.row_gather.proofs.gather.gather_at.Goals as goal
 
 abbrev items : Vec Record Global → List Record
@@ -125,3 +126,20 @@ returns-clause-exact g c =
     (all_stay l m _ _ c.peek_operations.ensures.peeks.peeks) lists (c.held_calls.ensures.wide ∙ (c.n.ensures.count ∙ wide))
     (counts_of_lists n c.n.result c.held_calls.result ws c.deref.result.now (c.n.ensures.count ∙ wide) (c.deref.ensures.value ∙ sym c.deref-2.ensures.value) c.held_calls.ensures.held) c.in_ok-book.ensures
     c.peek_operations.ensures.same c.peek_operations.ensures.calls c.in_ok-add_answers.ensures)
+
+pub returns-clause-ticks : goal.returns-clause-ticks
+returns-clause-ticks g c =
+    let s = shape_of g.P.Program.meaning c.args.rows.now in
+    let n = c.args.rows.now.callers in
+    let cut = c.args.cut.now in
+    let l = local_with c.peek_records.new.caller in
+    let m = local_with c.peek_operations.new.caller in
+    let ws = c.deref-2.result.now in
+    let wide = given_wide s (who_of c.args.caller.now) (local_with c.args.caller.now) cut c.requires.caller.seat.local c.requires.given in
+    let lists : ArePeekedTo n l cut n (map items ws)
+    = subst (λ (xs : List (Vec Record Global)). ArePeekedTo n l cut n (map items xs)) (sym c.deref-2.ensures.value) c.in_ok-records.ensures.records in
+    let long = length_begun c.held_calls.result c.in_ok-book.book n c.in_ok-book.ensures (c.held_calls.ensures.wide ∙ (c.n.ensures.count ∙ wide)) in
+    let full = c.in_ok-add_answers.ensures in
+    words_read c.in_ok-book.book c.add_answers.new.book cut n c.args.steps.now c.peek_records.new.steps c.peek_operations.new.steps long (full.callers ∙ (c.peek_operations.ensures.same.callers ∙ long)) wide
+    (λ j. ap (length {A = ℕ}) (full.operations j) ∙ c.peek_operations.ensures.same.calls j)
+    (λ j low. ap (length {A = Record}) (full.records j) ∙ (lists.each j low).long) c.in_ok-records.ensures.ticks c.peek_operations.ensures.ticks

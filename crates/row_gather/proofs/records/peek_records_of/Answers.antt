@@ -1,3 +1,4 @@
+use Rattle.std.proofs.Common.{arith}
 use Rattle.row_table.specs.Callers.{local_with}
 use Rattle.row_gather.proofs.Peeking.{all_stay, alone_then}
 use Rattle.row_gather.proofs.Reading.{records_more}
@@ -12,6 +13,7 @@ loop-number-preserved g c =
     let step = c.peek_record.ensures in
     record {
       alone = alone_then g.P.Program.meaning c.args.rows.now _ _ _ _ _ _ was.alone step.peeks;
+      ticks = omega (arith, was.ticks, step.ticks);
       records = records_more c.args.rows.now.callers (local_with c.loop-number.caller) (local_with c.peek_record.new.caller) c.args.j c.loop-number.number c.loop-number.records.items c.push.new.self.items c.peek_record.result
           (all_stay (local_with c.loop-number.caller) (local_with c.peek_record.new.caller) _ _ step.peeks.peeks) was.records step.record c.in_ok-push.ensures.items;
     }
