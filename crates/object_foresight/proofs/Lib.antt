@@ -1,0 +1,6 @@
+pub mod Dealing
+pub mod Counting
+pub mod Linking
+pub mod Passing
+pub mod Foreseeing
+pub mod Ranking

@@ -1,0 +1,22 @@
+use Rattle.std.proofs.Common.{◌≡◌, ℕ, List, [], refl, sym, ap, ◌∙◌}
+use Rattle.book_base.specs.Foresight.{Known}
+use Rattle.object_foresight.specs.declared.links.Discipline.TheVariants.{Queue, Stack, Container}
+use Rattle.object_foresight.proofs.Linking.{links_name_calls}
+use Rattle.history_rules.proofs.QueueRuns.{queue_is_container, stack_is_container}
+use Rattle.object_foresight.proofs.Foreseeing.{followed_without_ranks, kept_without_ranks, followed_by_stack, kept_by_stack, blank_is_foreseen}
+use Rattle.object_foresight.proofs.foresee.foresee_stack.Goals as goal
+
+pub hold-requires-clause-links : goal.hold-requires-clause-links
+hold-requires-clause-links g c = links_name_calls (g.R.Reader.reading c.args.reader.now) c.args.book.now Stack c.in_ok-links.links c.in_ok-links.ensures.links
+
+pub returns : goal.returns
+returns g c init next stack holds none =
+    let reading = g.R.Reader.reading c.args.reader.now in
+    let book = c.args.book.now in
+    let links = c.in_ok-links.links in
+    let are = c.in_ok-links.ensures.links in
+    let known : Known = c.rank_takes.new.known in
+    let bars = c.in_ok-rank_takes.ensures.bars ∙ ap (λ (k : Known). k.bars) c.in_ok-known.ensures.blank in
+    c.hold.ensures.right init next (blank_is_foreseen init next book known bars) (λ refused. are.refused refused init next (stack_is_container reading next stack) none)
+    (followed_by_stack reading init next book links known.ranks c.rank_takes.ensures.valid are c.in_ok-rank_takes.ensures.ranks stack holds none)
+    (kept_by_stack reading init next book links known.ranks are c.in_ok-rank_takes.ensures.ranks stack holds none)

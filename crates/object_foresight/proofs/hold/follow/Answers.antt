@@ -1,0 +1,13 @@
+use Rattle.std.proofs.Common.{◌≡◌, ℕ, ◌∙◌, List, ap, sym, subst}
+use Rattle.object_foresight.specs.Links.{AreFollowed}
+use Rattle.object_foresight.proofs.hold.follow.Goals as goal
+
+pub loop-caller-preserved : goal.loop-caller-preserved
+loop-caller-preserved c =
+    let i = c.loop-caller.invariant in
+    record {
+      bars = c.follow_caller.ensures.bars;
+      ranks = c.follow_caller.ensures.ranks ∙ i.ranks;
+      right = λ init next right are. c.follow_caller.ensures.right init next (i.right init next right are)
+          (subst (λ (ranks : List (ℕ × ℕ)). AreFollowed init next c.args.book.now c.args.links.now ranks) (sym i.ranks) are);
+    }

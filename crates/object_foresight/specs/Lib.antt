@@ -1,0 +1,6 @@
+pub mod Deals
+pub mod Uses
+pub mod Links
+pub mod Pasts
+pub mod Ranks
+pub mod Foreseen

@@ -1,0 +1,50 @@
+-- How often each value of a book is put in and taken out.
+use Rattle.std.specs.Prelude.{◌≡◌, ℕ, ◌+◌, ◌*◌, ◌<◌, ◌≤◌, ◌⊎◌, false, List, length, slice_get, Some, unwrap_or}
+use Rattle.std.specs.Ordering.{nat_cmp}
+use Rattle.std.specs.BTreeMap.{is_at}
+use Rattle.std.specs.Map.{lookup}
+use Rattle.book_base.specs.declared.call.Call.{Call}
+use Rattle.book_base.specs.declared.TheConstants.{MAX_CALLS}
+use Rattle.book_base.specs.Book.{Page}
+use Rattle.history_rules.specs.Container.{Reading}
+use Rattle.history_rules.specs.Rules.{AreDifferent}
+use Rattle.object_foresight.specs.declared.deal.Deal.{Deal}
+use Rattle.object_foresight.specs.declared.deal.Deal.TheVariants as deals
+use Rattle.object_foresight.specs.declared.uses.Use.{Use}
+use Rattle.object_foresight.specs.declared.uses.Uses.{Uses}
+use Rattle.object_foresight.specs.Deals.{deal_of}
+
+-- the calls of the first callers, and the first so many of the next one
+abbrev pub IsReadTo : ℕ → ℕ → Call → Type 0
+IsReadTo caller number call = (call.caller < caller) ⊎ ((call.caller ≡ caller) × (call.number < number))
+
+-- no call uses the value
+abbrev pub no_use : Use
+no_use = record { puts = 0; put = record { caller = 0; number = 0 }; takes = 0 }
+
+-- the uses of a value
+abbrev pub use_of : List (ℕ × Use) → ℕ → Use
+use_of uses v = unwrap_or (lookup (is_at (nat_cmp v)) uses) no_use
+
+-- Of the calls that were read, so many put a value in and so many take it out, as listed.
+pub record IsCounted (deal : Call → Deal) (read : Call → Type 0) (v : ℕ) (used : Use) : Type 0 where
+  -- the calls that put it in
+  pub putters : List Call
+  pub puts : length putters ≡ used.puts
+  pub all_putters : (call : Call) → read call → deal call ≡ deals.Put v → (k : ℕ) × (slice_get putters k ≡ Some call)
+  -- one of them
+  pub put : 1 ≤ used.puts → deal used.put ≡ deals.Put v
+  -- the calls that take it out
+  pub takers : List Call
+  pub takes : length takers ≡ used.takes
+  pub all_takers : (call : Call) → read call → deal call ≡ deals.Took v → (k : ℕ) × (slice_get takers k ≡ Some call)
+  pub only_takers : (k : ℕ) (call : Call) → slice_get takers k ≡ Some call → read call × (deal call ≡ deals.Took v)
+  pub different : AreDifferent takers
+
+-- The uses are those of the calls that were read.
+pub record AreCounted (reading : Reading) (book : List Page) (caller number : ℕ) (uses : Uses) : Type 0 where
+  pub each : (v : ℕ) → IsCounted (deal_of reading book) (IsReadTo caller number) v (use_of uses.by_value.entries v)
+  -- no value is used more often than calls were read
+  pub few : (v : ℕ) → ((use_of uses.by_value.entries v).puts ≤ caller * MAX_CALLS + number) × ((use_of uses.by_value.entries v).takes ≤ caller * MAX_CALLS + number)
+  -- each call that takes is answered, where no unanswered one was found
+  pub answered : uses.has_open_take ≡ false → (call : Call) → IsReadTo caller number call → deal_of reading book call ≡ deals.OpenTake → ⊥

@@ -1,0 +1,69 @@
+ghost use Rattle.std.specs.Prelude.{◌≡◌, ℕ, [], List, IfOk};
+ghost use Rattle.book_base.specs.Foresight.{IsForesight};
+ghost use Rattle.history_rules.specs.Container.{IsQueue, IsStack, IsContainer};
+ghost use Rattle.object_foresight.specs.Foreseen.{HoldsItsWords};
+
+use crate::hold::hold;
+use crate::links::{Discipline, Links};
+use crate::ranks::rank_takes;
+use crate::reader::Reader;
+use crate::uses::Uses;
+use book_base::{Book, Foresight, NoMemory};
+use std::alloc::Global;
+
+/// What a queue foresees of a book (after Henzinger, Sezgin and Vafeiadis 2013): where the take of x
+/// precedes the take of v, x is put in before v; a take that finds nothing and precedes the take of v
+/// stands before the put of v; what is never taken is put in after both, where each take is answered; and
+/// no value is taken more often than it is put in.
+pub fn foresee_queue<R: Reader>(
+    alloc: Global,
+    reader: &R,
+    book: &Book,
+) -> Result<Foresight, NoMemory>
+    ensures { IfOk result (λ known. (init : List ℕ) (next : List ℕ → ℕ → List ℕ × ℕ) → IsQueue (R.reading reader.now) next
+        → (R.reading reader.now).values init ≡ [] → IsForesight init next book.now known) }
+{
+    let uses = Uses::of(alloc, reader, book)?;
+    let links = Links::of(alloc, reader, book, &uses, Discipline::Queue)?;
+    let mut known = Foresight::blank(alloc, book)?;
+    hold(book, &links, &mut known);
+    Ok(known)
+}
+
+/// What a stack foresees of a book: where the take of x precedes the take of v, v isn't put on x; a take
+/// that finds nothing and precedes the take of v stands before the put of v; what is never taken is put on
+/// nothing that is taken, and after takes that find nothing, where each take is answered; and no value is
+/// taken more often than it is put in.
+pub fn foresee_stack<R: Reader>(
+    alloc: Global,
+    reader: &R,
+    book: &Book,
+) -> Result<Foresight, NoMemory>
+    ensures { IfOk result (λ known. (init : List ℕ) (next : List ℕ → ℕ → List ℕ × ℕ) → IsStack (R.reading reader.now) next
+        → HoldsItsWords (R.reading reader.now) → (R.reading reader.now).values init ≡ [] → IsForesight init next book.now known) }
+{
+    let uses = Uses::of(alloc, reader, book)?;
+    let links = Links::of(alloc, reader, book, &uses, Discipline::Stack)?;
+    let mut known = Foresight::blank(alloc, book)?;
+    rank_takes(reader, book, &uses, &mut known)?;
+    hold(book, &links, &mut known);
+    Ok(known)
+}
+
+/// What any container foresees of a book: a take that finds nothing and precedes the take of v stands
+/// before the put of v, and before the put of what is never taken, where each take is answered; and no
+/// value is taken more often than it is put in.
+pub fn foresee_container<R: Reader>(
+    alloc: Global,
+    reader: &R,
+    book: &Book,
+) -> Result<Foresight, NoMemory>
+    ensures { IfOk result (λ known. (init : List ℕ) (next : List ℕ → ℕ → List ℕ × ℕ) → IsContainer (R.reading reader.now) next
+        → (R.reading reader.now).values init ≡ [] → IsForesight init next book.now known) }
+{
+    let uses = Uses::of(alloc, reader, book)?;
+    let links = Links::of(alloc, reader, book, &uses, Discipline::Container)?;
+    let mut known = Foresight::blank(alloc, book)?;
+    hold(book, &links, &mut known);
+    Ok(known)
+}

@@ -1,0 +1,142 @@
+ghost use Rattle.std.specs.Prelude.{◌≡◌, ℕ, true, ◌<◌, ◌≤◌, List, length, slice_index, ⊤};
+ghost use Rattle.book_base.specs.declared.call.Call.{Call};
+ghost use Rattle.book_base.specs.declared.TheConstants.{MAX_CALLS};
+ghost use Rattle.book_base.specs.Book.{Page, IsCall, IsSmall, IsValid};
+ghost use Rattle.book_base.specs.Order.{HasLegalOrder};
+ghost use Rattle.book_base.specs.Foresight.{HasBar, HasEarly, IsForesight, IsHopeless, MustComeFirst};
+ghost use Rattle.object_foresight.specs.Links.{AreLinksOf, AreFollowed, AreKept};
+ghost use Rattle.object_foresight.specs.Pasts.{last_held, IsPast};
+
+use crate::links::Links;
+use crate::past::Past;
+use book_base::{Book, Call, Foresight};
+
+/// Holds back what the links of a book say, and each call of a book that is refused.
+pub fn hold(book: &Book, links: &Links, known: &mut Foresight)
+    requires links { AreLinksOf book.now links.now }
+    requires bars { (c : Call) → IsCall book.now c → HasBar known.old c }
+    ensures right { (init : List ℕ) (next : List ℕ → ℕ → List ℕ × ℕ) → IsForesight init next book.now known.old
+        → (links.now.is_refused ≡ true → ¬ HasLegalOrder init next book.now)
+        → AreFollowed init next book.now links.now known.old.ranks → AreKept init next book.now links.now known.old.ranks
+        → IsForesight init next book.now known.new }
+{
+    if links.is_refused {
+        refuse(book, known);
+    } else {
+        follow(book, links, known);
+        keep(book, links, known);
+    }
+}
+
+// Holds back each put of what is taken after the calls that precede its take.
+fn follow(book: &Book, links: &Links, known: &mut Foresight)
+    requires links { AreLinksOf book.now links.now }
+    requires bars { (c : Call) → IsCall book.now c → HasBar known.old c }
+    ensures bars { (c : Call) → IsCall book.now c → HasBar known.new c }
+    ensures ranks { known.new.ranks ≡ known.old.ranks }
+    ensures right { (init : List ℕ) (next : List ℕ → ℕ → List ℕ × ℕ) → IsForesight init next book.now known.old
+        → AreFollowed init next book.now links.now known.old.ranks → IsForesight init next book.now known.new }
+{
+    for caller in 0..book.callers() {
+        follow_caller(book, links, known, caller);
+    }
+}
+
+// Holds back the puts of what a caller takes.
+fn follow_caller(book: &Book, links: &Links, known: &mut Foresight, caller: u32)
+    requires links { AreLinksOf book.now links.now }
+    requires bars { (c : Call) → IsCall book.now c → HasBar known.old c }
+    requires valid { IsValid book.now }
+    requires small { IsSmall book.now }
+    requires caller { caller < length book.now }
+    ensures bars { (c : Call) → IsCall book.now c → HasBar known.new c }
+    ensures ranks { known.new.ranks ≡ known.old.ranks }
+    ensures right { (init : List ℕ) (next : List ℕ → ℕ → List ℕ × ℕ) → IsForesight init next book.now known.old
+        → AreFollowed init next book.now links.now known.old.ranks → IsForesight init next book.now known.new }
+{
+    let mut past = Past::none(book);
+    for number in 0..book.answers(caller) {
+        let call = Call { caller, number };
+        past.pass_preceding(book, links, call);
+        if let Some(put) = links.at(call).after {
+            hold_behind(known, put, &past);
+        }
+    }
+}
+
+// Holds back the puts of what stays for good, behind all that is taken or finds nothing.
+fn keep(book: &Book, links: &Links, known: &mut Foresight)
+    requires links { AreLinksOf book.now links.now }
+    requires bars { (c : Call) → IsCall book.now c → HasBar known.old c }
+    ensures right { (init : List ℕ) (next : List ℕ → ℕ → List ℕ × ℕ) → IsForesight init next book.now known.old
+        → AreKept init next book.now links.now known.old.ranks → IsForesight init next book.now known.new }
+{
+    let past = Past::whole(book, links);
+    for caller in 0..book.callers() {
+        keep_caller(book, links, known, caller, &past);
+    }
+}
+
+// Holds back the puts of a caller that stay for good.
+fn keep_caller(book: &Book, links: &Links, known: &mut Foresight, caller: u32, past: &Past)
+    requires bars { (c : Call) → IsCall book.now c → HasBar known.old c }
+    requires small { IsSmall book.now }
+    requires caller { caller < length book.now }
+    requires past { IsPast (λ _. ⊤) book.now links.now past.now }
+    ensures bars { (c : Call) → IsCall book.now c → HasBar known.new c }
+    ensures ranks { known.new.ranks ≡ known.old.ranks }
+    ensures right { (init : List ℕ) (next : List ℕ → ℕ → List ℕ × ℕ) → IsForesight init next book.now known.old
+        → AreKept init next book.now links.now known.old.ranks → IsForesight init next book.now known.new }
+{
+    for number in 0..book.calls(caller) {
+        let put = Call { caller, number };
+        if links.at(put).is_kept {
+            hold_behind(known, put, past);
+        }
+    }
+}
+
+// Holds back each call of a book behind itself: the book has no legal order.
+fn refuse(book: &Book, known: &mut Foresight)
+    requires bars { (c : Call) → IsCall book.now c → HasBar known.old c }
+{
+    for caller in 0..book.callers() {
+        refuse_caller(book, known, caller);
+    }
+}
+
+// Holds back each call of a caller behind itself.
+fn refuse_caller(book: &Book, known: &mut Foresight, caller: u32)
+    requires bars { (c : Call) → IsCall book.now c → HasBar known.old c }
+    requires small { IsSmall book.now }
+    requires caller { caller < length book.now }
+    ensures bars { (c : Call) → IsCall book.now c → HasBar known.new c }
+{
+    for number in 0..book.calls(caller) {
+        let call = Call { caller, number };
+        known.hold_back(call, call);
+    }
+}
+
+// Holds back a put behind a floor, and below a limit.
+fn hold_behind(known: &mut Foresight, put: Call, past: &Past)
+    requires bar { HasBar known.old put }
+    requires few { (i : ℕ) → slice_index past.now.floor i ≤ MAX_CALLS }
+    ensures bars { (c : Call) → HasBar known.old c → HasBar known.new c }
+    ensures ranks { known.new.ranks ≡ known.old.ranks }
+    ensures right { (init : List ℕ) (next : List ℕ → ℕ → List ℕ × ℕ) (book : List Page) → IsForesight init next book known.old
+        → ((i : ℕ) → 0 < slice_index past.now.floor i → MustComeFirst init next book (last_held past.now.floor i) put)
+        → ((cut list : List ℕ) → HasEarly known.old.ranks list past.now.limit → IsHopeless init next book cut list put)
+        → IsForesight init next book known.new }
+{
+    for caller in 0..past.floor.n() {
+        let count = past.floor.get(caller);
+        if count > 0 {
+            let number = count - 1;
+            known.hold_back(put, Call { caller, number });
+        }
+    }
+    if past.limit > 0 {
+        known.hold_back_below(put, past.limit);
+    }
+}

@@ -1,0 +1,108 @@
+ghost use Rattle.std.specs.Prelude.{◌≡◌, ℕ, ◌≤◌, ◌<◌, length, replicate, max, IfSome, ⊤, Some};
+ghost use Rattle.book_base.specs.declared.TheConstants.{MAX_CALLS, MAX_CALLERS};
+ghost use Rattle.book_base.specs.Book.{IsCall, IsSmall, IsValid, Precedes};
+ghost use Rattle.object_foresight.specs.Links.{link_at, AreLinksOf};
+ghost use Rattle.object_foresight.specs.Pasts.{raised_to, IsPast};
+
+use crate::links::{Link, Links};
+use book_base::{Book, Call, Cut};
+
+/// What the calls that were passed say: a floor that must stand before a put, and the greatest reach.
+#[derive(Clone, Copy)]
+pub struct Past {
+    /// How many of each caller's calls were passed.
+    pub passed: Cut,
+    /// The calls that stand before the put.
+    pub floor: Cut,
+    /// The greatest reach.
+    pub limit: u64,
+}
+
+impl Past {
+    /// No call was passed.
+    pub fn none(book: &Book) -> Past
+        ensures passed { result.passed ≡ replicate (length book.now) 0 }
+        ensures floor { result.floor ≡ replicate (length book.now) 0 }
+        ensures limit { result.limit ≡ 0 }
+    {
+        let callers = book.callers();
+        Past {
+            passed: Cut::zero(callers),
+            floor: Cut::zero(callers),
+            limit: 0,
+        }
+    }
+
+    /// All calls of a book were passed.
+    pub fn whole(book: &Book, links: &Links) -> Past
+        requires { AreLinksOf book.now links.now }
+        ensures { IsPast (λ _. ⊤) book.now links.now result }
+    {
+        let mut past = Past::none(book);
+        for caller in 0..book.callers() {
+            past.pass_all_of(book, links, caller);
+        }
+        past
+    }
+
+    // Passes all calls of a caller.
+    fn pass_all_of(&mut self, book: &Book, links: &Links, caller: u32)
+        requires small { IsSmall book.now }
+        requires links { AreLinksOf book.now links.now }
+        requires caller { caller < length book.now }
+        requires past { IsPast (λ _. ⊤) book.now links.now self.old }
+        ensures past { IsPast (λ _. ⊤) book.now links.now self.new }
+    {
+        for number in 0..book.calls(caller) {
+            self.pass(links.at(Call { caller, number }));
+        }
+    }
+
+    /// Passes the calls that precede a call, from those of each caller on that were passed before.
+    pub fn pass_preceding(&mut self, book: &Book, links: &Links, call: Call)
+        requires valid { IsValid book.now }
+        requires small { IsSmall book.now }
+        requires links { AreLinksOf book.now links.now }
+        requires call { IsCall book.now call }
+        requires past { IsPast (λ a. Precedes book.now a call) book.now links.now self.old }
+        ensures past { IsPast (λ a. Precedes book.now a call) book.now links.now self.new }
+    {
+        for caller in 0..book.callers() {
+            self.pass_preceding_of(book, links, call, caller);
+        }
+    }
+
+    // Passes the calls of a caller that precede a call.
+    fn pass_preceding_of(&mut self, book: &Book, links: &Links, call: Call, caller: u32)
+        requires valid { IsValid book.now }
+        requires small { IsSmall book.now }
+        requires links { AreLinksOf book.now links.now }
+        requires call { IsCall book.now call }
+        requires caller { caller < length book.now }
+        requires past { IsPast (λ a. Precedes book.now a call) book.now links.now self.old }
+        ensures past { IsPast (λ a. Precedes book.now a call) book.now links.now self.new }
+    {
+        for number in self.passed.get(caller)..book.answers(caller) {
+            let other = Call { caller, number };
+            if !book.precedes(other, call) {
+                return;
+            }
+            self.pass(links.at(other));
+            self.passed.set(caller, number + 1);
+        }
+    }
+
+    // Passes a call with this link.
+    fn pass(&mut self, link: Link)
+        requires { IfSome link.before (λ first. (first.caller < length self.old.floor) × (first.number < MAX_CALLS)) }
+        ensures floor { self.new.floor ≡ raised_to self.old.floor link.before }
+        ensures limit { self.new.limit ≡ max self.old.limit link.reach }
+        ensures passed { self.new.passed ≡ self.old.passed }
+    {
+        if let Some(first) = link.before {
+            let count = self.floor.get(first.caller).max(first.number + 1);
+            self.floor.set(first.caller, count);
+        }
+        self.limit = self.limit.max(link.reach);
+    }
+}
