@@ -8,3 +8,4 @@ pub mod Arguments
 pub mod MapPlaces
 pub mod Leaving
 pub mod MapReading
+pub mod Reading

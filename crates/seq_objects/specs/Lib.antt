@@ -14,3 +14,4 @@ pub mod EntryView
 pub mod ReplyView
 pub mod WorkedSteps
 pub mod MapLaws
+pub mod Readings

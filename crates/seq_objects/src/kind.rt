@@ -16,7 +16,8 @@ use crate::queue::Queue;
 use crate::register::Register;
 use crate::stack::Stack;
 use crate::whole::{put_whole, whole};
-use book_base::{NoMemory, OpWord, SeqObject, State};
+use book_base::{Book, Foresight, NoMemory, OpWord, SeqObject, State};
+use std::alloc::Global;
 
 /// A kind of sequential object.
 #[derive(Clone, Copy, Debug, PartialEq, Eq)]
@@ -162,6 +163,21 @@ impl SeqObject for Kind {
             Kind::Pqueue => Pqueue.step(state, op),
             Kind::CasRegister => CasRegister.step(state, op),
             Kind::Map => Map.step(state, op),
+        }
+    }
+
+    /// What the object knows of a book before a search. Queues and stacks alone know anything.
+    #[tactic(auto, unfolding(crate::specs::Objects::kind_next))]
+    fn foresee(&self, alloc: Global, book: &Book) -> Result<Foresight, NoMemory> {
+        match self {
+            Kind::Queue => Queue.foresee(alloc, book),
+            Kind::Stack => Stack.foresee(alloc, book),
+            Kind::Register
+            | Kind::Counter
+            | Kind::IntSet
+            | Kind::Pqueue
+            | Kind::CasRegister
+            | Kind::Map => Ok(Foresight::none(alloc)),
         }
     }
 

@@ -4,12 +4,15 @@ ghost use Rattle.seq_objects.specs.declared.kind.Kind.TheVariants as kinds;
 ghost use Rattle.seq_objects.specs.Words.{is_known_word};
 ghost use Rattle.seq_objects.specs.Items.{length-none};
 ghost use Rattle.seq_objects.specs.QueueSteps.{queue_operation, queue_after, length-queue_after, queue_after-unknown};
+ghost use Rattle.seq_objects.specs.Readings.{queue_reading};
 
 use crate::entry::{DEQ, ENQ, argument_of};
 use crate::items::take_first;
 use crate::kind::Kind;
-use crate::reply::{DONE, is_value};
-use book_base::{BAD, OpWord, SeqObject, State};
+use crate::reply::{DONE, is_value, shown_value};
+use book_base::{BAD, Book, Foresight, NoMemory, OpWord, SeqObject, State};
+use object_foresight::{Reader, Role, foresee_queue};
+use std::alloc::Global;
 
 /// A first-in first-out queue.
 #[derive(Clone, Copy, Debug)]
@@ -34,6 +37,22 @@ impl QueueOperation {
         } else {
             None
         }
+    }
+}
+
+impl Reader for Queue {
+    ghost reading = { λ _. queue_reading };
+
+    fn role(&self, op: OpWord) -> Role {
+        match QueueOperation::from_word(op) {
+            Some(QueueOperation::Enqueue(value)) => Role::Put(u64::from(value)),
+            Some(QueueOperation::Dequeue) => Role::Take,
+            None => Role::Other,
+        }
+    }
+
+    fn shown(&self, reply: u64) -> Option<u64> {
+        shown_value(reply)
     }
 }
 
@@ -67,6 +86,10 @@ impl SeqObject for Queue {
             Some(QueueOperation::Dequeue) => take_first(state),
             None => BAD,
         }
+    }
+
+    fn foresee(&self, alloc: Global, book: &Book) -> Result<Foresight, NoMemory> {
+        foresee_queue(alloc, self, book)
     }
 
     fn leaves(&self, op: OpWord, reply: u64) -> bool

@@ -2,6 +2,7 @@ ghost use Rattle.std.specs.Prelude.{◌≡◌, ◌≢◌, ℕ, ◌^◌, ◌<◌,
 ghost use Rattle.seq_objects.specs.Words.{AppendsFront};
 ghost use Rattle.seq_objects.specs.Replies.{named_replies, named_reply, is_value, is_known_reply, reply_word, reply_value};
 ghost use Rattle.seq_objects.specs.ReplyView.{shown, reply_named};
+ghost use Rattle.seq_objects.specs.Readings.{shown_value};
 
 use crate::digits::{argument, behind, number, put_marked};
 use book_base::{BAD, NoMemory};
@@ -94,6 +95,17 @@ pub fn is_value(reply: u64) -> bool
     ensures { result ≡ is_value reply }
 {
     reply / VALUES == VALUE_TAG
+}
+
+/// The value that a reply word gives, if it gives one.
+pub fn shown_value(reply: u64) -> Option<u64>
+    ensures { result ≡ shown_value reply }
+{
+    if is_value(reply) {
+        Some(reply % VALUES)
+    } else {
+        None
+    }
 }
 
 /// Whether a reply word has a text other than '#' and the whole number.

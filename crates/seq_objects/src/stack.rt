@@ -4,12 +4,15 @@ ghost use Rattle.seq_objects.specs.declared.kind.Kind.TheVariants as kinds;
 ghost use Rattle.seq_objects.specs.Words.{is_known_word};
 ghost use Rattle.seq_objects.specs.Items.{length-none};
 ghost use Rattle.seq_objects.specs.StackSteps.{stack_operation, stack_after, length-stack_after, stack_after-unknown};
+ghost use Rattle.seq_objects.specs.Readings.{stack_reading};
 
 use crate::entry::{POP, PUSH, argument_of};
 use crate::items::take_last;
 use crate::kind::Kind;
-use crate::reply::{DONE, is_value};
-use book_base::{BAD, OpWord, SeqObject, State};
+use crate::reply::{DONE, is_value, shown_value};
+use book_base::{BAD, Book, Foresight, NoMemory, OpWord, SeqObject, State};
+use object_foresight::{Reader, Role, foresee_stack};
+use std::alloc::Global;
 
 /// A last-in first-out stack.
 #[derive(Clone, Copy, Debug)]
@@ -34,6 +37,22 @@ impl StackOperation {
         } else {
             None
         }
+    }
+}
+
+impl Reader for Stack {
+    ghost reading = { λ _. stack_reading };
+
+    fn role(&self, op: OpWord) -> Role {
+        match StackOperation::from_word(op) {
+            Some(StackOperation::Push(value)) => Role::Put(u64::from(value)),
+            Some(StackOperation::Pop) => Role::Take,
+            None => Role::Other,
+        }
+    }
+
+    fn shown(&self, reply: u64) -> Option<u64> {
+        shown_value(reply)
     }
 }
 
@@ -67,6 +86,10 @@ impl SeqObject for Stack {
             Some(StackOperation::Pop) => take_last(state),
             None => BAD,
         }
+    }
+
+    fn foresee(&self, alloc: Global, book: &Book) -> Result<Foresight, NoMemory> {
+        foresee_stack(alloc, self, book)
     }
 
     fn leaves(&self, op: OpWord, reply: u64) -> bool
