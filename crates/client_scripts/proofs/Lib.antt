@@ -1,0 +1,13 @@
+pub mod Groups
+pub mod Clients
+pub mod DueCalls
+pub mod Turns
+pub mod SharpScripts
+pub mod OperationTexts
+pub mod Readings
+pub mod Stages
+pub mod WrittenTexts
+pub mod ReadTexts
+pub mod FaultTexts
+pub mod Written
+pub mod Generated

@@ -1,0 +1,56 @@
+-- The words of an operation, taken one by one to the end of a line.
+use Rattle.std.proofs.Common.{◌≡◌, ℕ, ◌+◌, ◌-◌, ◌<◌, List, [], ◌∷◌, ◌++◌, length, refl, sym, ap, ◌∙◌, arith, inl, inr}
+use Rattle.std.proofs.lemmas.List.{append-nil, length-append}
+use Rattle.seq_objects.specs.declared.kind.Kind.{Kind}
+use Rattle.seq_objects.specs.Words.{operation_words}
+use Rattle.text_fields.specs.declared.version.Version.{Version}
+use Rattle.text_fields.specs.Version.{word_limit}
+use Rattle.text_fields.specs.Operations.{IsSpelled, kind_operations}
+use Rattle.text_fields.specs.OperationLaws.{few_operation_words, few_kind_words}
+use Rattle.book_text.proofs.EntryTexts.{same_behind}
+use Rattle.book_text.proofs.WordTexts.{AreTaken}
+use Rattle.client_scripts.proofs.SharpScripts.{small_has, one_operation}
+use Rattle.std.proofs.lemmas.Bool.{ltb-true}
+
+nothing_behind : (xs : List (List ℕ)) → length xs ≡ 0 → xs ≡ []
+nothing_behind [] e = refl
+nothing_behind (x ∷ xs) e = absurd (omega arith)
+
+module _ (version : Version) (kind : Kind) (all front left : List (List ℕ)) (taken : AreTaken all front left) where
+  -- no operation has more than three words
+  pub too_many : (word : List ℕ) (words : List (List ℕ)) → left ≡ word ∷ words → (op : ℕ) → all ≡ operation_words kind op → ⊥
+  too_many word words more op is =
+      let size : length all ≡ length front + length left = ap length taken.whole ∙ length-append front left in
+      elim taken.enough [
+        | inl none ↦ absurd (cc (none, more))
+        | inr three ↦ omega (arith, ap length more, ap length is, few_kind_words kind op)
+      ]
+
+  all_front : left ≡ [] → all ≡ front
+  all_front end = taken.whole ∙ ap (λ (ws : List (List ℕ)). front ++ ws) end ∙ append-nil front
+
+  pub none_spelled : left ≡ [] → ((op used : ℕ) → IsSpelled (kind_operations version kind) front op used → ⊥) → (op : ℕ) → op < word_limit version → all ≡ operation_words kind op → ⊥
+  none_spelled end none op small is = none op (length (operation_words kind op) - 1) (record {
+    has = small_has version op small;
+    behind = [];
+    whole = sym (all_front end) ∙ is ∙ sym (append-nil (operation_words kind op));
+    count = omega (arith, (few_operation_words kind op).some);
+  })
+
+  -- an operation that uses all words
+  pub spelled_all : left ≡ [] → (op used : ℕ) → IsSpelled (kind_operations version kind) front op used → length front ≡ used + 1 → (op < word_limit version) × (all ≡ operation_words kind op)
+  spelled_all end op used h size =
+      let sizes : length front ≡ length (operation_words kind op) + length h.behind = ap length h.whole ∙ length-append (operation_words kind op) h.behind in
+      let none : h.behind ≡ [] = nothing_behind h.behind (omega (arith, h.count)) in (
+        ltb-true op (word_limit version) h.has,
+        all_front end ∙ h.whole ∙ ap (λ (ws : List (List ℕ)). operation_words kind op ++ ws) none ∙ append-nil (operation_words kind op),
+      )
+
+  -- an operation that uses a part of the words
+  pub spelled_part : left ≡ [] → (op used : ℕ) → IsSpelled (kind_operations version kind) front op used → (length front ≡ used + 1 → ⊥) → (other : ℕ) → other < word_limit version → all ≡ operation_words kind other → ⊥
+  spelled_part end op used h part other small is =
+      let joined : operation_words kind op ++ h.behind ≡ operation_words kind other ++ [] = sym h.whole ∙ sym (all_front end) ∙ is ∙ sym (append-nil (operation_words kind other)) in
+      let same : op ≡ other = one_operation version kind op other h.behind [] (ltb-true op (word_limit version) h.has) small joined in
+      let none : h.behind ≡ [] = same_behind (operation_words kind op) h.behind [] (joined ∙ ap (λ (o : ℕ). operation_words kind o ++ []) (sym same)) in
+      let sizes : length front ≡ length (operation_words kind op) + length h.behind = ap length h.whole ∙ length-append (operation_words kind op) h.behind in
+      part (omega (arith, h.count, ap length none))

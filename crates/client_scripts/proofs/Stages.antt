@@ -1,0 +1,29 @@
+-- The stages of a text that is read: behind its head, its calls, its turns and its end.
+use Rattle.std.proofs.Common.{◌≡◌, ℕ, List, [], subst}
+use Rattle.std.specs.Prelude.{codes}
+use Rattle.seq_objects.specs.declared.kind.Kind.{Kind}
+use Rattle.text_fields.specs.declared.version.Version.{Version}
+use Rattle.text_fields.specs.Lines.{Unread}
+use Rattle.text_fields.specs.Head.{TitleDue, HeadRead, head_rules}
+use Rattle.text_fields.specs.Faults.{GoesTo}
+use Rattle.text_fields.proofs.Sharp.{goes_then}
+use Rattle.book_text.specs.BookRules.{whole_text}
+use Rattle.book_text.specs.CallLines.{all_calls}
+use Rattle.client_scripts.specs.Plans.{Plan}
+use Rattle.client_scripts.specs.ScriptRules.{Begun, InHead, InBody, Turned, AtEnd, begin, script_rules, IsScriptText}
+use Rattle.client_scripts.proofs.Readings.{head_goes}
+
+module _ (version : Version) (bytes : List ℕ) (kind : Kind) (calls : List ℕ) (new a : Unread) (is : new ≡ whole_text bytes) (head : GoesTo (head_rules version (codes "script")) TitleDue new (HeadRead kind calls) a) where
+  pub to_calls : GoesTo (script_rules version) (InHead TitleDue) (whole_text bytes) (InBody kind (begin calls) (all_calls 0 calls)) a
+  to_calls = head_goes version TitleDue (HeadRead kind calls) (whole_text bytes) a (subst (λ (t : Unread). GoesTo (head_rules version (codes "script")) TitleDue t (HeadRead kind calls) a) is head)
+
+  module _ (begun : Begun) (b : Unread) (body : GoesTo (script_rules version) (InBody kind (begin calls) (all_calls 0 calls)) a (InBody kind begun []) b) where
+    pub to_stops : GoesTo (script_rules version) (InHead TitleDue) (whole_text bytes) (InBody kind begun []) b
+    to_stops = goes_then (script_rules version) (InHead TitleDue) (InBody kind (begin calls) (all_calls 0 calls)) (InBody kind begun []) (whole_text bytes) a b to_calls body
+
+    module _ (plan : Plan) (d : Unread) (tail : GoesTo (script_rules version) (InBody kind begun []) b (Turned plan) d) where
+      pub to_end : GoesTo (script_rules version) (InHead TitleDue) (whole_text bytes) (Turned plan) d
+      to_end = goes_then (script_rules version) (InHead TitleDue) (InBody kind begun []) (Turned plan) (whole_text bytes) b d to_stops tail
+
+      pub to_text : (left : Unread) → GoesTo (script_rules version) (Turned plan) d (AtEnd plan) left → left.bytes ≡ [] → IsScriptText version bytes plan
+      to_text left end through = (left, record { goes = goes_then (script_rules version) (InHead TitleDue) (Turned plan) (AtEnd plan) (whole_text bytes) d left to_end end; through = through })

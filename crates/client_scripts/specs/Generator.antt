@@ -1,0 +1,48 @@
+-- Scripts made from a number.
+use Rattle.std.specs.Prelude.{ℕ, ◌+◌, ◌*◌, ◌%◌, ◌^◌, ◌==◌, List, [], map, replicate, None, if◌then◌else◌}
+use Rattle.std.specs.List.{range_with_len}
+use Rattle.seq_objects.specs.declared.kind.Kind.{Kind}
+use Rattle.seq_objects.specs.declared.kind.Kind.TheVariants.{Queue, Stack, Register, Counter, IntSet, Pqueue, CasRegister, Map}
+use Rattle.seq_objects.specs.Words as words
+use Rattle.seq_objects.specs.Words.{Entry, word_of}
+use Rattle.client_scripts.specs.Plans.{Plan}
+
+-- the value of a caller's call, by the number of the script
+abbrev pub value_of : ℕ → ℕ → ℕ → ℕ
+value_of number caller k = (number % 2 ^ 20) * 4096 + caller * 256 + k
+
+-- the operation of an entry with these arguments, of which those that it doesn't take are 0
+abbrev pub operation : Entry → ℕ → ℕ → ℕ
+operation entry argument extra = word_of entry.code argument extra
+
+-- the first of two for even numbers, else the second
+abbrev pub by_halves : ℕ → ℕ → ℕ → ℕ
+by_halves k even odd = if k % 2 == 0 then even else odd
+
+-- the first, the second or the third, one after the other
+abbrev pub by_thirds : ℕ → ℕ → ℕ → ℕ → ℕ
+by_thirds k first second third = if k % 3 == 0 then first else (if k % 3 == 1 then second else third)
+
+-- the operation of a call with this number among its caller's calls, by its value
+abbrev pub generated_operation : Kind → ℕ → ℕ → ℕ
+generated_operation Queue v k = by_halves k (operation words.enq v 0) (operation words.deq 0 0)
+generated_operation Stack v k = by_halves k (operation words.push v 0) (operation words.pop 0 0)
+generated_operation Register v k = by_halves k (operation words.write v 0) (operation words.read 0 0)
+generated_operation Counter v k = operation words.inc 0 0
+generated_operation IntSet v k = by_thirds k (operation words.add (v % 8) 0) (operation words.has (v % 8) 0) (operation words.remove (v % 8) 0)
+generated_operation Pqueue v k = by_halves k (operation words.insert v 0) (operation words.min 0 0)
+generated_operation CasRegister v k = by_thirds k (operation words.write (v % 8) 0) (operation words.cas (v % 8) ((v + 1) % 8)) (operation words.read 0 0)
+generated_operation Map v k = by_thirds k (operation words.put (v % 8) v) (operation words.get (v % 8) 0) (operation words.del (v % 8) 0)
+
+-- the operations of a caller
+abbrev pub generated_operations : ℕ → ℕ → Kind → ℕ → List ℕ
+generated_operations number calls kind caller = map (λ k. generated_operation kind (value_of number caller k) k) (range_with_len 0 calls)
+
+-- The script made from a number: so many callers with so many calls each, no stop and no turns.
+abbrev pub generated : ℕ → ℕ → ℕ → Kind → Plan
+generated number callers calls kind = record {
+  kind = kind;
+  operations = map (generated_operations number calls kind) (range_with_len 0 callers);
+  stops = replicate callers None;
+  turns = [];
+}

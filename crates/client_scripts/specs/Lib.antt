@@ -1,0 +1,7 @@
+pub mod Plans
+pub mod Grammar
+pub mod ScriptRules
+pub mod ScriptLayout
+pub mod Tails
+pub mod Beginnings
+pub mod Generator

@@ -1,0 +1,23 @@
+-- How a script lies in memory.
+use Rattle.std.specs.Prelude.{ℕ, List, map, Option}
+use Rattle.std.specs.List.{concat}
+use Rattle.seq_objects.specs.declared.kind.Kind.{Kind}
+use Rattle.client_scripts.specs.declared.script.Client.{Client}
+use Rattle.client_scripts.specs.Plans.{Plan, sizes}
+use Rattle.client_scripts.specs.ScriptRules.{Begun}
+
+-- the operations that each client holds
+abbrev pub operations_in : List Client → List (List ℕ)
+operations_in clients = map (λ client. client.operations.items) clients
+
+-- the stops that the clients hold
+abbrev pub stops_in : List Client → List (Option ℕ)
+stops_in clients = map (λ client. client.stop) clients
+
+-- what a script says that holds these
+abbrev pub plan_in : Kind → List Client → List ℕ → Plan
+plan_in kind clients turns = record { kind = kind; operations = operations_in clients; stops = stops_in clients; turns = turns }
+
+-- the lines of all calls are read, and those of the stops before this caller
+abbrev pub told : List Client → ℕ → Begun
+told clients least = record { calls = sizes (operations_in clients); operations = concat (operations_in clients); stops = stops_in clients; least = least }

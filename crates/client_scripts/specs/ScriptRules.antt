@@ -1,0 +1,181 @@
+-- The lines of a script's text, one after the other: which are right, and which test the others fail.
+use Rattle.std.specs.Prelude.{◌≡◌, ◌≢◌, ℕ, ◌+◌, ◌*◌, ◌<◌, ◌≤◌, ◌⊎◌, List, [], ◌∷◌, ◌++◌, length, take, drop, replicate, codes, Option, Some, None, slice_index, slice_set}
+use Rattle.std.specs.List.{AllByRecursion}
+use Rattle.book_base.specs.declared.call.Call.{Call}
+use Rattle.book_base.specs.declared.fault.TextFault.{TextFault}
+use Rattle.book_base.specs.declared.fault.What.{What}
+use Rattle.book_base.specs.declared.fault.What.TheVariants as what
+use Rattle.seq_objects.specs.declared.kind.Kind.{Kind}
+use Rattle.seq_objects.specs.Words.{operation_words}
+use Rattle.text_fields.specs.declared.version.Version.{Version}
+use Rattle.text_fields.specs.Version.{word_limit}
+use Rattle.text_fields.specs.Counts.{AreNumbers}
+use Rattle.text_fields.specs.Faults.{Wanted, ALine, TheEnd, Rules, IsFirstFault, IsReadTo}
+use Rattle.text_fields.specs.Lines.{Unread}
+use Rattle.text_fields.specs.Head.{HeadDue, TitleDue, ObjectDue, CallersDue, CountsDue, HeadRead, HeadPasses, HeadFails}
+use Rattle.book_text.specs.CallLines.{place_words, all_calls}
+use Rattle.book_text.specs.Grammar.{end_words}
+use Rattle.book_text.specs.BookRules.{whole_text}
+use Rattle.client_scripts.specs.declared.TheConstants.{PHASES}
+use Rattle.client_scripts.specs.Plans.{Plan}
+use Rattle.client_scripts.specs.Grammar.{call_words, stop_words, turns_words}
+
+-- ---- what the lines so far say
+
+-- What the head says of calls, and what the lines behind it say so far.
+pub record Begun : Type 0 where
+  -- how many calls each caller makes
+  pub calls : List ℕ
+  -- the operations of the calls so far, one behind the other
+  pub operations : List ℕ
+  -- the stops so far, one place a caller
+  pub stops : List (Option ℕ)
+  -- stops rise: the callers from this one on may have a further one
+  pub least : ℕ
+
+-- before the lines of calls
+abbrev pub begin : List ℕ → Begun
+begin calls = record { calls = calls; operations = []; stops = replicate (length calls) None; least = 0 }
+
+-- with the operation of one more call
+abbrev pub with_operation : Begun → ℕ → Begun
+with_operation begun op = record begun { operations = begun.operations ++ op ∷ [] }
+
+-- with the operations of further calls
+abbrev pub with_operations : Begun → List ℕ → Begun
+with_operations begun ops = record begun { operations = begun.operations ++ ops }
+
+-- with one more stop
+abbrev pub with_stop : Begun → ℕ → ℕ → Begun
+with_stop begun caller phases = record begun { stops = slice_set begun.stops caller (Some phases); least = caller + 1 }
+
+-- a list cut into parts with these numbers of items
+abbrev pub grouped : List ℕ → List ℕ → List (List ℕ)
+grouped [] items = []
+grouped (count ∷ counts) items = take count items ∷ grouped counts (drop count items)
+
+-- the plan that the lines say, with these turns
+abbrev pub plan_with : Kind → Begun → List ℕ → Plan
+plan_with kind begun turns = record { kind = kind; operations = grouped begun.calls begun.operations; stops = begun.stops; turns = turns }
+
+-- ---- what is due
+
+-- what is due in the text of a script, with what the lines before say
+pub data ScriptDue : Type 0 where
+  InHead : HeadDue → ScriptDue
+  -- the lines of these calls, then stops, and then the turns
+  InBody : Kind → Begun → List Call → ScriptDue
+  -- the end, behind the turns
+  Turned : Plan → ScriptDue
+  AtEnd : Plan → ScriptDue
+
+-- Behind the head come the calls.
+abbrev pub behind_head : HeadDue → ScriptDue
+behind_head TitleDue = InHead TitleDue
+behind_head ObjectDue = InHead ObjectDue
+behind_head (CallersDue kind) = InHead (CallersDue kind)
+behind_head (CountsDue kind n) = InHead (CountsDue kind n)
+behind_head (HeadRead kind calls) = InBody kind (begin calls) (all_calls 0 calls)
+
+-- ---- the lines of calls
+
+-- a call whose caller and number can be written
+abbrev pub IsNamedCall : Call → Type 0
+IsNamedCall call = AreNumbers (call.caller ∷ call.number ∷ [])
+
+-- the line of this call gives this operation
+pub record IsCallLine (version : Version) (kind : Kind) (call : Call) (words : List (List ℕ)) (op : ℕ) : Type 0 where
+  pub named : IsNamedCall call
+  pub has : op < word_limit version
+  pub text : words ≡ call_words kind call op
+
+-- the tests of the line of a call
+abbrev pub CallFails : Version → Kind → Call → List (List ℕ) → What → Type 0
+-- it doesn't begin with the caller and the number that are due
+CallFails version kind call words what.Place = (behind : List (List ℕ)) → words ≢ place_words call ++ behind
+-- the words behind them are no operation, and nothing more
+CallFails version kind call words what.Op = (behind : List (List ℕ)) × (words ≡ place_words call ++ behind) × ((op : ℕ) → op < word_limit version → behind ≢ operation_words kind op)
+CallFails version kind call words _ = ⊥
+
+-- ---- the lines of stops and of turns
+
+-- a stop may be told behind these lines: callers rise, and the caller has more phases than it makes
+pub record IsStop (begun : Begun) (caller phases : ℕ) : Type 0 where
+  pub rising : begun.least ≤ caller
+  pub inside : caller < length begun.calls
+  pub early : phases < PHASES * slice_index begun.calls caller
+  pub numbers : AreNumbers (caller ∷ phases ∷ [])
+
+-- turns of so many callers
+pub record AreTurns (n : ℕ) (turns : List ℕ) : Type 0 where
+  pub callers : AllByRecursion (λ caller. caller < n) turns
+  pub numbers : AreNumbers turns
+
+-- the line of a stop that may be told
+pub record IsStopLine (begun : Begun) (words : List (List ℕ)) (caller phases : ℕ) : Type 0 where
+  pub may : IsStop begun caller phases
+  pub text : words ≡ stop_words caller phases
+
+-- the line of the turns of so many callers
+pub record IsTurnsLine (n : ℕ) (words : List (List ℕ)) (turns : List ℕ) : Type 0 where
+  pub may : AreTurns n turns
+  pub text : words ≡ turns_words turns
+
+-- the line begins with the word 'stop', and these words stand behind it
+abbrev pub BeginsAsStop : List (List ℕ) → List (List ℕ) → Type 0
+BeginsAsStop words behind = words ≡ codes "stop" ∷ behind
+
+-- the right lines behind the calls: a stop, or the turns
+abbrev pub TailPasses : Kind → Begun → List (List ℕ) → ScriptDue → Type 0
+TailPasses kind begun words after =
+    ((caller : ℕ) × (phases : ℕ) × IsStopLine begun words caller phases × (after ≡ InBody kind (with_stop begun caller phases) []))
+    ⊎ ((turns : List ℕ) × IsTurnsLine (length begun.calls) words turns × (after ≡ Turned (plan_with kind begun turns)))
+
+-- the tests of the lines behind the calls
+abbrev pub TailFails : Begun → List (List ℕ) → What → Type 0
+-- it begins with the word 'stop', and is no line of a stop
+TailFails begun words what.Stop = (behind : List (List ℕ)) × BeginsAsStop words behind × ((caller phases : ℕ) → ¬ (IsStopLine begun words caller phases))
+-- it doesn't begin with that word, and is no line of turns
+TailFails begun words what.Turns = ((behind : List (List ℕ)) → ¬ (BeginsAsStop words behind)) × ((turns : List ℕ) → ¬ (IsTurnsLine (length begun.calls) words turns))
+TailFails begun words _ = ⊥
+
+-- ---- the rules
+
+-- the right lines of a script's text
+abbrev pub ScriptPasses : Version → ScriptDue → List (List ℕ) → ScriptDue → Type 0
+ScriptPasses version (InHead due) words after = (next : HeadDue) × HeadPasses version (codes "script") due words next × (after ≡ behind_head next)
+ScriptPasses version (InBody kind begun []) words after = TailPasses kind begun words after
+ScriptPasses version (InBody kind begun (call ∷ calls)) words after = (op : ℕ) × IsCallLine version kind call words op × (after ≡ InBody kind (with_operation begun op) calls)
+ScriptPasses version (Turned plan) words after = (words ≡ end_words) × (after ≡ AtEnd plan)
+ScriptPasses version (AtEnd plan) words after = ⊥
+
+-- the tests of the lines of a script's text
+abbrev pub ScriptFails : Version → ScriptDue → List (List ℕ) → What → Type 0
+ScriptFails version (InHead due) words name = HeadFails version (codes "script") due words name
+ScriptFails version (InBody kind begun []) words name = TailFails begun words name
+ScriptFails version (InBody kind begun (call ∷ calls)) words name = CallFails version kind call words name
+ScriptFails version (Turned plan) words name = (name ≡ what.End) × (words ≢ end_words)
+ScriptFails version (AtEnd plan) words name = ⊥
+
+-- what is wanted in the text of a script
+abbrev pub script_wanted : ScriptDue → Wanted
+script_wanted (InHead due) = ALine
+script_wanted (InBody kind begun calls) = ALine
+script_wanted (Turned plan) = ALine
+script_wanted (AtEnd plan) = TheEnd
+
+-- the rules of a script's text
+abbrev pub script_rules : Version → Rules ScriptDue
+script_rules version = record { Passes = ScriptPasses version; Fails = ScriptFails version; wanted = script_wanted }
+
+-- The first fault of bytes that are to be a script's text.
+abbrev pub IsFirstScriptFault : Version → List ℕ → TextFault → Type 0
+IsFirstScriptFault version bytes fault = IsFirstFault (script_rules version) (InHead TitleDue) (whole_text bytes) fault
+
+-- The bytes are the text of the script that says this: right lines from the title to the end of the bytes.
+abbrev pub IsScriptText : Version → List ℕ → Plan → Type 0
+IsScriptText version bytes plan = (left : Unread) × IsReadTo (script_rules version) (InHead TitleDue) (whole_text bytes) (AtEnd plan) left
+
+-- The bytes are the text of no script.
+abbrev pub IsNoScriptText : Version → List ℕ → Type 0
+IsNoScriptText version bytes = (plan : Plan) → ¬ (IsScriptText version bytes plan)
