@@ -1,0 +1,4 @@
+pub mod Stands
+pub mod Calling
+pub mod States
+pub mod Telling

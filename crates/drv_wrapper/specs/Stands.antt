@@ -1,0 +1,26 @@
+-- How a caller stands between its steps.
+use Rattle.std.specs.Prelude.{◌≡◌, ℕ, Some, false}
+use Rattle.row_table.specs.declared.stance.Stance.{Stance}
+use Rattle.row_table.specs.declared.caller.Caller.{Caller}
+use Rattle.row_table.specs.Benches.{fresh_stance}
+use Rattle.row_table.specs.Callers.{who_of, local_with, stance_of, StaysWith}
+
+-- It makes calls, means to begin no scan, and keeps no reply.
+abbrev pub ready : Stance
+ready = fresh_stance
+
+-- The same, but that it keeps a reply of the object.
+abbrev pub replied : ℕ → Stance
+replied reply = record fresh_stance { reply = Some reply }
+
+module _ {P : Type 0} where
+  -- The caller d is c: it has the same number and the same local, and is of the same rows.
+  pub record IsSame (c d : Caller P) : Type 0 where
+    pub who : who_of d ≡ who_of c
+    pub local : local_with d ≡ local_with c
+    pub rows : StaysWith c d
+
+  -- The caller d is c, halted, with its local as it is.
+  pub record IsStopped (c d : Caller P) : Type 0 where
+    pub same : IsSame c d
+    pub stance : stance_of d ≡ record (stance_of c) { live = false }

@@ -1,0 +1,45 @@
+-- The callers inside the states that a call passes through, and what these states tell.
+use Rattle.std.specs.Prelude.{ℕ, List}
+use Rattle.row_table.specs.declared.caller.Caller.{Caller}
+use Rattle.row_table.specs.Callers.{who_of, local_with}
+use Rattle.drv_wrapper.specs.declared.announced.Announced.{Announced}
+use Rattle.drv_wrapper.specs.declared.answered.Answered.{Answered}
+use Rattle.drv_wrapper.specs.declared.viewed.Viewed.{Viewed}
+
+module _ {P : Type 0} where
+  -- The caller that has announced its call; that has its reply; and that has its view too.
+  abbrev pub caller_announced : Announced P → Caller P
+  caller_announced a = a.caller
+
+  abbrev pub caller_answered : Answered P → Caller P
+  caller_answered a = a.caller
+
+  abbrev pub caller_viewed : Viewed P → Caller P
+  caller_viewed v = v.caller
+
+  -- The number of the caller of an announced call, the number of the call, and its operation.
+  abbrev pub who_announced : Announced P → ℕ
+  who_announced a = who_of a.caller
+
+  abbrev pub number_announced : Announced P → ℕ
+  number_announced a = (local_with a.caller).published
+
+  abbrev pub op_announced : Announced P → ℕ
+  op_announced a = a.op
+
+  -- The operation and the reply of an answered call.
+  abbrev pub op_answered : Answered P → ℕ
+  op_answered a = a.op
+
+  abbrev pub reply_answered : Answered P → ℕ
+  reply_answered a = a.reply
+
+  -- The operation, the reply and the view of a call that has its record.
+  abbrev pub op_viewed : Viewed P → ℕ
+  op_viewed v = v.op
+
+  abbrev pub reply_viewed : Viewed P → ℕ
+  reply_viewed v = v.reply
+
+  abbrev pub view_viewed : Viewed P → List ℕ
+  view_viewed v = v.view

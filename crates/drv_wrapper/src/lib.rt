@@ -1,0 +1,18 @@
+//! The wrapper of Castañeda and Rodríguez (2023): a call is announced, the object is asked, and a view is taken.
+#![tactic(auto)]
+
+mod announced;
+mod answered;
+mod asking;
+mod black_box;
+mod object_pass;
+#[cfg(test)]
+mod tests;
+mod viewed;
+
+pub use announced::Announced;
+pub use answered::Answered;
+pub use asking::ask;
+pub use black_box::BlackBox;
+pub use object_pass::ObjectPass;
+pub use viewed::Viewed;

@@ -1,0 +1,67 @@
+ghost use Rattle.std.specs.Prelude.{◌≡◌};
+ghost use Rattle.row_table.specs.Callers.{local_with, stance_of};
+ghost use Rattle.drv_wrapper.specs.Stands.{ready};
+ghost use Rattle.drv_wrapper.specs.Calling.{IsRecorded};
+
+use book_base::{Cut, OpWord};
+use row_table::Caller;
+use world_core::Outside;
+
+/// A call that has its record, a reply and a view, which is not published yet.
+///
+/// The state has to be spent: by a publication, which is made of its caller, or by `stop`.
+pub struct Viewed<P = Outside> {
+    pub(crate) caller: Caller<P>,
+    pub(crate) op: OpWord,
+    pub(crate) reply: u64,
+    pub(crate) view: Cut,
+    pub ghost recorded: { IsRecorded op reply view (local_with caller) },
+    pub ghost stands: { stance_of caller ≡ ready },
+}
+
+impl<P> Viewed<P> {
+    ghost use Rattle.drv_wrapper.specs.States.{caller_viewed, reply_viewed, view_viewed};
+    ghost use Rattle.drv_wrapper.specs.Stands.{IsSame, IsStopped};
+    ghost use Rattle.row_table.specs.Callers.{stance_of};
+
+    /// The reply of the object.
+    pub fn reply(&self) -> u64
+        ensures { result ≡ reply_viewed self.now }
+    {
+        self.reply
+    }
+
+    /// The view: the cut of a scan of announcements that began after the object had answered.
+    pub fn view(&self) -> Cut
+        ensures { result ≡ view_viewed self.now }
+    {
+        self.view
+    }
+
+    /// The live caller, with its local as it is.
+    pub fn into_caller(self) -> Caller<P>
+        ensures caller { IsSame (caller_viewed self) result }
+        ensures stance { stance_of result ≡ stance_of (caller_viewed self) }
+    {
+        let Viewed {
+            caller,
+            op: _,
+            reply: _,
+            view: _,
+        } = self;
+        caller
+    }
+
+    /// The caller, halted, with its local as it is: its record is not published.
+    pub fn stop(self) -> Caller<P>
+        ensures { IsStopped (caller_viewed self) result }
+    {
+        let Viewed {
+            caller,
+            op: _,
+            reply: _,
+            view: _,
+        } = self;
+        caller.halt()
+    }
+}
