@@ -1,0 +1,32 @@
+ghost use Rattle.std.specs.Prelude.{◌≡◌};
+ghost use Rattle.world_core.specs.Event as event;
+ghost use Rattle.row_table.specs.Callers.{local_with, stance_of, IsCallerOf, IsStill, HasDone};
+ghost use Rattle.row_staging.specs.Staging.{MayPublish};
+
+use crate::words::stage_from;
+use book_base::Cut;
+use row_table::{Caller, Rows};
+use world_core::{Program, Region};
+
+/// Stages a caller's row of M, the reply, the entries of the view and those of the cut that the row embeds, and
+/// raises the caller's count there: the record of its last call is published.
+///
+/// The cut is the one that the caller's last scan of M gave it for this row. No step here is a look or a peek.
+pub fn publish_row<P: Program>(
+    rows: &Rows<P>,
+    caller: &mut Caller<P>,
+    reply: u64,
+    view: &Cut,
+    cut: &Cut,
+)
+    requires caller { IsCallerOf P.meaning rows.now caller.old }
+    requires may { MayPublish rows.now.callers reply view.now cut.now (local_with caller.old) }
+    ensures caller { IsStill P.meaning rows.now caller.old caller.new }
+    ensures published { HasDone rows.now caller.old caller.new event.Publish }
+    ensures stance { stance_of caller.new ≡ stance_of caller.old }
+{
+    rows.stage(caller, Region::M, 0, reply);
+    stage_from(rows, caller, Region::M, 1, view.counts());
+    stage_from(rows, caller, Region::M, 1 + view.n(), cut.counts());
+    rows.publish(caller);
+}
