@@ -1,4 +1,9 @@
+pub mod Scanned
 pub mod Stands
 pub mod Calling
+pub mod Progress
+pub mod Growth
+pub mod Events
 pub mod States
+pub mod ObjectSteps
 pub mod Telling

@@ -6,6 +6,7 @@ mod answered;
 mod asking;
 mod black_box;
 mod object_pass;
+mod object_steps;
 #[cfg(test)]
 mod tests;
 mod viewed;

@@ -1,0 +1,5 @@
+pub mod Calls
+pub mod Growing
+pub mod Scans
+pub mod Locals
+pub mod Phases

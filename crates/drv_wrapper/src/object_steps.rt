@@ -1,0 +1,81 @@
+ghost use Rattle.std.specs.Prelude.{◌≡◌, ◌≢◌, ℕ, ◌+◌, ◌%◌, ◌<◌, ◌^◌, ◌==◌, IfOk, IfErr};
+ghost use prog.Atomic.{either};
+ghost use Rattle.row_table.specs.Found.{found_by};
+ghost use Rattle.row_table.specs.Callers.{IsCallerOf};
+ghost use Rattle.row_table.specs.ObjectSteps.{MayStep};
+ghost use Rattle.drv_wrapper.specs.Stands.{IsSame};
+ghost use Rattle.drv_wrapper.specs.States.{caller_announced, op_announced, caller_answered, op_answered, reply_answered};
+ghost use Rattle.drv_wrapper.specs.ObjectSteps.{HasStepped};
+
+use crate::announced::Announced;
+use crate::answered::Answered;
+use row_table::Rows;
+use world_core::InWorld;
+
+/// The steps of an object that is inside the world: they are made by its callers, each in the midst of an
+/// announced call of its own.
+impl<P: InWorld> Announced<P> {
+    /// Loads an object word, which is one object step that leaves the word as it is.
+    ///
+    /// Like the three calls below it, it has the condition that the program allows the step for every word
+    /// that may be found.
+    pub fn object_load(&mut self, rows: &Rows<P>, place: u64) -> u64
+        requires rows { IsCallerOf P.meaning rows.now (caller_announced self.old) }
+        requires place { place < rows.now.objects }
+        requires program { MayStep P.meaning rows.now (caller_announced self.old) place (λ x. x) }
+        ensures { HasStepped P.meaning rows.now self.old self.new (record { place = place; old = result; new = result }) }
+    {
+        rows.object_load(&mut self.caller, place)
+    }
+
+    /// Stores a word into an object word, which is one object step.
+    pub fn object_store(&mut self, rows: &Rows<P>, place: u64, word: u64)
+        requires rows { IsCallerOf P.meaning rows.now (caller_announced self.old) }
+        requires place { place < rows.now.objects }
+        requires program { MayStep P.meaning rows.now (caller_announced self.old) place (λ _. word) }
+        ensures { (x : ℕ) × (x < 2 ^ 64) × HasStepped P.meaning rows.now self.old self.new (record { place = place; old = x; new = word }) }
+    {
+        rows.object_store(&mut self.caller, place, word);
+    }
+
+    /// Adds to an object word, modulo 2^64, which is one object step. It answers the word that it found.
+    pub fn object_add(&mut self, rows: &Rows<P>, place: u64, add: u64) -> u64
+        requires rows { IsCallerOf P.meaning rows.now (caller_announced self.old) }
+        requires place { place < rows.now.objects }
+        requires program { MayStep P.meaning rows.now (caller_announced self.old) place (λ x. (x + add) % 2 ^ 64) }
+        ensures { HasStepped P.meaning rows.now self.old self.new (record { place = place; old = result; new = (result + add) % 2 ^ 64 }) }
+    {
+        rows.object_add(&mut self.caller, place, add)
+    }
+
+    /// Puts `new` into an object word where it finds `old` there, which is one object step. It answers the word
+    /// that it found: Ok exactly where that was `old`.
+    pub fn object_exchange(
+        &mut self,
+        rows: &Rows<P>,
+        place: u64,
+        old: u64,
+        new: u64,
+    ) -> Result<u64, u64>
+        requires rows { IsCallerOf P.meaning rows.now (caller_announced self.old) }
+        requires place { place < rows.now.objects }
+        requires program { MayStep P.meaning rows.now (caller_announced self.old) place (λ x. either (x == old) new x) }
+        ensures stepped { HasStepped P.meaning rows.now self.old self.new (record { place = place; old = found_by result; new = either (found_by result == old) new (found_by result) }) }
+        ensures won { IfOk result (λ x. x ≡ old) }
+        ensures lost { IfErr result (λ x. x ≢ old) }
+    {
+        rows.object_exchange(&mut self.caller, place, old, new)
+    }
+
+    /// Keeps a reply that the caller found by its object steps. The program has to allow it at
+    /// [`view`](crate::view), which states that for the caller's local.
+    pub fn answer(self, reply: u64) -> Answered<P>
+        ensures caller { IsSame (caller_announced self) (caller_answered result) }
+        ensures operation { op_answered result ≡ op_announced self }
+        ensures reply { reply_answered result ≡ reply }
+    {
+        let Announced { mut caller, op } = self;
+        caller.keep_reply(reply);
+        Answered { caller, op, reply }
+    }
+}
