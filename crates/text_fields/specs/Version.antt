@@ -4,7 +4,6 @@ use Rattle.seq_objects.specs.declared.kind.Kind.{Kind}
 use Rattle.seq_objects.specs.Words.{is_first_kind}
 use Rattle.text_fields.specs.declared.version.Version.{Version}
 use Rattle.text_fields.specs.declared.version.Version.TheVariants.{First, Second}
-use Rattle.text_fields.specs.declared.TheConstants.{TEXT_CALLERS, TEXT_CALLS, FIRST_TEXT_CALLERS, FIRST_TEXT_CALLS}
 
 -- the number in a title
 abbrev pub version_word : Version → List ℕ
@@ -13,13 +12,13 @@ version_word Second = codes "2"
 
 -- the greatest number of callers
 abbrev pub most_callers : Version → ℕ
-most_callers First = FIRST_TEXT_CALLERS
-most_callers Second = TEXT_CALLERS
+most_callers First = 8
+most_callers Second = 16
 
 -- the greatest number of calls of a caller
 abbrev pub most_calls : Version → ℕ
-most_calls First = FIRST_TEXT_CALLS
-most_calls Second = TEXT_CALLS
+most_calls First = 64
+most_calls Second = 256
 
 -- whether texts of a version have a kind: version 1 has the first six
 abbrev pub has_kind : Version → Kind → Bool
