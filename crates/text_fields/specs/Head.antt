@@ -7,7 +7,9 @@ use Rattle.seq_objects.specs.Words.{kind_name}
 use Rattle.text_fields.specs.declared.version.Version.{Version}
 use Rattle.text_fields.specs.Version.{version_word, most_callers, most_calls, has_kind}
 use Rattle.text_fields.specs.Counts.{AreAtMost}
-use Rattle.text_fields.specs.Faults.{Wanted, ALine, Nothing, Rules}
+use Rattle.text_fields.specs.Lines.{Unread}
+use Rattle.text_fields.specs.Faults.{Wanted, ALine, Nothing, Rules, GoesTo, IsFirstFault}
+use Rattle.book_base.specs.declared.fault.TextFault.{TextFault}
 
 -- the line of the title
 abbrev pub title_words : Version → List ℕ → List (List ℕ)
@@ -78,3 +80,15 @@ head_wanted (HeadRead kind calls) = Nothing
 -- the rules of a head
 abbrev pub head_rules : Version → List ℕ → Rules HeadDue
 head_rules version title = record { Passes = HeadPasses version title; Fails = HeadFails version title; wanted = head_wanted }
+
+-- the text goes on from one thing that is due in its head to another, and leaves the rest unread
+abbrev pub HeadGoes : Version → List ℕ → HeadDue → Unread → HeadDue → Unread → Type 0
+HeadGoes version title due text after left = GoesTo (head_rules version title) due text after left
+
+-- the first fault of a text from where this is due in its head
+abbrev pub IsHeadFault : Version → List ℕ → HeadDue → Unread → TextFault → Type 0
+IsHeadFault version title due text fault = IsFirstFault (head_rules version title) due text fault
+
+-- the text begins with the head of this kind and these calls, and leaves the rest unread
+abbrev pub IsHead : Version → List ℕ → Kind → List ℕ → Unread → Unread → Type 0
+IsHead version title kind calls text left = HeadGoes version title TitleDue text (HeadRead kind calls) left

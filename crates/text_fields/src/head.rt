@@ -3,9 +3,9 @@
 ghost use Rattle.std.specs.Prelude.{◌≡◌, ◌≢◌, ◌↔◌, ℕ, ◌≤◌, true, List, [], ◌∷◌, length, IfOk, IfErr, IfSome, IfNone, IsTrue};
 ghost use Rattle.book_base.specs.declared.TheConstants.{MAX_CALLERS};
 ghost use Rattle.seq_objects.specs.declared.kind.Kind.{Kind};
+ghost use Rattle.text_fields.specs.declared.version.Version.TheVariants.{First, Second};
 ghost use Rattle.text_fields.specs.Version.{has_kind, most_callers};
-ghost use Rattle.text_fields.specs.Faults.{GoesTo, IsFirstFault};
-ghost use Rattle.text_fields.specs.Head.{TitleDue, ObjectDue, CallersDue, CountsDue, HeadRead, AreCallers, AreCalls, object_words, callers_words, calls_words, head_rules};
+ghost use Rattle.text_fields.specs.Head.{TitleDue, ObjectDue, CallersDue, CountsDue, HeadRead, HeadGoes, IsHeadFault, IsHead, AreCallers, AreCalls, object_words, callers_words, calls_words};
 
 use crate::counts::{next_number, read_counts};
 use crate::lines::Lines;
@@ -25,29 +25,54 @@ pub struct Head {
     pub calls: Cut,
 }
 
-/// The head of a text of version 2 with this title, a word such as `book`.
+/// The head of a text of version 2 with this title, a word such as `book`. After a refusal the
+/// lines stay as they were.
 pub fn read_head(lines: &mut Lines, title: &[u8]) -> Result<Head, TextFault>
-    ensures found { IfOk result (λ head. GoesTo (head_rules Version.Second title.now) TitleDue lines.old (HeadRead head.kind head.calls) lines.new) }
-    ensures says { IfOk result (λ head. AreCallers Version.Second head.n × AreCalls Version.Second head.n head.calls) }
-    ensures refused { IfErr result (λ fault. IsFirstFault (head_rules Version.Second title.now) TitleDue lines.old fault) }
+    ensures found { IfOk result (λ head.
+        IsHead Second title.now head.kind head.calls lines.old lines.new) }
+    ensures says { IfOk result (λ head.
+        AreCallers Second head.n × AreCalls Second head.n head.calls) }
+    ensures refused { IfErr result (IsHeadFault Second title.now TitleDue lines.old) }
+    ensures unchanged { IfErr result (λ _. lines.new ≡ lines.old) }
 {
     read_head_of(Version::Second, lines, title)
 }
 
-/// The head of a text of version 1 with this title, a word such as `book`.
+/// The head of a text of version 1 with this title, a word such as `book`. After a refusal the
+/// lines stay as they were.
 pub fn read_head1(lines: &mut Lines, title: &[u8]) -> Result<Head, TextFault>
-    ensures found { IfOk result (λ head. GoesTo (head_rules Version.First title.now) TitleDue lines.old (HeadRead head.kind head.calls) lines.new) }
-    ensures says { IfOk result (λ head. AreCallers Version.First head.n × AreCalls Version.First head.n head.calls) }
-    ensures refused { IfErr result (λ fault. IsFirstFault (head_rules Version.First title.now) TitleDue lines.old fault) }
+    ensures found { IfOk result (λ head.
+        IsHead First title.now head.kind head.calls lines.old lines.new) }
+    ensures says { IfOk result (λ head.
+        AreCallers First head.n × AreCalls First head.n head.calls) }
+    ensures refused { IfErr result (IsHeadFault First title.now TitleDue lines.old) }
+    ensures unchanged { IfErr result (λ _. lines.new ≡ lines.old) }
 {
     read_head_of(Version::First, lines, title)
 }
 
-/// The head of a text of this version with this title.
+/// The head of a text of this version with this title. After a refusal the lines stay as they were.
 pub fn read_head_of(version: Version, lines: &mut Lines, title: &[u8]) -> Result<Head, TextFault>
-    ensures found { IfOk result (λ head. GoesTo (head_rules version title.now) TitleDue lines.old (HeadRead head.kind head.calls) lines.new) }
-    ensures says { IfOk result (λ head. AreCallers version head.n × AreCalls version head.n head.calls) }
-    ensures refused { IfErr result (λ fault. IsFirstFault (head_rules version title.now) TitleDue lines.old fault) }
+    ensures found { IfOk result (λ head.
+        IsHead version title.now head.kind head.calls lines.old lines.new) }
+    ensures says { IfOk result (λ head.
+        AreCallers version head.n × AreCalls version head.n head.calls) }
+    ensures refused { IfErr result (IsHeadFault version title.now TitleDue lines.old) }
+    ensures unchanged { IfErr result (λ _. lines.new ≡ lines.old) }
+{
+    let mut ahead = lines.copy();
+    let head = read_lines(version, &mut ahead, title)?;
+    *lines = ahead;
+    Ok(head)
+}
+
+/// The four lines of a head.
+fn read_lines(version: Version, lines: &mut Lines, title: &[u8]) -> Result<Head, TextFault>
+    ensures found { IfOk result (λ head.
+        IsHead version title.now head.kind head.calls lines.old lines.new) }
+    ensures says { IfOk result (λ head.
+        AreCallers version head.n × AreCalls version head.n head.calls) }
+    ensures refused { IfErr result (IsHeadFault version title.now TitleDue lines.old) }
 {
     read_title(version, lines, title)?;
     let kind = read_object(version, lines, title)?;
@@ -58,8 +83,9 @@ pub fn read_head_of(version: Version, lines: &mut Lines, title: &[u8]) -> Result
 
 /// The line of the title.
 fn read_title(version: Version, lines: &mut Lines, title: &[u8]) -> Result<(), TextFault>
-    ensures found { IfOk result (λ _. GoesTo (head_rules version title.now) TitleDue lines.old ObjectDue lines.new) }
-    ensures refused { IfErr result (λ fault. IsFirstFault (head_rules version title.now) TitleDue lines.old fault) }
+    ensures found { IfOk result (λ _.
+        HeadGoes version title.now TitleDue lines.old ObjectDue lines.new) }
+    ensures refused { IfErr result (IsHeadFault version title.now TitleDue lines.old) }
 {
     let line = lines.number();
     let mut words = Words::new(lines.line()?);
@@ -82,8 +108,9 @@ fn are_words(words: &mut Words, first: &[u8], second: &[u8]) -> bool
 
 /// The line of the object.
 fn read_object(version: Version, lines: &mut Lines, title: &[u8]) -> Result<Kind, TextFault>
-    ensures found { IfOk result (λ kind. GoesTo (head_rules version title.now) ObjectDue lines.old (CallersDue kind) lines.new) }
-    ensures refused { IfErr result (λ fault. IsFirstFault (head_rules version title.now) ObjectDue lines.old fault) }
+    ensures found { IfOk result (λ kind.
+        HeadGoes version title.now ObjectDue lines.old (CallersDue kind) lines.new) }
+    ensures refused { IfErr result (IsHeadFault version title.now ObjectDue lines.old) }
 {
     let line = lines.number();
     let mut words = Words::new(lines.line()?);
@@ -97,8 +124,10 @@ fn read_object(version: Version, lines: &mut Lines, title: &[u8]) -> Result<Kind
 }
 
 fn object_of(version: Version, words: &mut Words) -> Option<Kind>
-    ensures found { IfSome result (λ kind. (has_kind version kind ≡ true) × (words.old ≡ object_words kind)) }
-    ensures none { IfNone result ((kind : Kind) → has_kind version kind ≡ true → words.old ≢ object_words kind) }
+    ensures found { IfSome result (λ kind.
+        (has_kind version kind ≡ true) × (words.old ≡ object_words kind)) }
+    ensures none { IfNone result ((kind : Kind)
+        → has_kind version kind ≡ true → words.old ≢ object_words kind) }
 {
     if words.next()? != b"object".as_slice() {
         return None;
@@ -121,9 +150,10 @@ fn read_callers(
     title: &[u8],
     kind: Kind,
 ) -> Result<u32, TextFault>
-    ensures found { IfOk result (λ n. GoesTo (head_rules version title.now) (CallersDue kind) lines.old (CountsDue kind n) lines.new) }
+    ensures found { IfOk result (λ n.
+        HeadGoes version title.now (CallersDue kind) lines.old (CountsDue kind n) lines.new) }
     ensures callers { IfOk result (λ n. AreCallers version n) }
-    ensures refused { IfErr result (λ fault. IsFirstFault (head_rules version title.now) (CallersDue kind) lines.old fault) }
+    ensures refused { IfErr result (IsHeadFault version title.now (CallersDue kind) lines.old) }
 {
     let line = lines.number();
     let mut words = Words::new(lines.line()?);
@@ -138,7 +168,8 @@ fn read_callers(
 
 fn callers_of(version: Version, words: &mut Words) -> Option<u32>
     ensures found { IfSome result (λ n. AreCallers version n × (words.old ≡ callers_words n)) }
-    ensures none { IfNone result ((n : ℕ) → AreCallers version n → words.old ≢ callers_words n) }
+    ensures none { IfNone result ((n : ℕ)
+        → AreCallers version n → words.old ≢ callers_words n) }
 {
     if words.next()? != b"callers".as_slice() {
         return None;
@@ -164,9 +195,10 @@ fn read_calls_line(
 ) -> Result<Cut, TextFault>
     requires some { 1 ≤ n }
     requires few { n ≤ MAX_CALLERS }
-    ensures found { IfOk result (λ calls. GoesTo (head_rules version title.now) (CountsDue kind n) lines.old (HeadRead kind calls) lines.new) }
+    ensures found { IfOk result (λ calls.
+        HeadGoes version title.now (CountsDue kind n) lines.old (HeadRead kind calls) lines.new) }
     ensures says { IfOk result (λ calls. AreCalls version n calls) }
-    ensures refused { IfErr result (λ fault. IsFirstFault (head_rules version title.now) (CountsDue kind n) lines.old fault) }
+    ensures refused { IfErr result (IsHeadFault version title.now (CountsDue kind n) lines.old) }
 {
     let line = lines.number();
     let mut words = Words::new(lines.line()?);
@@ -182,8 +214,10 @@ fn read_calls_line(
 fn calls_of(version: Version, words: &mut Words, n: u32) -> Option<Cut>
     requires some { 1 ≤ n }
     requires few { n ≤ MAX_CALLERS }
-    ensures found { IfSome result (λ calls. AreCalls version n calls × (words.old ≡ calls_words calls)) }
-    ensures none { IfNone result ((calls : List ℕ) → AreCalls version n calls → words.old ≢ calls_words calls) }
+    ensures found { IfSome result (λ calls.
+        AreCalls version n calls × (words.old ≡ calls_words calls)) }
+    ensures none { IfNone result ((calls : List ℕ)
+        → AreCalls version n calls → words.old ≢ calls_words calls) }
 {
     if words.next()? != b"calls".as_slice() {
         return None;

@@ -62,6 +62,16 @@ impl<'a> Lines<'a> {
         self.number
     }
 
+    /// Another cursor at the same place, to read ahead with.
+    pub fn copy(&self) -> Lines<'a>
+        ensures { result ≡ self.now }
+    {
+        Lines {
+            rest: self.rest,
+            number: self.number,
+        }
+    }
+
     /// Whether no byte is left.
     pub fn at_end(&self) -> bool
         ensures { IsTrue result ↔ (self.now.bytes ≡ []) }

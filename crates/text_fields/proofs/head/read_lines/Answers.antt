@@ -1,7 +1,7 @@
 use Rattle.std.proofs.lemmas.Result.{err_from_is_err_and}
 use Rattle.text_fields.specs.Head.{head_rules, TitleDue, ObjectDue, CallersDue, CountsDue, HeadRead}
 use Rattle.text_fields.proofs.Sharp.{goes_then, stops_later}
-use Rattle.text_fields.proofs.head.read_head_of.Goals as goal
+use Rattle.text_fields.proofs.head.read_lines.Goals as goal
 
 pub returns-in_err-kind-clause-refused : goal.returns-in_err-kind-clause-refused
 returns-in_err-kind-clause-refused c =
