@@ -16,13 +16,12 @@ use Rattle.seq_objects.proofs.Texts.{reply_word-IsWord}
 use Rattle.text_fields.specs.declared.version.Version.{Version}
 use Rattle.text_fields.specs.declared.version.Version.TheVariants.{Second}
 use Rattle.text_fields.specs.Lines.{text_of, IsSolid, AreSolid}
-use Rattle.text_fields.specs.Faults.{Wanted, ALine, TheEnd, Nothing, Rules, AllPass, AreSharp}
 use Rattle.text_fields.specs.Head.{TitleDue, title_words}
 use Rattle.text_fields.specs.OperationLaws.{solid_kind_words}
 use Rattle.text_fields.proofs.LineTexts.{text_of-cons}
 use Rattle.text_fields.proofs.NumberTexts.{same_first, solid_word, solid_decimal}
 use Rattle.text_fields.proofs.HeadTexts.{plain}
-use Rattle.text_fields.proofs.Sharp.{same_line}
+use Rattle.text_fields.proofs.Sharp.{same_line, same_rest}
 use Rattle.book_text.specs.CallLines.{place_words}
 use Rattle.book_text.specs.Grammar.{end_words, IsWritable, IsWrittenText}
 use Rattle.book_text.specs.BookRules.{InHead, AtEnd, book_rules, IsBookText}
@@ -37,23 +36,6 @@ use Rattle.book_writer.proofs.Readings.{written_is_read}
 
 pub written_is_one : (version : Version) (bytes : List ℕ) (k l : Kind) (a b : List Page) → IsWrittenText version bytes k a → IsWrittenText version bytes l b → (k ≡ l) × (a ≡ b)
 written_is_one version bytes k l a b h j = one_book version bytes k l a b (written_is_read version bytes k a h) (written_is_read version bytes l b j)
-
--- by sharp rules, right lines that end where no line is wanted begin no other such lines
-module _ {Due : Type 0} (rules : Rules Due) (sharp : AreSharp rules) where
-  wanted_apart : (w : Wanted) → w ≡ ALine → w ≡ TheEnd → ⊥
-  wanted_apart ALine h k = cc
-  wanted_apart TheEnd h k = cc
-  wanted_apart Nothing h k = cc
-
-  same_rest : (due e f : Due) (a b : List (List (List ℕ))) (x y : List ℕ) → AllPass rules.Passes due a e → AllPass rules.Passes due b f → rules.wanted e ≡ TheEnd → rules.wanted f ≡ TheEnd
-      → text_of a ++ x ≡ text_of b ++ y → x ≡ y
-  same_rest due e f [] [] x y h k p q same = same
-  same_rest due e f [] (w ∷ b) x y h k p q same = absurd (wanted_apart (rules.wanted due) (sharp.lines due k.0 w k.1) (ap (λ (d : Due). rules.wanted d) h ∙ p))
-  same_rest due e f (v ∷ a) [] x y h k p q same = absurd (wanted_apart (rules.wanted due) (sharp.lines due h.0 v h.1) (ap (λ (d : Due). rules.wanted d) k ∙ q))
-  same_rest due e f (v ∷ a) (w ∷ b) x y h k p q same =
-      let line = same_line v w (text_of a ++ x) (text_of b ++ y) (sharp.solid due h.0 v h.1) (sharp.solid due k.0 w k.1) (sym (text_of-cons v a x) ∙ same ∙ text_of-cons w b y) in
-      let next : k.0 ≡ h.0 = sharp.one_way due k.0 h.0 w k.1 (subst (λ (l : List (List ℕ)). rules.Passes due l h.0) line.0 h.1) in
-      same_rest h.0 e f a b x y h.2 (subst (λ (d : Due). AllPass rules.Passes d b f) next k.2) p q line.1
 
 pub no_prefix : (version : Version) (bytes more : List ℕ) (k l : Kind) (a b : List Page) → IsBookText version bytes k a → IsBookText version (bytes ++ more) l b → more ≡ []
 no_prefix version bytes more k l a b h j =

@@ -338,3 +338,21 @@ module _ {Due : Type 0} (rules : Rules Due) where
         let meet = readings_meet due a b h.goes.lines k.goes.lines x.bytes y.bytes h.goes.right k.goes.right (sym h.goes.bytes ∙ k.goes.bytes) h.through k.through in
         let number : x.number ≡ y.number = omega (arith, h.goes.number, k.goes.number, ap length meet.1) in
         (meet.0, same_unread x y meet.2 number)
+
+    -- ---- no text begins another
+
+    wanted_apart : (w : Wanted) → w ≡ ALine → w ≡ TheEnd → ⊥
+    wanted_apart ALine h k = cc
+    wanted_apart TheEnd h k = cc
+    wanted_apart Nothing h k = cc
+
+    -- right lines that end where no line is wanted begin no other such lines
+    pub same_rest : (due e f : Due) (a b : List (List (List ℕ))) (x y : List ℕ) → AllPass rules.Passes due a e → AllPass rules.Passes due b f → rules.wanted e ≡ TheEnd → rules.wanted f ≡ TheEnd
+        → text_of a ++ x ≡ text_of b ++ y → x ≡ y
+    same_rest due e f [] [] x y h k p q same = same
+    same_rest due e f [] (w ∷ b) x y h k p q same = absurd (wanted_apart (rules.wanted due) (sharp.lines due k.0 w k.1) (ap (λ (d : Due). rules.wanted d) h ∙ p))
+    same_rest due e f (v ∷ a) [] x y h k p q same = absurd (wanted_apart (rules.wanted due) (sharp.lines due h.0 v h.1) (ap (λ (d : Due). rules.wanted d) k ∙ q))
+    same_rest due e f (v ∷ a) (w ∷ b) x y h k p q same =
+        let line = same_line v w (text_of a ++ x) (text_of b ++ y) (sharp.solid due h.0 v h.1) (sharp.solid due k.0 w k.1) (sym (text_of-cons v a x) ∙ same ∙ text_of-cons w b y) in
+        let next : k.0 ≡ h.0 = sharp.one_way due k.0 h.0 w k.1 (subst (λ (l : List (List ℕ)). rules.Passes due l h.0) line.0 h.1) in
+        same_rest h.0 e f a b x y h.2 (subst (λ (d : Due). AllPass rules.Passes d b f) next k.2) p q line.1
