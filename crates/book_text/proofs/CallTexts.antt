@@ -1,5 +1,5 @@
 -- The line of a call beside the book that the lines before it give.
-use Rattle.std.proofs.Common.{◌≡◌, ℕ, zero, suc, ◌+◌, ◌<◌, ◌≤◌, ◌^◌, ◌⊎◌, List, [], ◌∷◌, ◌++◌, length, get_or, decimal, Option, Some, None, refl, sym, ap, subst, ◌∙◌, arith, inl, inr, drop, drop-cons, add-one}
+use Rattle.std.proofs.Common.{◌≡◌, ◌≢◌, ℕ, zero, suc, ◌+◌, ◌<◌, ◌≤◌, ◌^◌, ◌⊎◌, List, [], ◌∷◌, ◌++◌, length, get_or, decimal, Option, Some, None, refl, sym, ap, subst, ◌∙◌, arith, inl, inr, drop, drop-cons, add-one}
 use Rattle.std.specs.Prelude.{IfSome, IfNone, IsSomeAnd, codes}
 use Rattle.std.proofs.lemmas.Option.{some_pair_parts}
 use Rattle.book_base.specs.declared.call.Call.{Call}
@@ -10,11 +10,11 @@ use Rattle.book_base.specs.declared.fault.What.{What}
 use Rattle.book_base.specs.declared.fault.What.TheVariants as what
 use Rattle.book_base.specs.declared.fault.ReadFault.{ReadFault}
 use Rattle.book_base.specs.declared.fault.ReadFault.TheVariants.{Text, NoMemory}
-use Rattle.book_base.specs.Book.{Page, page_of, calls_of, unanswered_book, with_answer}
+use Rattle.book_base.specs.Book.{Page, page_of, calls_of, answers_of, unanswered_book, with_answer, IsCall}
 use Rattle.book_base.specs.Refusal as refusal
-use Rattle.book_base.specs.Refusal.{MayAnswer, IsFirstFault}
-use Rattle.book_base.proofs.GrowthLemmas.{calls_of-with_operation, calls_of-with_answer}
-use Rattle.std.proofs.lemmas.List.{length-set, length-replicate}
+use Rattle.book_base.specs.Refusal.{MayAnswer, FailsTest, IsFirstFault}
+use Rattle.book_base.proofs.GrowthLemmas.{calls_of-with_operation, calls_of-with_answer, records-with_operation, page_of-set_same, page_of-set_other, page_of-unanswered_book}
+use Rattle.std.proofs.lemmas.List.{length-set, length-replicate, length-append}
 use Rattle.text_fields.specs.declared.version.Version.{Version}
 use Rattle.text_fields.specs.declared.version.Version.TheVariants.{First, Second}
 use Rattle.text_fields.specs.Lines.{Unread, cut_at}
@@ -25,7 +25,7 @@ use Rattle.text_fields.specs.Operations.{Operations}
 use Rattle.text_fields.proofs.NumberTexts.{same_first, same_number, pair_parts}
 use Rattle.text_fields.proofs.Sharp.{stops_later}
 use Rattle.text_fields.proofs.HeadTexts.{same_numbers}
-use Rattle.book_text.specs.CallLines.{answer_words, IsBehindOperation, IsBehindReply, HasView, EntryFails, view_test, is_gap, with_line, IsNamedCall, IsCallLine, CallFails, calls_from, all_calls}
+use Rattle.book_text.specs.CallLines.{answer_words, IsBehindOperation, IsBehindReply, HasView, EntryFails, view_test, is_gap, with_line, IsNamedCall, IsCallLine, CallFails, calls_from, all_calls, MayRefuse, IsUnanswered}
 use Rattle.book_text.specs.Entries.{IsEntry}
 use Rattle.book_text.proofs.EntryTexts.{OneOperation, no_earlier, one_behind, passes_place, passes_op, passes_gap, passes_reply, passes_view}
 
@@ -42,6 +42,42 @@ calls_of-with_line book call op None j lt = calls_of-with_operation book call op
 calls_of-with_line book call op (Some r) j lt =
     let same : call.caller < length (with_answer book call.caller r) = omega (arith, length-set book call.caller (record (page_of book call.caller) { records = (page_of book call.caller).records ++ r ∷ [] })) in
     calls_of-with_operation (with_answer book call.caller r) call op j same ∙ calls_of-with_answer book call.caller r j lt
+
+-- the line of a call leaves the answers of other callers
+pub answers_of-with_line : (book : List Page) (call : Call) (op : ℕ) (answer : Option Record) (j : ℕ) → call.caller < length book → j ≢ call.caller → answers_of (with_line book call op answer) j ≡ answers_of book j
+answers_of-with_line book call op None j lt other = ap (λ (rs : List Record). length rs) (records-with_operation book call op j lt)
+answers_of-with_line book call op (Some r) j lt other =
+    let page : Page = record (page_of book call.caller) { records = (page_of book call.caller).records ++ r ∷ [] } in
+    let same : call.caller < length (with_answer book call.caller r) = omega (arith, length-set book call.caller page) in
+    ap (λ (rs : List Record). length rs) (records-with_operation (with_answer book call.caller r) call op j same)
+    ∙ ap (λ (p : Page). length p.records) (page_of-set_other book call.caller j page other)
+
+-- the line of a call adds one answer at most
+pub answers_of-with_line_own : (book : List Page) (call : Call) (op : ℕ) (answer : Option Record) → call.caller < length book → answers_of (with_line book call op answer) call.caller ≤ answers_of book call.caller + 1
+answers_of-with_line_own book call op None lt = omega (arith, ap (λ (rs : List Record). length rs) (records-with_operation book call op call.caller lt))
+answers_of-with_line_own book call op (Some r) lt =
+    let page : Page = record (page_of book call.caller) { records = (page_of book call.caller).records ++ r ∷ [] } in
+    let same : call.caller < length (with_answer book call.caller r) = omega (arith, length-set book call.caller page) in
+    let records : answers_of (with_line book call op (Some r)) call.caller ≡ length page.records
+    = ap (λ (rs : List Record). length rs) (records-with_operation (with_answer book call.caller r) call op call.caller same)
+    ∙ ap (λ (p : Page). length p.records) (page_of-set_same book call.caller page lt) in
+    omega (arith, records, length-append (page_of book call.caller).records (r ∷ []))
+
+-- a call of the book that is open is refused by a test of its view alone
+pub may_refuse : (book : List Page) (call : Call) (view : List ℕ) (fault : BookFault) → IsCall book call → IsUnanswered book call → FailsTest book call.caller view fault → MayRefuse fault
+may_refuse book call view tests.NoSuchCall is due h = absurd (omega (arith, is, due, h))
+may_refuse book call view (tests.ViewOutside j) is due h = tt
+may_refuse book call view (tests.ViewLacksOwn count) is due h = tt
+may_refuse book call view (tests.ViewHasLater count) is due h = tt
+may_refuse book call view (tests.ViewsCross other) is due h = tt
+may_refuse book call view tests.TooManyCalls is due h = absurd h
+may_refuse book call view tests.NoMemory is due h = tt
+
+pub entry_may_refuse : (book : List Page) (call : Call) (answer : Option Record) (fault : BookFault) → IsCall book call → IsUnanswered book call
+    → (fault ≡ tests.NoMemory) ⊎ IsSomeAnd answer (λ r. IsFirstFault book call.caller r.view fault) → MayRefuse fault
+entry_may_refuse book call answer fault is due (inl none) = subst MayRefuse (sym none) tt
+entry_may_refuse book call None fault is due (inr first) = absurd first
+entry_may_refuse book call (Some r) fault is due (inr first) = may_refuse book call r.view fault is due first.fails
 
 -- ---- one view
 
@@ -163,6 +199,10 @@ pub calls_of-unanswered : (calls : List ℕ) (j : ℕ) → calls_of (unanswered_
 calls_of-unanswered [] j = refl
 calls_of-unanswered (count ∷ calls) zero = length-replicate count 0
 calls_of-unanswered (count ∷ calls) (suc j) = calls_of-unanswered calls j
+
+-- and none of them is answered
+pub answers_of-unanswered : (calls : List ℕ) (j : ℕ) → answers_of (unanswered_book calls) j ≡ 0
+answers_of-unanswered calls j = ap (λ (p : Page). length p.records) (page_of-unanswered_book calls j)
 
 -- the calls that are due are those of the next caller, and then those of all others
 pub next_caller : (calls : List ℕ) (i : ℕ) → i < length calls → all_calls i (drop i calls) ≡ calls_from i 0 (get_or calls i 0) ++ all_calls (i + 1) (drop (i + 1) calls)

@@ -4,6 +4,7 @@ use Rattle.book_base.specs.declared.call.Call.{Call}
 use Rattle.book_base.specs.declared.call.Record.{Record}
 use Rattle.book_base.specs.declared.fault.BookFault.{BookFault}
 use Rattle.book_base.specs.declared.fault.BookFault.TheVariants as tests
+use Rattle.book_base.specs.declared.fault.ReadFault.{ReadFault}
 use Rattle.book_base.specs.declared.fault.What.{What}
 use Rattle.book_base.specs.declared.fault.What.TheVariants as what
 use Rattle.book_base.specs.declared.TheConstants.{MAX_CALLERS}
@@ -14,7 +15,8 @@ use Rattle.text_fields.specs.declared.version.Version.{Version}
 use Rattle.text_fields.specs.declared.version.Version.TheVariants.{First, Second}
 use Rattle.text_fields.specs.Counts.{AreNumbers, cut_words, HasBadPair, HasWordBehindPairs}
 use Rattle.text_fields.specs.Operations.{Operations}
-use Rattle.text_fields.specs.Faults.{Wanted, ALine, Nothing, Rules}
+use Rattle.text_fields.specs.Lines.{Unread}
+use Rattle.text_fields.specs.Faults.{Wanted, ALine, Nothing, Rules, GoesTo, StopsFor}
 
 -- ---- what a line says
 
@@ -50,6 +52,10 @@ pub record HasView (version : Version) (operations : Operations) (n : ℕ) (call
   pub wide : length view ≡ n
   pub numbers : AreNumbers view
   pub text : IsBehindReply operations call words (codes "view" ∷ cut_words version view)
+
+-- the words are this view, of so many callers
+abbrev pub AreView : Version → ℕ → List ℕ → List (List ℕ) → Type 0
+AreView version n view words = (length view ≡ n) × AreNumbers view × (words ≡ codes "view" ∷ cut_words version view)
 
 -- the next word isn't 'view'
 abbrev pub LacksViewWord : List (List ℕ) → Type 0
@@ -93,6 +99,16 @@ view_test (tests.ViewHasLater count) = Some what.ViewHasLater
 view_test (tests.ViewsCross other) = Some what.ViewsCross
 view_test tests.NoMemory = None
 
+-- A book may refuse the answer of an unanswered call of its own by this fault: by a test of views, or for want of memory.
+abbrev pub MayRefuse : BookFault → Type 0
+MayRefuse tests.TooManyCalls = ⊥
+MayRefuse tests.NoSuchCall = ⊥
+MayRefuse _ = Unit {0}
+
+-- the call is unanswered, and so is each later one of its caller
+abbrev pub IsUnanswered : List Page → Call → Type 0
+IsUnanswered book call = answers_of book call.caller ≤ call.number
+
 -- the line's view fails a test of views, beside the book that the lines before it give
 pub record ViewFails (version : Version) (operations : Operations) (book : List Page) (call : Call) (words : List (List ℕ)) (name : What) : Type 0 where
   pub view : List ℕ
@@ -118,6 +134,10 @@ calls_from i k (suc more) = record { caller = i; number = k } ∷ calls_from i (
 abbrev pub all_calls : ℕ → List ℕ → List Call
 all_calls i [] = []
 all_calls i (count ∷ counts) = calls_from i 0 count ++ all_calls (i + 1) counts
+
+-- the lines so far give this book, and these calls are still due
+abbrev pub reading : List Page → List Call → Progress
+reading book due = record { book = book; due = due }
 
 -- before the lines of calls
 abbrev pub no_call_read : List ℕ → Progress
@@ -175,3 +195,23 @@ call_rules version operations = record {
   Fails = λ progress words name. CallFails version operations progress.book progress.due words name;
   wanted = λ progress. call_wanted progress.due;
 }
+
+-- ---- reading
+
+-- The lines of these calls lead from one book to another, whatever is due behind them, and leave the rest unread.
+abbrev pub AreRead : Version → Operations → List Call → List Page → Unread → List Page → Unread → Type 0
+AreRead version operations calls book text after left = (more : List Call)
+    → GoesTo (call_rules version operations) (reading book (calls ++ more)) text (reading after more) left
+
+-- The reading of the lines of these calls stops, whatever is due behind them.
+abbrev pub AreStopped : Version → Operations → List Call → List Page → Unread → ReadFault → Type 0
+AreStopped version operations calls book text fault = (more : List Call)
+    → StopsFor (call_rules version operations) (reading book (calls ++ more)) text fault
+
+-- The text begins with the lines of a book's calls, so many of each caller, and leaves the rest unread.
+abbrev pub AreCallLines : Version → Operations → List ℕ → List Page → Unread → Unread → Type 0
+AreCallLines version operations calls book text left = GoesTo (call_rules version operations) (no_call_read calls) text (reading book []) left
+
+-- Why lines of calls, so many of each caller, aren't read: want of memory, or their first fault.
+abbrev pub AreNoCallLines : Version → Operations → List ℕ → Unread → ReadFault → Type 0
+AreNoCallLines version operations calls text fault = StopsFor (call_rules version operations) (no_call_read calls) text fault

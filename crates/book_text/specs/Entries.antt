@@ -1,5 +1,5 @@
 -- What the line of a call says, read by itself.
-use Rattle.std.specs.Prelude.{◌≡◌, ◌≢◌, ℕ, ◌<◌, ◌^◌, Bool, true, false, IsTrue, List, [], ◌∷◌, length, Option, Some, None}
+use Rattle.std.specs.Prelude.{◌≡◌, ◌≢◌, ℕ, ◌<◌, ◌^◌, Bool, true, false, IsTrue, List, [], ◌∷◌, ◌++◌, length, Option, Some, None}
 use Rattle.book_base.specs.declared.call.Call.{Call}
 use Rattle.book_base.specs.declared.call.Record.{Record}
 use Rattle.book_base.specs.declared.fault.What.{What}
@@ -20,6 +20,14 @@ pub record IsEntry (version : Version) (operations : Operations) (n : ℕ) (gap 
   pub has : IsTrue (operations.has op)
   pub answered : IsEntryAnswer n gap answer
   pub text : words ≡ call_words version operations call op answer
+
+-- the words begin with those of this operation
+abbrev pub BeginWith : Operations → List (List ℕ) → ℕ → List (List ℕ) → Type 0
+BeginWith operations words op behind = IsTrue (operations.has op) × (words ≡ operations.words op ++ behind)
+
+-- the words begin with those of no operation
+abbrev pub BeginWithNone : Operations → List (List ℕ) → Type 0
+BeginWithNone operations words = (op : ℕ) (behind : List (List ℕ)) → IsTrue (operations.has op) → words ≢ operations.words op ++ behind
 
 -- why the words behind an operation give no answer
 abbrev pub IsNoAnswer : Version → ℕ → Bool → List (List ℕ) → What → Type 0

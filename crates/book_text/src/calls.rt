@@ -1,24 +1,23 @@
 //! The lines of a book's calls.
 
-ghost use Rattle.std.specs.Prelude.{◌≡◌, ◌⊎◌, ℕ, ◌<◌, ◌≤◌, ◌∷◌, ◌++◌, [], List, length, slice_index, IfOk, IfErr, IfSome, IfNone, IsSomeAnd, OnOk};
+ghost use Rattle.std.specs.Prelude.{◌≡◌, ◌≢◌, ◌⊎◌, ℕ, ◌+◌, ◌<◌, ◌≤◌, ◌∷◌, [], length, slice_index, IfOk, IfErr, IfSome, IfNone, IsSomeAnd, OnOk};
 ghost use Rattle.book_base.specs.declared.TheConstants.{MAX_CALLERS, MAX_CALLS};
-ghost use Rattle.book_base.specs.declared.call.Call.{Call};
 ghost use Rattle.book_base.specs.declared.fault.BookFault.{BookFault};
-ghost use Rattle.book_base.specs.Book.{IsCall, calls_of};
+ghost use Rattle.book_base.specs.Book.{IsCall, calls_of, answers_of};
 ghost use Rattle.book_base.specs.Refusal.{MayAnswer, IsFirstFault};
-ghost use Rattle.text_fields.specs.Faults.{GoesTo, StopsFor};
 ghost use Rattle.text_fields.specs.declared.version.Version.TheVariants.{Second};
-ghost use Rattle.book_text.specs.CallLines.{call_rules, calls_from, no_call_read, is_gap as is_gap_lem, view_test, with_line};
+ghost use Rattle.book_text.specs.CallLines.{AreCallLines, AreNoCallLines, AreRead, AreStopped, IsUnanswered, MayRefuse, calls_from, is_gap as is_gap_lem, view_test, with_line};
 
 use crate::entry::{Entry, read_entry};
 use book_base::{Book, BookFault, Call, Cut, ReadFault, Record, TextFault, What};
 use std::alloc::Global;
 use text_fields::{Lines, OpText, Version};
 
-/// The book whose calls the lines tell, by the words of these operations; the lines behind them stay.
+/// The book whose calls the lines tell, by the words of these operations; the lines behind them
+/// stay.
 ///
-/// `calls` has the number of calls of each of the `n` callers. A text fault is the first fault of the
-/// lines of the calls.
+/// `calls` has the number of calls of each of the `n` callers. A text fault is the first fault of
+/// the lines of the calls. After a refusal the lines stay as they were.
 pub fn read_calls<T: OpText>(
     alloc: Global,
     lines: &mut Lines,
@@ -28,12 +27,18 @@ pub fn read_calls<T: OpText>(
 ) -> Result<Book, ReadFault>
     requires callers { length calls.now ≡ n }
     requires few { (i : ℕ) → slice_index calls.now i ≤ MAX_CALLS }
-    ensures found { IfOk result (λ book. GoesTo (call_rules Second (T.operations operations.now)) (no_call_read calls.now) lines.old (record { book = book; due = [] }) lines.new) }
-    ensures refused { IfErr result (λ e. StopsFor (call_rules Second (T.operations operations.now)) (no_call_read calls.now) lines.old e) }
+    ensures found { IfOk result (λ book.
+        AreCallLines Second (T.operations operations.now) calls.now book lines.old lines.new) }
+    ensures refused { IfErr result
+        (AreNoCallLines Second (T.operations operations.now) calls.now lines.old) }
+    ensures unchanged { IfErr result (λ _. lines.new ≡ lines.old) }
 {
     let callers = calls.n();
     prove!(callers == n);
-    read_calls_of(Version::Second, alloc, lines, calls, operations)
+    let mut ahead = lines.copy();
+    let book = read_calls_of(Version::Second, alloc, &mut ahead, calls, operations)?;
+    *lines = ahead;
+    Ok(book)
 }
 
 /// The book whose calls the lines tell, in a text of this version.
@@ -45,8 +50,10 @@ pub(crate) fn read_calls_of<T: OpText>(
     operations: &T,
 ) -> Result<Book, ReadFault>
     requires { (i : ℕ) → slice_index calls.now i ≤ MAX_CALLS }
-    ensures found { IfOk result (λ book. GoesTo (call_rules version (T.operations operations.now)) (no_call_read calls.now) lines.old (record { book = book; due = [] }) lines.new) }
-    ensures refused { IfErr result (λ e. StopsFor (call_rules version (T.operations operations.now)) (no_call_read calls.now) lines.old e) }
+    ensures found { IfOk result (λ book.
+        AreCallLines version (T.operations operations.now) calls.now book lines.old lines.new) }
+    ensures refused { IfErr result
+        (AreNoCallLines version (T.operations operations.now) calls.now lines.old) }
 {
     let mut book = Book::with_calls(alloc, calls)?;
     for i in 0..calls.n() {
@@ -64,10 +71,14 @@ fn read_caller<T: OpText>(
     i: u32,
     count: u64,
 ) -> Result<(), ReadFault>
-    requires { count ≤ calls_of book.old i }
-    ensures found { OnOk result ((more : List Call) → GoesTo (call_rules version (T.operations operations.now)) (record { book = book.old; due = calls_from i 0 count ++ more }) lines.old (record { book = book.new; due = more }) lines.new) }
-    ensures refused { IfErr result (λ e. (more : List Call) → StopsFor (call_rules version (T.operations operations.now)) (record { book = book.old; due = calls_from i 0 count ++ more }) lines.old e) }
+    requires calls { count ≤ calls_of book.old i }
+    requires unanswered { answers_of book.old i ≡ 0 }
+    ensures found { OnOk result (AreRead version (T.operations operations.now)
+        (calls_from i 0 count) book.old lines.old book.new lines.new) }
+    ensures refused { IfErr result (AreStopped version (T.operations operations.now)
+        (calls_from i 0 count) book.old lines.old) }
     ensures calls { OnOk result ((j : ℕ) → calls_of book.new j ≡ calls_of book.old j) }
+    ensures others { OnOk result ((j : ℕ) → j ≢ i → answers_of book.new j ≡ answers_of book.old j) }
 {
     for number in 0..count {
         let call = Call { caller: i, number };
@@ -84,10 +95,16 @@ fn read_call<T: OpText>(
     book: &mut Book,
     call: Call,
 ) -> Result<(), ReadFault>
-    requires { IsCall book.old call }
-    ensures found { OnOk result ((more : List Call) → GoesTo (call_rules version (T.operations operations.now)) (record { book = book.old; due = call ∷ more }) lines.old (record { book = book.new; due = more }) lines.new) }
-    ensures refused { IfErr result (λ e. (more : List Call) → StopsFor (call_rules version (T.operations operations.now)) (record { book = book.old; due = call ∷ more }) lines.old e) }
+    requires call { IsCall book.old call }
+    requires unanswered { IsUnanswered book.old call }
+    ensures found { OnOk result (AreRead version (T.operations operations.now)
+        (call ∷ []) book.old lines.old book.new lines.new) }
+    ensures refused { IfErr result (AreStopped version (T.operations operations.now)
+        (call ∷ []) book.old lines.old) }
     ensures calls { OnOk result ((j : ℕ) → calls_of book.new j ≡ calls_of book.old j) }
+    ensures answers { OnOk result (answers_of book.new call.caller ≤ call.number + 1) }
+    ensures others { OnOk result ((j : ℕ)
+        → j ≢ call.caller → answers_of book.new j ≡ answers_of book.old j) }
 {
     let number = lines.number();
     let line = lines.line()?;
@@ -113,10 +130,13 @@ fn is_gap(book: &Book, call: Call) -> bool
 /// Puts what the line of this call says into the book.
 fn record_entry(book: &mut Book, call: Call, entry: Entry) -> Result<(), BookFault>
     requires call { IsCall book.old call }
+    requires unanswered { IsUnanswered book.old call }
     requires wide { IfSome entry.answer (λ r. length r.view ≡ length book.old) }
     ensures ok { OnOk result (book.new ≡ with_line book.old call entry.op entry.answer) }
     ensures may { OnOk result (IfSome entry.answer (λ r. MayAnswer book.old call.caller r.view)) }
-    ensures refused { IfErr result (λ e. (e ≡ BookFault.NoMemory) ⊎ IsSomeAnd entry.answer (λ r. IsFirstFault book.old call.caller r.view e)) }
+    ensures refused { IfErr result (λ e. (e ≡ BookFault.NoMemory)
+        ⊎ IsSomeAnd entry.answer (λ r. IsFirstFault book.old call.caller r.view e)) }
+    ensures causes { IfErr result MayRefuse }
 {
     let Entry { op, answer } = entry;
     match answer {
@@ -131,7 +151,9 @@ fn record_entry(book: &mut Book, call: Call, entry: Entry) -> Result<(), BookFau
 
 /// What a text is refused with where the book refused the view in this line.
 fn refusal(line: u64, fault: BookFault) -> ReadFault
-    ensures text { IfSome (view_test fault) (λ what. result ≡ ReadFault.Text (record { line = line; what = what })) }
+    requires { MayRefuse fault }
+    ensures text { IfSome (view_test fault) (λ what.
+        result ≡ ReadFault.Text (record { line = line; what = what })) }
     ensures memory { IfNone (view_test fault) (result ≡ ReadFault.NoMemory) }
 {
     let what = match fault {
@@ -139,10 +161,8 @@ fn refusal(line: u64, fault: BookFault) -> ReadFault
         BookFault::ViewLacksOwn(_) => What::ViewLacksOwn,
         BookFault::ViewHasLater(_) => What::ViewHasLater,
         BookFault::ViewsCross(_) => What::ViewsCross,
-        // A call that is due is one of the book's, and has no answer yet.
-        BookFault::TooManyCalls | BookFault::NoSuchCall | BookFault::NoMemory => {
-            return ReadFault::NoMemory;
-        }
+        BookFault::NoMemory => return ReadFault::NoMemory,
+        BookFault::TooManyCalls | BookFault::NoSuchCall => unreachable!(),
     };
     ReadFault::Text(TextFault { line, what })
 }

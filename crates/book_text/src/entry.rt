@@ -1,11 +1,11 @@
 //! The line of a call, by itself.
 
-ghost use Rattle.std.specs.Prelude.{◌≡◌, ◌≢◌, ℕ, ◌≤◌, ◌∷◌, ◌++◌, IsTrue, List, length, decimal, IfOk, IfErr, IfSome, IfNone};
+ghost use Rattle.std.specs.Prelude.{◌≡◌, ◌≢◌, ℕ, ◌≤◌, ◌∷◌, ◌++◌, List, length, decimal, IfOk, IfErr, IfSome, IfNone};
 ghost use Rattle.book_base.specs.declared.TheConstants.{MAX_CALLERS};
 ghost use Rattle.text_fields.specs.Lines.{words_of};
 ghost use Rattle.book_text.specs.CallLines.{place_words, answer_words, EntryFails};
 ghost use Rattle.text_fields.specs.Faults.{IsFirstTest};
-ghost use Rattle.book_text.specs.Entries.{IsEntryAnswer, IsEntry, IsNoAnswer};
+ghost use Rattle.book_text.specs.Entries.{IsEntryAnswer, IsEntry, BeginWith, BeginWithNone, IsNoAnswer};
 
 use crate::view::read_view;
 use book_base::{Call, OpWord, Record, What};
@@ -31,8 +31,10 @@ pub(crate) fn read_entry<T: OpText>(
 ) -> Result<Entry, What>
     requires some { 1 ≤ n }
     requires few { n ≤ MAX_CALLERS }
-    ensures found { IfOk result (λ entry. IsEntry version (T.operations operations.now) n gap call (words_of line.now) entry.op entry.answer) }
-    ensures refused { IfErr result (λ what. IsFirstTest (EntryFails version (T.operations operations.now) n gap call (words_of line.now)) what) }
+    ensures found { IfOk result (λ entry. IsEntry version (T.operations operations.now)
+        n gap call (words_of line.now) entry.op entry.answer) }
+    ensures refused { IfErr result (λ what. IsFirstTest
+        (EntryFails version (T.operations operations.now) n gap call (words_of line.now)) what) }
 {
     let mut words = Words::new(line);
     let Some(()) = take_place(&mut words, call) else {
@@ -50,7 +52,8 @@ pub(crate) fn read_entry<T: OpText>(
 /// Takes the caller and the number of this call.
 fn take_place(words: &mut Words, call: Call) -> Option<()>
     ensures found { IfSome result (λ _. words.old ≡ place_words call ++ words.new) }
-    ensures none { IfNone result ((behind : List (List ℕ)) → words.old ≢ place_words call ++ behind) }
+    ensures none { IfNone result ((behind : List (List ℕ))
+        → words.old ≢ place_words call ++ behind) }
 {
     take_due(words, u64::from(call.caller))?;
     take_due(words, call.number)
@@ -67,8 +70,9 @@ fn take_due(words: &mut Words, due: u64) -> Option<()>
 
 /// Takes the words of an operation.
 fn take_operation<T: OpText>(operations: &T, words: &mut Words) -> Option<OpWord>
-    ensures found { IfSome result (λ op. IsTrue ((T.operations operations.now).has op) × (words.old ≡ (T.operations operations.now).words op ++ words.new)) }
-    ensures none { IfNone result ((op : ℕ) (others : List (List ℕ)) → IsTrue ((T.operations operations.now).has op) → words.old ≢ (T.operations operations.now).words op ++ others) }
+    ensures found { IfSome result (λ op.
+        BeginWith (T.operations operations.now) words.old op words.new) }
+    ensures none { IfNone result (BeginWithNone (T.operations operations.now) words.old) }
 {
     let first = words.next()?;
     let mut ahead = words.copy();
@@ -90,7 +94,8 @@ fn read_answer(
 ) -> Result<Option<Record>, What>
     requires some { 1 ≤ n }
     requires few { n ≤ MAX_CALLERS }
-    ensures found { IfOk result (λ answer. IsEntryAnswer n gap answer × (words.old ≡ answer_words version answer)) }
+    ensures found { IfOk result (λ answer.
+        IsEntryAnswer n gap answer × (words.old ≡ answer_words version answer)) }
     ensures refused { IfErr result (λ what. IsNoAnswer version n gap words.old what) }
 {
     let Some(word) = words.next() else {

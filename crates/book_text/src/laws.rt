@@ -11,26 +11,33 @@ ghost use Rattle.book_text.specs.Beginnings.{LeavesTexts};
 
 /// Bytes are the text of one book at most, for one kind.
 pub fn one_book_per_text()
-    ensures { (version : Version) (bytes : List ℕ) (k l : Kind) (a b : List Page) → IsBookText version bytes k a → IsBookText version bytes l b → (k ≡ l) × (a ≡ b) }
+    ensures { (version : Version) (bytes : List ℕ) (k l : Kind) (a b : List Page)
+        → IsBookText version bytes k a → IsBookText version bytes l b → (k ≡ l) × (a ≡ b) }
 {}
 
 /// Bytes have one first fault at most.
 pub fn one_first_fault()
-    ensures { (version : Version) (bytes : List ℕ) (a b : TextFault) → IsFirstBookFault version bytes a → IsFirstBookFault version bytes b → a ≡ b }
+    ensures { (version : Version) (bytes : List ℕ) (a b : TextFault)
+        → IsFirstBookFault version bytes a → IsFirstBookFault version bytes b → a ≡ b }
 {}
 
 /// A book's text has no fault.
 pub fn no_fault_of_a_text()
-    ensures { (version : Version) (bytes : List ℕ) (kind : Kind) (book : List Page) (fault : TextFault) → IsBookText version bytes kind book → ¬ (IsFirstBookFault version bytes fault) }
+    ensures { (version : Version) (bytes : List ℕ) (kind : Kind) (book : List Page)
+        (fault : TextFault)
+        → IsBookText version bytes kind book → ¬ (IsFirstBookFault version bytes fault) }
 {}
 
 /// Bytes are read as a book exactly where they are what is written of it.
 pub fn a_text_is_its_books_lines()
-    ensures { (version : Version) (bytes : List ℕ) (kind : Kind) (book : List Page) → IsWrittenText version bytes kind book ↔ IsBookText version bytes kind book }
+    ensures { (version : Version) (bytes : List ℕ) (kind : Kind) (book : List Page)
+        → IsWrittenText version bytes kind book ↔ IsBookText version bytes kind book }
 {}
 
-/// A first fault stands where the bytes leave the texts of books: some text begins with the lines before
-/// the fault's line, and none goes on with that line; or it isn't whole, or bytes follow a whole text.
+/// A first fault stands where the bytes leave the texts of books: some text begins with the lines
+/// before the fault's line, and none goes on with that line; or it isn't whole, or bytes follow a
+/// whole text.
 pub fn first_faults_leave_texts()
-    ensures { (version : Version) (bytes : List ℕ) (fault : TextFault) → IsFirstBookFault version bytes fault → LeavesTexts version bytes fault }
+    ensures { (version : Version) (bytes : List ℕ) (fault : TextFault)
+        → IsFirstBookFault version bytes fault → LeavesTexts version bytes fault }
 {}

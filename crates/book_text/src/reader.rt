@@ -6,8 +6,7 @@ ghost use Rattle.book_base.specs.Book.{Page};
 ghost use Rattle.seq_objects.specs.declared.kind.Kind.{Kind};
 ghost use Rattle.text_fields.specs.declared.version.Version.{Version};
 ghost use Rattle.text_fields.specs.declared.version.Version.TheVariants.{First, Second};
-ghost use Rattle.text_fields.specs.Lines.{Unread};
-ghost use Rattle.text_fields.specs.Faults.{GoesTo, IsFirstFault, IsReadTo, StopsFor};
+ghost use Rattle.text_fields.specs.Faults.{GoesTo, IsFirstFault, StopsFor};
 ghost use Rattle.text_fields.specs.Head.{TitleDue};
 ghost use Rattle.book_text.specs.Grammar.{end_words};
 ghost use Rattle.book_text.specs.BookRules.{InHead, InCalls, AtEnd, book_rules, whole_text, IsBookText, IsNoBookText, IsFirstBookFault};
@@ -25,11 +24,16 @@ pub fn read_book(alloc: Global, bytes: &[u8]) -> Result<(Kind, Book), ReadFault>
     // What is read is this book's text.
     ensures found { IfOk result (λ (kind, book). IsBookText Second bytes.now kind book) }
     // A text of a book is read as that book, unless memory runs out.
-    ensures only { (kind : Kind) (book : List Page) → IsBookText Second bytes.now kind book → MatchResult result (λ (k, b). (k ≡ kind) × (b ≡ book)) (λ e. e ≡ ReadFault.NoMemory) }
+    ensures only { (kind : Kind) (book : List Page) → IsBookText Second bytes.now kind book
+        → MatchResult result (λ (k, b). (k ≡ kind) × (b ≡ book)) (λ e. e ≡ ReadFault.NoMemory) }
     // A fault of the text is the first fault of bytes that are no book's text.
-    ensures refused { IfErr result (λ e. (e ≡ ReadFault.NoMemory) ⊎ ((fault : TextFault) × (e ≡ ReadFault.Text fault) × IsFirstBookFault Second bytes.now fault × IsNoBookText Second bytes.now)) }
+    ensures refused { IfErr result (λ e. (e ≡ ReadFault.NoMemory)
+        ⊎ ((fault : TextFault) × (e ≡ ReadFault.Text fault)
+        × IsFirstBookFault Second bytes.now fault × IsNoBookText Second bytes.now)) }
     // Where the bytes have a first fault, the answer is that fault, unless memory runs out.
-    ensures first { (fault : TextFault) → IsFirstBookFault Second bytes.now fault → MatchResult result (λ _. ⊥) (λ e. (e ≡ ReadFault.Text fault) ⊎ (e ≡ ReadFault.NoMemory)) }
+    ensures first { (fault : TextFault) → IsFirstBookFault Second bytes.now fault
+        → MatchResult result (λ _. ⊥)
+        (λ e. (e ≡ ReadFault.Text fault) ⊎ (e ≡ ReadFault.NoMemory)) }
 {
     read_version(Version::Second, alloc, bytes)
 }
@@ -41,11 +45,16 @@ pub fn read_book1(alloc: Global, bytes: &[u8]) -> Result<(Kind, Book), ReadFault
     // What is read is this book's text.
     ensures found { IfOk result (λ (kind, book). IsBookText First bytes.now kind book) }
     // A text of a book is read as that book, unless memory runs out.
-    ensures only { (kind : Kind) (book : List Page) → IsBookText First bytes.now kind book → MatchResult result (λ (k, b). (k ≡ kind) × (b ≡ book)) (λ e. e ≡ ReadFault.NoMemory) }
+    ensures only { (kind : Kind) (book : List Page) → IsBookText First bytes.now kind book
+        → MatchResult result (λ (k, b). (k ≡ kind) × (b ≡ book)) (λ e. e ≡ ReadFault.NoMemory) }
     // A fault of the text is the first fault of bytes that are no book's text.
-    ensures refused { IfErr result (λ e. (e ≡ ReadFault.NoMemory) ⊎ ((fault : TextFault) × (e ≡ ReadFault.Text fault) × IsFirstBookFault First bytes.now fault × IsNoBookText First bytes.now)) }
+    ensures refused { IfErr result (λ e. (e ≡ ReadFault.NoMemory)
+        ⊎ ((fault : TextFault) × (e ≡ ReadFault.Text fault)
+        × IsFirstBookFault First bytes.now fault × IsNoBookText First bytes.now)) }
     // Where the bytes have a first fault, the answer is that fault, unless memory runs out.
-    ensures first { (fault : TextFault) → IsFirstBookFault First bytes.now fault → MatchResult result (λ _. ⊥) (λ e. (e ≡ ReadFault.Text fault) ⊎ (e ≡ ReadFault.NoMemory)) }
+    ensures first { (fault : TextFault) → IsFirstBookFault First bytes.now fault
+        → MatchResult result (λ _. ⊥)
+        (λ e. (e ≡ ReadFault.Text fault) ⊎ (e ≡ ReadFault.NoMemory)) }
 {
     read_version(Version::First, alloc, bytes)
 }
@@ -56,8 +65,9 @@ pub(crate) fn read_version(
     alloc: Global,
     bytes: &[u8],
 ) -> Result<(Kind, Book), ReadFault>
-    ensures found { IfOk result (λ (kind, book). (left : Unread) × IsReadTo (book_rules version) (InHead TitleDue) (whole_text bytes.now) (AtEnd kind book) left) }
-    ensures refused { IfErr result (λ e. StopsFor (book_rules version) (InHead TitleDue) (whole_text bytes.now) e) }
+    ensures found { IfOk result (λ (kind, book). IsBookText version bytes.now kind book) }
+    ensures refused { IfErr result (λ e.
+        StopsFor (book_rules version) (InHead TitleDue) (whole_text bytes.now) e) }
 {
     let mut lines = Lines::new(bytes);
     let head = read_head_of(version, &mut lines, b"book")?;
@@ -72,9 +82,12 @@ pub(crate) fn read_version(
 
 /// The end of a text, and nothing behind it.
 fn read_end(lines: &mut Lines) -> Result<(), TextFault>
-    ensures found { IfOk result (λ _. (version : Version) (kind : Kind) (book : List Page) → GoesTo (book_rules version) (InCalls kind book []) lines.old (AtEnd kind book) lines.new) }
+    ensures found { IfOk result (λ _. (version : Version) (kind : Kind) (book : List Page) → GoesTo
+        (book_rules version) (InCalls kind book []) lines.old (AtEnd kind book) lines.new) }
     ensures whole { IfOk result (λ _. lines.new.bytes ≡ []) }
-    ensures refused { IfErr result (λ fault. (version : Version) (kind : Kind) (book : List Page) → IsFirstFault (book_rules version) (InCalls kind book []) lines.old fault) }
+    ensures refused { IfErr result (λ fault.
+        (version : Version) (kind : Kind) (book : List Page) → IsFirstFault
+        (book_rules version) (InCalls kind book []) lines.old fault) }
 {
     let line = lines.number();
     let mut words = Words::new(lines.line()?);

@@ -1,10 +1,9 @@
 //! The view in the line of a call.
 
-ghost use Rattle.std.specs.Prelude.{◌≡◌, ◌≢◌, ℕ, ◌≤◌, ◌∷◌, List, length, codes, IfSome, IfNone};
+ghost use Rattle.std.specs.Prelude.{◌≡◌, ◌≢◌, ℕ, ◌≤◌, ◌∷◌, List, IfSome, IfNone};
 ghost use Rattle.book_base.specs.declared.TheConstants.{MAX_CALLERS};
 ghost use Rattle.text_fields.specs.declared.version.Version.TheVariants.{First, Second};
-ghost use Rattle.text_fields.specs.Counts.{AreNumbers, cut_words};
-ghost use Rattle.book_text.specs.CallLines.{IsNoView};
+ghost use Rattle.book_text.specs.CallLines.{AreView, IsNoView};
 
 use book_base::Cut;
 use text_fields::{Version, Words, read_counts, read_pairs};
@@ -13,7 +12,7 @@ use text_fields::{Version, Words, read_counts, read_pairs};
 pub(crate) fn read_view(version: Version, words: &mut Words, n: u32) -> Option<Cut>
     requires some { 1 ≤ n }
     requires few { n ≤ MAX_CALLERS }
-    ensures found { IfSome result (λ view. (length view ≡ n) × AreNumbers view × (words.old ≡ codes "view" ∷ cut_words version view)) }
+    ensures found { IfSome result (λ view. AreView version n view words.old) }
     ensures none { IfNone result (IsNoView version n words.old) }
 {
     match version {
@@ -26,7 +25,7 @@ pub(crate) fn read_view(version: Version, words: &mut Words, n: u32) -> Option<C
 fn first_view(words: &mut Words, n: u32) -> Option<Cut>
     requires some { 1 ≤ n }
     requires few { n ≤ MAX_CALLERS }
-    ensures found { IfSome result (λ view. (length view ≡ n) × AreNumbers view × (words.old ≡ codes "view" ∷ cut_words First view)) }
+    ensures found { IfSome result (λ view. AreView First n view words.old) }
     ensures none { IfNone result (IsNoView First n words.old) }
 {
     take_word(words, b"view")?;
@@ -37,7 +36,7 @@ fn first_view(words: &mut Words, n: u32) -> Option<Cut>
 fn second_view(words: &mut Words, n: u32) -> Option<Cut>
     requires some { 1 ≤ n }
     requires few { n ≤ MAX_CALLERS }
-    ensures found { IfSome result (λ view. (length view ≡ n) × AreNumbers view × (words.old ≡ codes "view" ∷ cut_words Second view)) }
+    ensures found { IfSome result (λ view. AreView Second n view words.old) }
     ensures none { IfNone result (IsNoView Second n words.old) }
 {
     take_word(words, b"view")?;

@@ -1,12 +1,12 @@
 use Rattle.std.proofs.Common.{◌<◌, ◌^◌, List, ◌∷◌, length, ap, ◌∙◌, refl, arith}
 use Rattle.std.proofs.lemmas.Result.{err_from_is_err_and}
 use Rattle.book_text.specs.CallLines.{Progress}
-use Rattle.book_base.specs.Book.{Page, calls_of}
+use Rattle.book_base.specs.Book.{Page, calls_of, answers_of}
 use Rattle.book_base.proofs.PageLemmas.{caller_from_call}
 use Rattle.text_fields.specs.Lines.{words_of}
 use Rattle.text_fields.proofs.Sharp.{goes_line, stops_cut, stops_line}
 use Rattle.book_text.specs.CallLines.{call_rules, view_test}
-use Rattle.book_text.proofs.CallTexts.{right_line, calls_of-with_line, entry_first, refused_first, stops_refused}
+use Rattle.book_text.proofs.CallTexts.{right_line, calls_of-with_line, answers_of-with_line, answers_of-with_line_own, entry_first, refused_first, stops_refused}
 use Rattle.book_text.proofs.calls.read_call.Goals as goal
 
 pub returns-in_err-line-clause-refused : goal.returns-in_err-line-clause-refused
@@ -20,10 +20,22 @@ returns-in-Ok-record_entry-clause-found g c = λ more.
     let operations = g.T.OpText.operations c.args.operations.now in
     let entry = rw (c.callers-n.ensures.count, c.is_gap-gap.ensures) at c.in-Ok.ensures.found in
     goes_line (call_rules c.args.version operations) (record { book = c.args.book.now; due = c.args.call ∷ more }) (record { book = c.record_entry.new.book; due = more }) c.args.lines.now c.line.new.self c.in_ok-line.line.now c.in_ok-line.ensures.line
-    (right_line c.args.version operations c.args.book.now c.args.call (words_of c.in_ok-line.line.now) c.in-Ok.entry.op c.in-Ok.entry.answer c.record_entry.new.book (record { caller = caller_from_call c.args.book.now c.args.call.caller c.args.call.number c.requires; callers = c.callers-n.ensures.small.callers; number = omega arith }) entry c.in-Ok-record_entry.ensures.may c.in-Ok-record_entry.ensures.ok, refl)
+    (right_line c.args.version operations c.args.book.now c.args.call (words_of c.in_ok-line.line.now) c.in-Ok.entry.op c.in-Ok.entry.answer c.record_entry.new.book (record { caller = caller_from_call c.args.book.now c.args.call.caller c.args.call.number c.requires.call; callers = c.callers-n.ensures.small.callers; number = omega arith }) entry c.in-Ok-record_entry.ensures.may c.in-Ok-record_entry.ensures.ok, refl)
 
 pub returns-in-Ok-record_entry-clause-calls : goal.returns-in-Ok-record_entry-clause-calls
-returns-in-Ok-record_entry-clause-calls g c = λ j. ap (λ (b : List Page). calls_of b j) c.in-Ok-record_entry.ensures.ok ∙ calls_of-with_line c.args.book.now c.args.call _ _ j (caller_from_call c.args.book.now c.args.call.caller c.args.call.number c.requires)
+returns-in-Ok-record_entry-clause-calls g c = λ j. ap (λ (b : List Page). calls_of b j) c.in-Ok-record_entry.ensures.ok ∙ calls_of-with_line c.args.book.now c.args.call _ _ j (caller_from_call c.args.book.now c.args.call.caller c.args.call.number c.requires.call)
+
+pub returns-in-Ok-record_entry-clause-others : goal.returns-in-Ok-record_entry-clause-others
+returns-in-Ok-record_entry-clause-others g c = λ j other. ap (λ (b : List Page). answers_of b j) c.in-Ok-record_entry.ensures.ok ∙ answers_of-with_line c.args.book.now c.args.call _ _ j (caller_from_call c.args.book.now c.args.call.caller c.args.call.number c.requires.call) other
+
+pub returns-in-Ok-record_entry-clause-answers : goal.returns-in-Ok-record_entry-clause-answers
+returns-in-Ok-record_entry-clause-answers g c =
+    omega (
+      arith,
+      ap (λ (b : List Page). answers_of b c.args.call.caller) c.in-Ok-record_entry.ensures.ok,
+      c.requires.unanswered,
+      answers_of-with_line_own c.args.book.now c.args.call c.in-Ok.entry.op c.in-Ok.entry.answer (caller_from_call c.args.book.now c.args.call.caller c.args.call.number c.requires.call),
+    )
 
 pub returns-in-Err-record_entry-clause-refused : goal.returns-in-Err-record_entry-clause-refused
 returns-in-Err-record_entry-clause-refused g c = λ more.

@@ -30,4 +30,6 @@ loop-number-preserved g c =
           let here = subst (λ (calls : List Call). GoesTo rules start c.args.lines.now (record { book = c.loop-number.book; due = calls }) c.loop-number.lines) (next_due c.args.i k c.args.count more c.loop-number-test.true) (c.loop-number.invariant.goes more) in
           goes_then rules start _ _ c.args.lines.now c.loop-number.lines c.read_call.new.lines here (c.in_ok-read_call.ensures.found (calls_from c.args.i (k + 1) (c.args.count - (k + 1)) ++ more));
       calls = λ j. c.in_ok-read_call.ensures.calls j ∙ c.loop-number.invariant.calls j;
+      own = c.in_ok-read_call.ensures.answers;
+      others = λ j other. c.in_ok-read_call.ensures.others j other ∙ c.loop-number.invariant.others j other;
     }
