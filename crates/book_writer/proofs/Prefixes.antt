@@ -27,12 +27,12 @@ use Rattle.book_text.specs.Grammar.{end_words, IsWritable, IsWrittenText}
 use Rattle.book_text.specs.BookRules.{InHead, AtEnd, book_rules, IsBookText}
 use Rattle.book_text.proofs.SharpBooks.{book_sharp}
 use Rattle.book_text.proofs.Readings.{one_book}
+use Rattle.book_text.proofs.WrittenTexts.{written_is_read}
 use Rattle.sketch.specs.declared.event.Event.{Event}
 use Rattle.sketch.specs.declared.event.Event.TheVariants.{Invoke, Return}
 use Rattle.sketch.specs.Sketch.{IsEventOf}
 use Rattle.book_writer.specs.Sketches.{call_operation, call_reply, event_words, sketch_lines, AreEventsOf}
 use Rattle.book_writer.proofs.Texts.{value_is}
-use Rattle.book_writer.proofs.Readings.{written_is_read}
 
 pub written_is_one : (version : Version) (bytes : List ℕ) (k l : Kind) (a b : List Page) → IsWrittenText version bytes k a → IsWrittenText version bytes l b → (k ≡ l) × (a ≡ b)
 written_is_one version bytes k l a b h j = one_book version bytes k l a b (written_is_read version bytes k a h) (written_is_read version bytes l b j)

@@ -1,5 +1,5 @@
 -- Laws of the texts of books and of sketches.
-use Rattle.std.specs.Prelude.{◌≡◌, ◌↔◌, ℕ, List, [], ◌++◌}
+use Rattle.std.specs.Prelude.{◌≡◌, ℕ, List, [], ◌++◌}
 use Rattle.book_base.specs.Book.{Page}
 use Rattle.seq_objects.specs.declared.kind.Kind.{Kind}
 use Rattle.text_fields.specs.declared.version.Version.{Version}
@@ -9,10 +9,6 @@ use Rattle.book_text.specs.Grammar.{IsWritable, IsWrittenText}
 use Rattle.book_text.specs.BookRules.{IsBookText}
 use Rattle.sketch.specs.declared.event.Event.{Event}
 use Rattle.book_writer.specs.Sketches.{sketch_lines, AreEventsOf}
-
--- Bytes are read as a book, line by line, exactly where they are what is written of it.
-abbrev pub BookTextsAreWrittenOut : Type 0
-BookTextsAreWrittenOut = (version : Version) (bytes : List ℕ) (kind : Kind) (book : List Page) → IsBookText version bytes kind book ↔ IsWrittenText version bytes kind book
 
 -- Two books of which the same is written are one, and so are their kinds.
 abbrev pub WrittenBooksAreOne : Type 0

@@ -1,20 +1,18 @@
 //! The text of a book.
 
-ghost use Rattle.std.specs.Prelude.{◌≡◌, ℕ, ◌<◌, ◌^◌, [], ◌∷◌, ◌++◌, List, length, map, Some, IfOk, OnOk};
-ghost use Rattle.book_base.specs.declared.call.Call.{Call};
+ghost use Rattle.std.specs.Prelude.{◌≡◌, ℕ, ◌<◌, ◌^◌, ◌++◌, length, Some, IfOk, OnOk};
 ghost use Rattle.book_base.specs.declared.call.Record.{Record};
-ghost use Rattle.book_base.specs.Book.{Page, announced, calls_of, record_of, IsCall, IsValid, IsSmall};
+ghost use Rattle.book_base.specs.Book.{calls_of, record_of, IsCall};
 ghost use Rattle.text_fields.specs.declared.version.Version.TheVariants.{Second};
-ghost use Rattle.text_fields.specs.Lines.{line_text, text_of};
-ghost use Rattle.text_fields.specs.Operations.{kind_operations};
-ghost use Rattle.book_text.specs.CallLines.{answer_words, calls_from};
-ghost use Rattle.book_text.specs.Grammar.{line_of, IsWrittenText};
+ghost use Rattle.book_text.specs.CallLines.{answer_words};
+ghost use Rattle.book_text.specs.Grammar.{IsWrittenText};
 ghost use Rattle.book_text.specs.BookRules.{IsBookText};
-ghost use Rattle.book_writer.specs.Fields.{spaced, HasWords};
+ghost use Rattle.book_writer.specs.Fields.{spaced, call_text, caller_text, HasWords};
 
 use crate::fields::{put_head, put_operation, put_pairs, put_spaced};
-use book_base::{Book, Call, Cut, NoMemory};
+use book_base::{Book, Call, NoMemory};
 use seq_objects::{Kind, put_number, put_reply};
+use sketch::announced;
 use std::alloc::Global;
 
 /// The one text of a book, in version 2, for an object of this kind.
@@ -33,22 +31,12 @@ pub fn write_book(alloc: Global, kind: Kind, book: &Book) -> Result<Vec<u8>, NoM
     Ok(out)
 }
 
-/// How many calls each caller made.
-fn announced(book: &Book) -> Cut
-    ensures { result ≡ announced book.now }
-{
-    let mut counts = Cut::zero(book.callers());
-    for caller in 0..book.callers() {
-        counts.set(caller, book.calls(caller));
-    }
-    counts
-}
-
 /// Appends the lines of a caller's calls.
 fn put_calls(out: &mut Vec<u8>, kind: Kind, book: &Book, caller: u32) -> Result<(), NoMemory>
     requires { caller < length book.now }
-    ensures ok { OnOk result (out.new.items ≡ out.old.items ++ text_of (map (line_of Second (kind_operations Second kind) book.now) (calls_from caller 0 (calls_of book.now caller)))) }
-    ensures words { OnOk result ((number : ℕ) → number < calls_of book.now caller → HasWords book.now (record { caller = caller; number = number })) }
+    ensures ok { OnOk result (out.new.items ≡ out.old.items ++ caller_text kind book.now caller) }
+    ensures words { OnOk result ((number : ℕ) → number < calls_of book.now caller
+        → HasWords book.now (record { caller = caller; number = number })) }
 {
     for number in 0..book.calls(caller) {
         put_call(out, kind, book, Call { caller, number })?;
@@ -59,7 +47,7 @@ fn put_calls(out: &mut Vec<u8>, kind: Kind, book: &Book, caller: u32) -> Result<
 /// Appends the line of a call.
 fn put_call(out: &mut Vec<u8>, kind: Kind, book: &Book, call: Call) -> Result<(), NoMemory>
     requires { IsCall book.now call }
-    ensures ok { OnOk result (out.new.items ≡ out.old.items ++ line_text (line_of Second (kind_operations Second kind) book.now call)) }
+    ensures ok { OnOk result (out.new.items ≡ out.old.items ++ call_text kind book.now call) }
     ensures words { OnOk result (HasWords book.now call) }
 {
     put_number(out, u64::from(call.caller))?;
@@ -73,8 +61,10 @@ fn put_call(out: &mut Vec<u8>, kind: Kind, book: &Book, call: Call) -> Result<()
 /// Appends the reply and the view of a call, where it is answered.
 fn put_answer(out: &mut Vec<u8>, book: &Book, call: Call) -> Result<(), NoMemory>
     requires { IsCall book.now call }
-    ensures ok { OnOk result (out.new.items ≡ out.old.items ++ spaced (answer_words Second (record_of book.now call))) }
-    ensures small { OnOk result ((answer : Record) → record_of book.now call ≡ Some answer → answer.reply < 2 ^ 64) }
+    ensures ok { OnOk result (out.new.items ≡ out.old.items
+        ++ spaced (answer_words Second (record_of book.now call))) }
+    ensures small { OnOk result ((answer : Record)
+        → record_of book.now call ≡ Some answer → answer.reply < 2 ^ 64) }
 {
     if call.number >= book.answers(call.caller) {
         return Ok(());

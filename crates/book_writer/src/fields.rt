@@ -1,4 +1,5 @@
-//! The fields of texts, each appended to the text so far. After want of memory the text is given up.
+//! The fields of texts, each appended to the text so far. After want of memory the text is given
+//! up.
 
 ghost use Rattle.std.specs.Prelude.{◌≡◌, ℕ, ◌<◌, ◌^◌, [], ◌∷◌, ◌++◌, List, length, map, decimal, OnOk};
 ghost use Rattle.seq_objects.specs.Words.{operation_words};
@@ -22,7 +23,8 @@ pub(crate) fn put_spaced(out: &mut Vec<u8>, n: u64) -> Result<(), NoMemory>
 
 /// Appends the line of the title.
 pub(crate) fn put_title(out: &mut Vec<u8>, title: &[u8]) -> Result<(), NoMemory>
-    ensures { OnOk result (out.new.items ≡ out.old.items ++ line_text (title_words Second title.now)) }
+    ensures { OnOk result (out.new.items ≡ out.old.items
+        ++ line_text (title_words Second title.now)) }
 {
     out.extend_from_slice(title)?;
     out.extend_from_slice(b" 2\n")?;
@@ -77,7 +79,8 @@ pub(crate) fn put_head(
     kind: Kind,
     calls: &Cut,
 ) -> Result<(), NoMemory>
-    ensures { OnOk result (out.new.items ≡ out.old.items ++ text_of (head_lines Second title.now kind calls.now)) }
+    ensures { OnOk result (out.new.items ≡ out.old.items
+        ++ text_of (head_lines Second title.now kind calls.now)) }
 {
     put_title(out, title)?;
     put_object(out, kind)?;

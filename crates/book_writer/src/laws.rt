@@ -1,11 +1,8 @@
-//! Laws of the texts of books and of sketches. Each is the contract of a function with nothing in it.
+//! Laws of what is written of books and sketches. Each is the contract of a function with nothing
+//! in it. That a book's text is read exactly where it is what is written of it is
+//! `book_text::a_text_is_its_books_lines`.
 
-ghost use Rattle.book_writer.specs.Laws.{BookTextsAreWrittenOut, WrittenBooksAreOne, NoBookTextBeginsAnother, NoSketchTextBeginsAnother};
-
-/// Bytes are read as a book, line by line, exactly where they are what is written of it, in both versions.
-pub fn book_texts_are_written_out()
-    ensures { BookTextsAreWrittenOut }
-{}
+ghost use Rattle.book_writer.specs.Laws.{WrittenBooksAreOne, NoBookTextBeginsAnother, NoSketchTextBeginsAnother};
 
 /// Two books of which the same is written are one, and so are their kinds, in both versions.
 pub fn written_books_are_one()

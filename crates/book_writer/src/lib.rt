@@ -7,10 +7,7 @@ mod laws;
 mod sketch_text;
 
 pub use book::write_book;
-pub use laws::{
-    book_texts_are_written_out, no_book_text_begins_another, no_sketch_text_begins_another,
-    written_books_are_one,
-};
+pub use laws::{no_book_text_begins_another, no_sketch_text_begins_another, written_books_are_one};
 pub use sketch_text::events_text;
 
 #[cfg(test)]

@@ -36,7 +36,8 @@ pub fn events_text(
 /// Appends the line of an event.
 fn put_event(out: &mut Vec<u8>, kind: Kind, book: &Book, event: Event) -> Result<(), NoMemory>
     requires { IsEventOf book.now event }
-    ensures { OnOk result (out.new.items ≡ out.old.items ++ line_text (event_words kind book.now event)) }
+    ensures { OnOk result (out.new.items ≡ out.old.items
+        ++ line_text (event_words kind book.now event)) }
 {
     match event {
         Event::Invoke(call) => put_invocation(out, kind, book, call)?,
@@ -48,7 +49,8 @@ fn put_event(out: &mut Vec<u8>, kind: Kind, book: &Book, event: Event) -> Result
 /// Appends the line of an invocation.
 fn put_invocation(out: &mut Vec<u8>, kind: Kind, book: &Book, call: Call) -> Result<(), NoMemory>
     requires { IsCall book.now call }
-    ensures { OnOk result (out.new.items ≡ out.old.items ++ line_text (event_words kind book.now (Invoke call))) }
+    ensures { OnOk result (out.new.items ≡ out.old.items
+        ++ line_text (event_words kind book.now (Invoke call))) }
 {
     out.extend_from_slice(b"call")?;
     put_place(out, call)?;
@@ -60,7 +62,8 @@ fn put_invocation(out: &mut Vec<u8>, kind: Kind, book: &Book, call: Call) -> Res
 /// Appends the line of a return.
 fn put_return(out: &mut Vec<u8>, book: &Book, call: Call) -> Result<(), NoMemory>
     requires { IsAnswered book.now call }
-    ensures { OnOk result ((kind : Kind) → out.new.items ≡ out.old.items ++ line_text (event_words kind book.now (Return call))) }
+    ensures { OnOk result ((kind : Kind) → out.new.items ≡ out.old.items
+        ++ line_text (event_words kind book.now (Return call))) }
 {
     out.extend_from_slice(b"return")?;
     put_place(out, call)?;

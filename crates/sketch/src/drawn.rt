@@ -1,7 +1,7 @@
 ghost use Rattle.std.specs.Prelude.{◌≡◌, ℕ, ◌<◌, ◌≤◌, ◌⊎◌, length, replicate, slice_index, IfSome, IfNone};
 ghost use Rattle.book_base.specs.declared.call.Call.{Call};
 ghost use Rattle.book_base.specs.Cut.{Holds, IsWithin};
-ghost use Rattle.book_base.specs.Book.{calls_of, IsAnswered, IsValid, IsSmall};
+ghost use Rattle.book_base.specs.Book.{announced, IsAnswered, IsValid, IsSmall};
 ghost use Rattle.sketch.specs.declared.event.Event.{Event};
 ghost use Rattle.sketch.specs.declared.event.Event.TheVariants.{Return};
 ghost use Rattle.sketch.specs.Sketch.{IsEventOf, ComesBefore};
@@ -130,10 +130,9 @@ fn earlier(book: &Book, a: Call, b: Call) -> Call
     }
 }
 
-// The numbers of all callers' calls.
-fn announced(book: &Book) -> Cut
-    ensures wide { length result ≡ length book.now }
-    ensures counts { (i : ℕ) → slice_index result i ≡ calls_of book.now i }
+/// The numbers of all callers' calls.
+pub fn announced(book: &Book) -> Cut
+    ensures { result ≡ announced book.now }
 {
     let mut counts = Cut::zero(book.callers());
     for caller in 0..book.callers() {

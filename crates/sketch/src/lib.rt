@@ -6,6 +6,7 @@ mod event;
 mod history;
 pub mod laws;
 
+pub use drawn::announced;
 pub use event::Event;
 pub use history::sketch;
 

@@ -2,7 +2,7 @@ use Rattle.std.proofs.Common.{arith}
 use Rattle.book_base.specs.declared.call.Call.{Call}
 use Rattle.book_writer.proofs.Texts.{words_more, caller_written, end_written, book_written}
 use Rattle.text_fields.specs.declared.version.Version.TheVariants.{Second}
-use Rattle.book_writer.proofs.Readings.{written_is_read}
+use Rattle.book_text.proofs.WrittenTexts.{written_is_read}
 use Rattle.book_writer.proofs.book.write_book.Goals as goal
 
 pub loop-caller-preserved : goal.loop-caller-preserved
