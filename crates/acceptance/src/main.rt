@@ -10,6 +10,7 @@
 //! | `in-byte N` | one byte of the input, as a number |
 //! | `in-fill COUNT` | so many bytes `x` of the input |
 //! | `in-calls CALLER COUNT OP` | so many lines of the input: the caller, a number that counts from 0, and the operation |
+//! | `in-answered CALLER COUNT OP REPLY` | so many such lines, each with the reply, and a view of the caller's calls up to this one |
 //! | `fronts` | each front of the input that isn't whole is tried in its place: it is refused as a text that is cut |
 //! | `source-fails K ..` | the reads that fail, counted from 1 |
 //! | `source-most N` | the most bytes that a read gives |

@@ -19,6 +19,7 @@ pub fn take_line(alloc: Global, case: &mut Case, line: &str) -> Result<()> {
         }
         "in-fill" => take_fill(&mut case.input, value),
         "in-calls" => take_calls(&mut case.input, value),
+        "in-answered" => take_answered(&mut case.input, value),
         "fronts" => {
             case.fronts = true;
             Ok(())
@@ -71,6 +72,16 @@ fn take_calls(bytes: &mut Vec<u8>, value: &str) -> Result<()> {
     let (count, operation) = rest.split_once(' ').context("a count")?;
     for number in 0..count.parse::<u64>().context("a count")? {
         writeln!(bytes, "{caller} {number} {operation}")?;
+    }
+    Ok(())
+}
+
+fn take_answered(bytes: &mut Vec<u8>, value: &str) -> Result<()> {
+    let (caller, rest) = value.split_once(' ').context("a caller")?;
+    let (count, answer) = rest.split_once(' ').context("a count")?;
+    for number in 0..count.parse::<u64>().context("a count")? {
+        let own = number.saturating_add(1);
+        writeln!(bytes, "{caller} {number} {answer} view {caller}:{own}")?;
     }
     Ok(())
 }
