@@ -1,7 +1,8 @@
 //! Puts records into a book that has their calls.
-ghost use Rattle.std.specs.Prelude.{ℕ, ◌≡◌, ◌<◌, OnOk, length, map};
+ghost use Rattle.std.specs.Prelude.{ℕ, ◌≡◌, ◌<◌, OnOk, length};
 ghost use Rattle.book_base.specs.Book.{answers_of, IsValid, with_answer};
 ghost use Rattle.book_base.specs.Refusal.{MayAnswer};
+ghost use Rattle.row_gather.specs.Known.{lists_in};
 ghost use Rattle.row_gather.specs.Filling.{with_records, filled, IsFilled};
 
 use book_base::{Book, BookFault, NoMemory, Record};
@@ -37,8 +38,8 @@ fn add_answers_of(book: &mut Book, j: u32, records: &[Record]) -> Result<(), NoM
 pub fn add_answers(book: &mut Book, lists: &[Vec<Record>]) -> Result<(), NoMemory>
     requires callers { length lists.now ≡ length book.old }
     requires unanswered { (i : ℕ) → answers_of book.old i ≡ 0 }
-    requires valid { IsValid (filled book.old (map (λ records. records.items) lists.now)) }
-    ensures { OnOk result (IsFilled book.old (map (λ records. records.items) lists.now) book.new) }
+    requires valid { IsValid (filled book.old (lists_in lists.now)) }
+    ensures { OnOk result (IsFilled book.old (lists_in lists.now) book.new) }
 {
     for j in 0..book.callers() {
         add_answers_of(book, j, &lists[j as usize])?;

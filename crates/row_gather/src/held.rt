@@ -1,7 +1,8 @@
 //! How many calls of each caller the views of some records hold.
-ghost use Rattle.std.specs.Prelude.{ℕ, ◌≡◌, ◌<◌, ◌≤◌, length, map, slice_index};
+ghost use Rattle.std.specs.Prelude.{ℕ, ◌≡◌, ◌<◌, ◌≤◌, length};
 ghost use Rattle.book_base.specs.declared.TheConstants.{MAX_CALLERS};
 ghost use Rattle.row_gather.specs.Words.{AreWide, records_at, greatest_of, greatest_in};
+ghost use Rattle.row_gather.specs.Known.{AreGreatest, lists_in};
 
 use book_base::{Cut, Record};
 
@@ -21,8 +22,8 @@ fn greatest_of(n: u32, records: &[Record], i: u32) -> u64
 // The greatest count for caller i of n in the views of all callers' records.
 fn greatest_in(n: u32, lists: &[Vec<Record>], i: u32) -> u64
     requires caller { i < n }
-    requires wide { (j : ℕ) → AreWide n (records_at (map (λ records. records.items) lists.now) j) }
-    ensures { result ≡ greatest_in (map (λ records. records.items) lists.now) i }
+    requires wide { (j : ℕ) → AreWide n (records_at (lists_in lists.now) j) }
+    ensures { result ≡ greatest_in (lists_in lists.now) i }
 {
     let mut most: u64 = 0;
     for records in lists {
@@ -35,9 +36,9 @@ fn greatest_in(n: u32, lists: &[Vec<Record>], i: u32) -> u64
 pub fn held_calls(n: u32, lists: &[Vec<Record>]) -> Cut
     requires some { 1 ≤ n }
     requires few { n ≤ MAX_CALLERS }
-    requires wide { (j : ℕ) → AreWide n (records_at (map (λ records. records.items) lists.now) j) }
+    requires wide { (j : ℕ) → AreWide n (records_at (lists_in lists.now) j) }
     ensures wide { length result ≡ n }
-    ensures held { (i : ℕ) → i < n → slice_index result i ≡ greatest_in (map (λ records. records.items) lists.now) i }
+    ensures held { AreGreatest n (lists_in lists.now) result }
 {
     let mut held = Cut::zero(n);
     for i in 0..n {

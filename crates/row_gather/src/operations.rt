@@ -1,11 +1,11 @@
 //! The operations of a book's calls, word by word.
-ghost use Rattle.std.specs.Prelude.{ℕ, ◌≡◌, ◌+◌, ◌*◌, ◌<◌, IsTrue, length, sum};
+ghost use Rattle.std.specs.Prelude.{ℕ, ◌≡◌, ◌+◌, ◌*◌, ◌<◌, length, sum};
 ghost use Rattle.book_base.specs.Book.{calls_of, answers_of, announced};
 ghost use Rattle.world_core.specs.declared.region.Region.{Region};
-ghost use Rattle.world_core.specs.Event.{knows_row};
 ghost use Rattle.row_table.specs.Callers.{local_with};
 ghost use Rattle.row_gather.specs.Peeks.{IsReady, PeeksAlone};
-ghost use Rattle.row_gather.specs.Words.{KnowsRows, IsPeekedOperation, HasCallsOf, ArePeekedCallsOf, ArePeekedCalls};
+ghost use Rattle.row_gather.specs.Words.{IsPeekedOperation, HasCallsOf, ArePeekedCallsOf, ArePeekedCalls};
+ghost use Rattle.row_gather.specs.Known.{KnowsCall, KnowsFirst, KnowsCalls};
 
 use book_base::{Book, Call, OpWord, join};
 use row_table::{Caller, Rows, Steps};
@@ -21,7 +21,7 @@ fn peek_operation<P: Program, L: Ledger>(
 ) -> OpWord
     requires ready { IsReady P.meaning rows.now caller.old }
     requires caller_fits { call.caller < rows.now.callers }
-    requires known { IsTrue (knows_row rows.now.callers (local_with caller.old) Region.N call.caller call.number) }
+    requires known { KnowsCall rows.now caller.old Region.N call }
     ensures peeks { PeeksAlone P.meaning rows.now caller.old caller.new steps.old steps.new }
     ensures ticks { steps.new ≡ steps.old + 2 }
     ensures operation { IsPeekedOperation (local_with caller.new) call result }
@@ -43,7 +43,7 @@ fn peek_operations_of<P: Program, L: Ledger>(
     requires caller_fits { j < rows.now.callers }
     requires callers { length book.old ≡ rows.now.callers }
     requires unanswered { (i : ℕ) → answers_of book.old i ≡ 0 }
-    requires known { KnowsRows rows.now.callers (local_with caller.old) Region.N j (calls_of book.old j) }
+    requires known { KnowsFirst rows.now caller.old Region.N j (calls_of book.old j) }
     ensures peeks { PeeksAlone P.meaning rows.now caller.old caller.new steps.old steps.new }
     ensures ticks { steps.new ≡ steps.old + 2 * calls_of book.old j }
     ensures same { HasCallsOf book.old book.new }
@@ -66,7 +66,7 @@ pub fn peek_operations<P: Program, L: Ledger>(
     requires ready { IsReady P.meaning rows.now caller.old }
     requires callers { length book.old ≡ rows.now.callers }
     requires unanswered { (i : ℕ) → answers_of book.old i ≡ 0 }
-    requires known { (j : ℕ) → j < rows.now.callers → KnowsRows rows.now.callers (local_with caller.old) Region.N j (calls_of book.old j) }
+    requires known { KnowsCalls rows.now caller.old book.old }
     ensures peeks { PeeksAlone P.meaning rows.now caller.old caller.new steps.old steps.new }
     ensures ticks { steps.new ≡ steps.old + 2 * sum (announced book.old) }
     ensures same { HasCallsOf book.old book.new }

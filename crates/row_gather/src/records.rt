@@ -1,11 +1,10 @@
 //! The records that a cut holds, word by word.
-ghost use Rattle.std.specs.Prelude.{ℕ, ◌≡◌, ◌+◌, ◌*◌, sum, ◌<◌, ◌≤◌, IfOk, IsTrue, length, map, slice_index};
-ghost use Rattle.book_base.specs.declared.TheConstants.{MAX_CALLERS};
+ghost use Rattle.std.specs.Prelude.{◌≡◌, ◌+◌, ◌*◌, sum, ◌<◌, IfOk, length};
 ghost use Rattle.world_core.specs.declared.region.Region.{Region};
-ghost use Rattle.world_core.specs.Event.{knows_row};
 ghost use Rattle.row_table.specs.Callers.{local_with};
 ghost use Rattle.row_gather.specs.Peeks.{IsReady, PeeksAlone};
-ghost use Rattle.row_gather.specs.Words.{KnowsRows, IsPeekedView, IsPeekedRecord, ArePeekedRecords, ArePeekedTo};
+ghost use Rattle.row_gather.specs.Words.{IsPeekedView, IsPeekedRecord};
+ghost use Rattle.row_gather.specs.Known.{KnowsCall, KnowsFirst, KnowsRecords, HasRecords, HasAllRecords, lists_in};
 
 use book_base::{Call, Cut, NoMemory, Record};
 use row_table::{Caller, Rows, Steps};
@@ -22,7 +21,7 @@ fn peek_view<P: Program, L: Ledger>(
 ) -> Cut
     requires ready { IsReady P.meaning rows.now caller.old }
     requires caller_fits { call.caller < rows.now.callers }
-    requires known { IsTrue (knows_row rows.now.callers (local_with caller.old) Region.M call.caller call.number) }
+    requires known { KnowsCall rows.now caller.old Region.M call }
     ensures peeks { PeeksAlone P.meaning rows.now caller.old caller.new steps.old steps.new }
     ensures ticks { steps.new ≡ steps.old + rows.now.callers }
     ensures view { IsPeekedView rows.now.callers (local_with caller.new) call result }
@@ -44,7 +43,7 @@ fn peek_record<P: Program, L: Ledger>(
 ) -> Record
     requires ready { IsReady P.meaning rows.now caller.old }
     requires caller_fits { call.caller < rows.now.callers }
-    requires known { IsTrue (knows_row rows.now.callers (local_with caller.old) Region.M call.caller call.number) }
+    requires known { KnowsCall rows.now caller.old Region.M call }
     ensures peeks { PeeksAlone P.meaning rows.now caller.old caller.new steps.old steps.new }
     ensures ticks { steps.new ≡ steps.old + (1 + rows.now.callers) }
     ensures record { IsPeekedRecord rows.now.callers (local_with caller.new) call result }
@@ -65,10 +64,10 @@ fn peek_records_of<P: Program, L: Ledger>(
 ) -> Result<Vec<Record>, NoMemory>
     requires ready { IsReady P.meaning rows.now caller.old }
     requires caller_fits { j < rows.now.callers }
-    requires known { KnowsRows rows.now.callers (local_with caller.old) Region.M j count }
+    requires known { KnowsFirst rows.now caller.old Region.M j count }
     ensures peeks { PeeksAlone P.meaning rows.now caller.old caller.new steps.old steps.new }
     ensures ticks { IfOk result (λ _. steps.new ≡ steps.old + (1 + rows.now.callers) * count) }
-    ensures records { IfOk result (λ records. ArePeekedRecords rows.now.callers (local_with caller.new) j count records.items) }
+    ensures records { IfOk result (λ records. HasRecords rows.now caller.new j count records.items) }
 {
     let mut records = Vec::with_capacity(alloc, count as usize)?;
     for number in 0..count {
@@ -88,10 +87,10 @@ pub fn peek_records<P: Program, L: Ledger>(
 ) -> Result<Vec<Vec<Record>>, NoMemory>
     requires ready { IsReady P.meaning rows.now caller.old }
     requires wide { length cut.now ≡ rows.now.callers }
-    requires known { (j : ℕ) → j < rows.now.callers → KnowsRows rows.now.callers (local_with caller.old) Region.M j (slice_index cut.now j) }
+    requires known { KnowsRecords rows.now caller.old cut.now }
     ensures peeks { PeeksAlone P.meaning rows.now caller.old caller.new steps.old steps.new }
     ensures ticks { IfOk result (λ _. steps.new ≡ steps.old + (1 + rows.now.callers) * sum cut.now) }
-    ensures records { IfOk result (λ lists. ArePeekedTo rows.now.callers (local_with caller.new) cut.now rows.now.callers (map (λ records. records.items) lists.items)) }
+    ensures records { IfOk result (λ lists. HasAllRecords rows.now caller.new cut.now (lists_in lists.items)) }
 {
     let mut lists = Vec::with_capacity(alloc, cut.n() as usize)?;
     for j in 0..cut.n() {

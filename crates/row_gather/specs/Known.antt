@@ -1,0 +1,43 @@
+-- What a caller of some rows knows and has read of them.
+use Rattle.std.specs.Prelude.{◌≡◌, ℕ, ◌<◌, IsTrue, Vec, List, map, slice_index}
+use Rattle.book_base.specs.declared.call.Call.{Call}
+use Rattle.book_base.specs.declared.call.Record.{Record}
+use Rattle.book_base.specs.Book.{Page, calls_of}
+use Rattle.world_core.specs.declared.region.Region.{Region}
+use Rattle.world_core.specs.declared.region.Region.TheVariants.{N, M}
+use Rattle.world_core.specs.Event.{knows_row}
+use Rattle.row_table.specs.declared.caller.Caller.{Caller}
+use Rattle.row_table.specs.declared.rows.Rows.{Rows}
+use Rattle.row_table.specs.Callers.{local_with}
+use Rattle.row_gather.specs.Words.{KnowsRows, ArePeekedRecords, ArePeekedTo, greatest_in}
+
+-- The lists of records, by caller.
+abbrev pub lists_in : {A : Type 0} → List (Vec Record A) → List (List Record)
+lists_in lists = map (λ records. records.items) lists
+
+-- Each of these counts is the greatest one in the views of the records.
+abbrev pub AreGreatest : ℕ → List (List Record) → List ℕ → Type 0
+AreGreatest n lists counts = (i : ℕ) → i < n → slice_index counts i ≡ greatest_in lists i
+
+module _ {P : Type 0} where
+  -- The caller knows the row of a call in a region.
+  abbrev pub KnowsCall : Rows P → Caller P → Region → Call → Type 0
+  KnowsCall r c region call = IsTrue (knows_row r.callers (local_with c) region call.caller call.number)
+
+  -- It knows the first rows of caller j.
+  abbrev pub KnowsFirst : Rows P → Caller P → Region → ℕ → ℕ → Type 0
+  KnowsFirst r c region j count = KnowsRows r.callers (local_with c) region j count
+
+  -- It knows the rows of all records that a cut holds; and those of all calls of a book.
+  abbrev pub KnowsRecords : Rows P → Caller P → List ℕ → Type 0
+  KnowsRecords r c cut = (j : ℕ) → j < r.callers → KnowsFirst r c M j (slice_index cut j)
+
+  abbrev pub KnowsCalls : Rows P → Caller P → List Page → Type 0
+  KnowsCalls r c book = (j : ℕ) → j < r.callers → KnowsFirst r c N j (calls_of book j)
+
+  -- It has peeked the first records of caller j; and all records that a cut holds.
+  abbrev pub HasRecords : Rows P → Caller P → ℕ → ℕ → List Record → Type 0
+  HasRecords r c j count records = ArePeekedRecords r.callers (local_with c) j count records
+
+  abbrev pub HasAllRecords : Rows P → Caller P → List ℕ → List (List Record) → Type 0
+  HasAllRecords r c cut lists = ArePeekedTo r.callers (local_with c) cut r.callers lists
