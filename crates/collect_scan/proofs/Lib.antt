@@ -4,3 +4,4 @@ pub mod Ending
 pub mod Turning
 pub mod Leaving
 pub mod Owning
+pub mod Finding

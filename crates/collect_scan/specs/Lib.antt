@@ -1,3 +1,4 @@
 pub mod Scanned
 pub mod Turns
 pub mod Given
+pub mod Worked

@@ -3,6 +3,8 @@
 
 pub mod laws;
 mod steps;
+#[cfg(test)]
+mod tests;
 mod turns;
 mod whole;
 
