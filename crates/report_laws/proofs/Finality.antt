@@ -2,19 +2,22 @@
 use Rattle.std.proofs.Common.{◌≡◌, ℕ, List, Some, inl, inr}
 use Rattle.book_base.specs.declared.call.Call.{Call}
 use Rattle.book_base.specs.Cut.{IsWithin}
+use Rattle.book_base.specs.Book.{Page}
 use Rattle.book_laws.proofs.BookAtLaws.{smaller_has_one}
 use Rattle.world_core.specs.Shape.{Shape}
 use Rattle.call_lines.specs.declared.line.Line.{Line}
 use Rattle.call_lines.specs.Lines.{book_of_lines, delivered_at, error_at}
-use Rattle.call_lines.specs.Lawful.{IsLawful}
+use Rattle.call_lines.specs.Lawful.{delivered_cut, IsLawful}
 use Rattle.report_laws.specs.Reporting.{ErrorsAreFinal}
 use Rattle.report_laws.proofs.Lines.{seen_from_delivered, seen_from_error}
-use Rattle.report_laws.proofs.Worlds.{legal_at}
 
 module _ (init : List ℕ) (next : List ℕ → ℕ → List ℕ × ℕ) (s : Shape) (operations : List (List ℕ)) (allotments : List ℕ) (lines : List (List Line)) (h : IsLawful init next s operations allotments lines) where
   never : (a b : Call) (x y : List ℕ) → delivered_at lines a ≡ Some x → error_at lines b ≡ Some y → IsWithin y x → ⊥
   never a b x y d e within =
-      h.no_order b y e (smaller_has_one init next (book_of_lines lines) y x h.valid within (legal_at init next h.reached.0.locals lines h.reached.2 a x d))
+      let top : List ℕ = delivered_cut s.callers lines in
+      let book : List Page = book_of_lines lines in
+      h.no_order b y e
+      (smaller_has_one init next book y x h.valid within (smaller_has_one init next book x top h.valid (h.contains a x d) h.one_order))
 
   apart : (a b : Call) (x y : List ℕ) → delivered_at lines a ≡ Some x → error_at lines b ≡ Some y → IsWithin x y
   apart a b x y d e = elim (h.seen.comparable a b x y (seen_from_delivered lines a x d) (seen_from_error lines b y e)) [
