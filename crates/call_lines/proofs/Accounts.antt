@@ -10,7 +10,7 @@ use Rattle.world_core.specs.Event.{Announce, Publish, staged_operation, local_af
 use Rattle.world_core.specs.Agreement.{unpublished_calls, unpublished_replies, unpublished_views, unseen_records}
 use Rattle.world_core.specs.Calls.{Reached, Is_announced, Has_record, Has_seen, Made}
 use Rattle.call_lines.specs.Phases.{Progress, progress_of}
-use Rattle.call_lines.specs.Progress.{with_last, with_seen, after_viewing}
+use Rattle.call_lines.specs.Progress.{with_last, TheLastCallGoesOn, with_seen, after_viewing}
 use Rattle.call_lines.specs.Account.{Account, account_of, NothingGrows, OperationsAreCalls, RepliesAreNoRecords, ViewsMakeRecords, PublicationsCount, SeenCutsAreOfTheLastCall, AnnouncementsAreCalls, PublishesCount}
 
 -- How far call k has come, and the calls, by an account.
@@ -43,12 +43,10 @@ same_range f g a (suc n) each =
     let others = same_range f g (a + 1) n (λ k low. each k (omega (arith, low))) in
     cc
 
--- the last of some calls goes on
-with_last-push : (further : Reached → Reached) (calls : List Made) (c : Made)
-    → with_last further (calls ++ c ∷ []) ≡ calls ++ record { operation = c.operation; reached = further c.reached } ∷ []
-with_last-push further [] c = refl
-with_last-push further (d ∷ []) c = refl
-with_last-push further (d ∷ e ∷ calls) c = ap (λ (cs : List Made). d ∷ cs) (with_last-push further (e ∷ calls) c)
+pub the_last_call_goes_on : TheLastCallGoesOn
+the_last_call_goes_on further [] c = refl
+the_last_call_goes_on further (d ∷ []) c = refl
+the_last_call_goes_on further (d ∷ e ∷ calls) c = ap (λ (cs : List Made). d ∷ cs) (the_last_call_goes_on further (e ∷ calls) c)
 
 -- calls of which the last one has gone on
 grown : (f g : ℕ → Made) (further : Reached → Reached) (n p : ℕ) → n ≡ p + 1 → ((k : ℕ) → k < p → g k ≡ f k)
@@ -60,7 +58,7 @@ grown f g further n p long each last =
     ∙ map-range_with_len_more g 0 p p (omega arith)
     ∙ ap (λ (cs : List Made). cs ++ g p ∷ []) (same_range f g 0 p (λ k low. each k (omega (arith, low))))
     ∙ ap (λ (c : Made). map f (range_with_len 0 p) ++ c ∷ []) last
-    ∙ sym (with_last-push further (map f (range_with_len 0 p)) (f p))
+    ∙ sym (the_last_call_goes_on further (map f (range_with_len 0 p)) (f p))
     ∙ ap (with_last further) (sym (map-range_with_len_more f 0 p p (omega arith)))
     ∙ ap (λ (m : ℕ). with_last further (map f (range_with_len 0 m))) (sym long)
 

@@ -1,5 +1,5 @@
 -- What each of the five phases does to how far a caller has come.
-use Rattle.std.specs.Prelude.{ℕ, ◌+◌, List, [], ◌∷◌, ◌++◌}
+use Rattle.std.specs.Prelude.{◌≡◌, ℕ, ◌+◌, List, [], ◌∷◌, ◌++◌}
 use Rattle.book_base.specs.declared.call.Record.{Record}
 use Rattle.world_core.specs.Calls.{Reached, Is_announced, Has_record, Has_seen, Made}
 use Rattle.call_lines.specs.Phases.{Progress}
@@ -13,6 +13,12 @@ abbrev pub with_last : (Reached → Reached) → List Made → List Made
 with_last further [] = []
 with_last further (c ∷ []) = record { operation = c.operation; reached = further c.reached } ∷ []
 with_last further (c ∷ d ∷ calls) = c ∷ with_last further (d ∷ calls)
+
+-- The last call goes on, and those before it stay.
+abbrev pub TheLastCallGoesOn : Type 0
+TheLastCallGoesOn =
+    (further : Reached → Reached) (calls : List Made) (last : Made)
+    → with_last further (calls ++ last ∷ []) ≡ calls ++ record { operation = last.operation; reached = further last.reached } ∷ []
 
 -- Taking the view gives the last call its record.
 abbrev pub after_viewing : Record → Progress → Progress

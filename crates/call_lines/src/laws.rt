@@ -1,6 +1,7 @@
 //! How far a caller has come, by the parts of its local that tell of its calls. Each law is the contract of a
 //! function with nothing in it.
 
+ghost use Rattle.call_lines.specs.Progress.{TheLastCallGoesOn};
 ghost use Rattle.call_lines.specs.Account.{NothingGrows, OperationsAreCalls, RepliesAreNoRecords, ViewsMakeRecords, PublicationsCount, SeenCutsAreOfTheLastCall, AnnouncementsAreCalls, PublishesCount};
 
 /// As an operation, a view, a seen cut or the count of published records is one more, the caller has come one
@@ -18,4 +19,9 @@ pub fn locals_tell_how_far_callers_are()
 pub fn events_take_callers_on()
     ensures announcements { AnnouncementsAreCalls }
     ensures publications { PublishesCount }
+{}
+
+/// Where the last of some calls goes on, those before it stay.
+pub fn the_last_call_goes_on()
+    ensures { TheLastCallGoesOn }
 {}

@@ -6,6 +6,7 @@ use Rattle.book_base.specs.declared.call.Record.{Record}
 use Rattle.world_core.specs.Calls.{Reached, Is_announced, Has_record, Has_seen, Made, records_of}
 use Rattle.call_lines.specs.Phases.{Mark, Announced, Seen, begun, asked, answered, mark_of, operations_of, marks_of, Progress, IsProgressAfter, answers_in, IsTold}
 use Rattle.call_lines.specs.Progress.{with_last, with_seen}
+use Rattle.call_lines.proofs.Accounts.{the_last_call_goes_on}
 use Rattle.report_laws.specs.Telling.{ToldAsAnnounced, ToldAsAsked, ToldAsViewed, ToldAsPublished, ToldAsSeen}
 use Rattle.report_laws.proofs.Stepping.{operations_of-with_last, marks_with, length-marks_after}
 
@@ -101,13 +102,6 @@ ends_with (c ∷ d ∷ calls) (x ∷ front) m e =
     let found = ends_with (d ∷ calls) front m rest in
     record { before = c ∷ found.before; last = found.last; are = ap (λ (cs : List Made). c ∷ cs) found.are; mark = found.mark }
 
--- it goes on
-with_last-push : (further : Reached → Reached) (calls : List Made) (c : Made)
-    → with_last further (calls ++ c ∷ []) ≡ calls ++ record { operation = c.operation; reached = further c.reached } ∷ []
-with_last-push further [] c = refl
-with_last-push further (d ∷ []) c = refl
-with_last-push further (d ∷ e ∷ calls) c = ap (λ (cs : List Made). d ∷ cs) (with_last-push further (e ∷ calls) c)
-
 -- a call that is only announced has no answer
 no_answer : (c : Made) → mark_of c.reached ≡ Announced → answers_with c ≡ []
 no_answer c e = by_reached c.reached e
@@ -152,7 +146,7 @@ told_as_viewed operations k progress operation r pairs h told =
     let viewed : Made = record { operation = end.last.operation; reached = Has_record r } in
     let answers_after : answers_in (with_last (λ _. Has_record r) calls) ≡ all =
     ap (λ (cs : List Made). answers_in (with_last (λ _. Has_record r) cs)) end.are
-    ∙ ap answers_in (with_last-push (λ _. Has_record r) end.before end.last)
+    ∙ ap answers_in (the_last_call_goes_on (λ _. Has_record r) end.before end.last)
     ∙ answers_in-push end.before viewed
     ∙ ap (λ (ps : List (ℕ × ℕ)). ps ++ (end.last.operation, r.reply) ∷ []) answers_before
     ∙ ap (λ (o : ℕ). pairs ++ (o, r.reply) ∷ []) (sym same) in
