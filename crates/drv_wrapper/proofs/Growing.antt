@@ -1,5 +1,5 @@
 -- What a caller has found stays found.
-use Rattle.std.proofs.Common.{◌≡◌, ℕ, suc, ◌+◌, List, [], ◌∷◌, ◌++◌, Some, sym, subst, ◌∙◌, arith}
+use Rattle.std.proofs.Common.{◌≡◌, suc, List, [], ◌∷◌, ◌++◌, Some, sym, subst, ◌∙◌, arith}
 use Rattle.std.specs.Prelude.{Contains, slice_get}
 use Rattle.std.proofs.lemmas.Option.{slice_get_within}
 use Rattle.list_laws.proofs.Fronts.{slice_get-append_within}

@@ -1,4 +1,3 @@
-pub mod Calls
 pub mod Growing
 pub mod Scans
 pub mod Locals

@@ -1,62 +1,70 @@
 -- What announcing and viewing leave of a caller's local.
-use Rattle.std.proofs.Common.{◌≡◌, ℕ, ◌+◌, ◌<◌, ◌≤◌, true, false, List, [], ◌∷◌, ◌++◌, length, Some, slice_index, refl, sym, ap, subst, ◌∙◌, arith}
-use Rattle.std.proofs.lemmas.List.{get_or_push, get_or_append_left}
-use Rattle.book_base.specs.declared.call.Record.{Record}
+use Rattle.std.proofs.Common.{◌≡◌, ℕ, ◌+◌, true, List, [], ◌∷◌, ◌++◌, length, Some, length-append, refl, sym, ap, subst, ◌∙◌, arith}
+use Rattle.std.proofs.lemmas.List.{get_or_push}
 use Rattle.world_core.specs.declared.region.Region.TheVariants.{N}
-use Rattle.world_core.specs.Local.{Phase, Announcing, Asking, Viewing, Publishing, Judging, Local, Looked, Peeked}
-use Rattle.world_core.specs.Event.{is_asking, is_staging}
+use Rattle.world_core.specs.Local.{Phase, Announcing, Asking, Viewing, Publishing, Judging, IsIdle, Local, Looked, Peeked}
+use Rattle.world_core.specs.Event.{Begins_scan, Begins_view, is_asking, is_staging}
 use Rattle.world_core.specs.Agreement.{HasPhase, unpublished_calls, unpublished_replies, unpublished_views, unseen_records}
-use Rattle.world_core.specs.Calls.{Made, Is_announced, calls_in}
+use Rattle.world_core.specs.Shape.{Shape}
+use Rattle.world_core.specs.Calls.{IsLocalOf}
+use Rattle.row_table.specs.declared.stance.Stance.{Stance}
+use Rattle.row_table.specs.Actions.{opening_in}
+use Rattle.row_table.specs.Stances.{opening_with}
+use Rattle.collect_scan.specs.Scanned.{HasScanned}
 use Rattle.row_staging.specs.Staging.{local_announced}
-use Rattle.drv_wrapper.specs.Progress.{Progress, progress_of, after_announcing, after_viewing}
+use Rattle.drv_wrapper.specs.Stands.{ready, replied}
+use Rattle.call_lines.specs.Phases.{progress_of}
+use Rattle.call_lines.specs.Progress.{after_announcing, after_viewing}
+use Rattle.call_lines.proofs.Accounts.{operations_are_calls, replies_are_no_records, views_make_records}
 use Rattle.drv_wrapper.specs.Growth.{Grows}
 use Rattle.drv_wrapper.specs.Calling.{IsAsked, IsRecorded}
 use Rattle.drv_wrapper.specs.Events.{HasAnnounced, HasViewed}
-use Rattle.drv_wrapper.proofs.Calls.{announced_calls, viewed_calls}
+use Rattle.drv_wrapper.proofs.Locals.{local_has_phase}
 use Rattle.drv_wrapper.proofs.Growing.{grows_by}
 use Rattle.drv_wrapper.proofs.Scans.{scanned_for_row, scanned_for_view, row_scanned, view_scanned}
 
 -- What an announcement leaves; and what a view leaves.
-pub record Announces (op : ℕ) (l m : Local) : Type 0 where
+pub record Announces (n op : ℕ) (l m : Local) : Type 0 where
+  pub events : HasAnnounced n op l m
   pub asked : IsAsked op m
   pub progress : progress_of m ≡ after_announcing op (progress_of l)
   pub grows : Grows l m
 
-pub record Views (op reply : ℕ) (view : List ℕ) (l m : Local) : Type 0 where
+pub record Views (n op reply : ℕ) (view : List ℕ) (l m : Local) : Type 0 where
+  pub events : HasViewed n reply view l m
   pub recorded : IsRecorded op reply view m
   pub progress : progress_of m ≡ after_viewing (record { reply = reply; view = view }) (progress_of l)
   pub grows : Grows l m
 
+-- an announcement, whose scan leaves the local so
 announced_row : (n op : ℕ) (l : Local) (cut : List ℕ) (looks : List Looked) (peeks : List Peeked) → HasPhase l → l.phase ≡ Announcing
-    → Announces op l (local_announced n op (scanned_for_row N cut looks peeks l))
-announced_row n op l cut looks peeks has phase =
+    → HasScanned n N Begins_scan cut l (scanned_for_row N cut looks peeks l) → Announces n op l (local_announced n op (scanned_for_row N cut looks peeks l))
+announced_row n op l cut looks peeks has phase scan =
     let calls : unpublished_calls l.phase ≡ 0 = ap unpublished_calls phase in
-    let views : unpublished_views l.phase ≡ 0 = ap unpublished_views phase in
-    let seen : unseen_records l.phase ≡ 0 = ap unseen_records phase in
     let m : Local = local_announced n op (scanned_for_row N cut looks peeks l) in
     let counted : l.announced ≡ l.published = omega (arith, has.announced, calls) in
     record {
+      events = record { cut = cut; scanned = scanned_for_row N cut looks peeks l; scan = scan; is = refl; embedded = refl; given = refl; object_steps = refl };
       asked =
           record {
             asking = refl;
+            unstaged = refl;
             counted = ap (λ (k : ℕ). k + 1) counted;
             operation = get_or_push l.operations op 0 l.published (has.operations ∙ counted);
             scan = refl;
           };
-      progress =
-          (λ i. record {
-            calls =
-                announced_calls l op (omega (arith, has.operations, has.seen, seen, counted)) (omega (arith, has.operations, has.views, views, counted)) i;
-            published = l.published;
-            object_steps = l.object_steps ++ [] ∷ [];
-          });
+      progress = operations_are_calls l m op has phase refl;
       grows = grows_by l m looks peeks (record { region = N; cut = cut; since = length l.looked } ∷ []) refl refl refl;
     }
 
-pub announces : (n op : ℕ) (l m : Local) → HasPhase l → l.phase ≡ Announcing → l.staged ≡ [] → HasAnnounced n op l m → Announces op l m
-announces n op l m has phase unstaged h =
-    let (looks, peeks, is) = row_scanned n N h.cut l h.scanned (ap (λ (p : Phase). is_staging p N) phase) unstaged h.scan in
-    subst (Announces op l) (sym (h.is ∙ ap (local_announced n op) is)) (announced_row n op l h.cut looks peeks has phase)
+-- of a caller in a reachable world, by how it stood before the scan
+pub announces : (s : Shape) (who op : ℕ) (cut : List ℕ) (stance : Stance) (l scanned m : Local) → IsLocalOf s who l → IsIdle l → stance ≡ ready
+    → HasScanned s.callers N (opening_in (opening_with (Some N) stance.reply)) cut l scanned → m ≡ local_announced s.callers op scanned → Announces s.callers op l m
+announces s who op cut stance l scanned m here idle stands scan is =
+    let so : HasScanned s.callers N Begins_scan cut l scanned = subst (λ (x : Stance). HasScanned s.callers N (opening_in (opening_with (Some N) x.reply)) cut l scanned) stands scan in
+    let (looks, peeks, leaves) = row_scanned s.callers N cut l scanned (ap (λ (p : Phase). is_staging p N) idle.announcing) idle.unstaged so in
+    subst (Announces s.callers op l) (sym (is ∙ ap (local_announced s.callers op) leaves))
+    (announced_row s.callers op l cut looks peeks (local_has_phase s who l here) idle.announcing (subst (HasScanned s.callers N Begins_scan cut l) leaves so))
 
 -- the phase is ask where the test says so
 asking_is : (p : Phase) → is_asking p ≡ true → p ≡ Asking
@@ -66,35 +74,60 @@ asking_is Viewing e = absurd cc
 asking_is Publishing e = absurd cc
 asking_is Judging e = absurd cc
 
-recorded_view : (op reply : ℕ) (view : List ℕ) (l : Local) (looks : List Looked) (peeks : List Peeked) → HasPhase l → IsAsked op l
-    → Views op reply view l (scanned_for_view reply view looks peeks l)
-recorded_view op reply view l looks peeks has asked =
-    let phase : l.phase ≡ Asking = asking_is l.phase asked.asking in
+-- the local as the object's reply is handed over
+abbrev with_reply : ℕ → Local → Local
+with_reply reply l = record l { replies = l.replies ++ reply ∷ []; phase = Viewing }
+
+replied_phase : (l : Local) (reply : ℕ) → HasPhase l → l.phase ≡ Asking → HasPhase (with_reply reply l)
+replied_phase l reply has phase =
+    let calls : unpublished_calls l.phase ≡ 1 = ap unpublished_calls phase in
     let replies : unpublished_replies l.phase ≡ 0 = ap unpublished_replies phase in
     let views : unpublished_views l.phase ≡ 0 = ap unpublished_views phase in
     let seen : unseen_records l.phase ≡ 0 = ap unseen_records phase in
+    record {
+      announced = omega (arith, has.announced, calls);
+      operations = has.operations;
+      replies = omega (arith, length-append l.replies (reply ∷ []), has.replies, replies);
+      views = omega (arith, has.views, views);
+      seen = omega (arith, has.seen, seen);
+      embedded_in_N = has.embedded_in_N;
+      embedded_in_M = has.embedded_in_M;
+      object_steps = has.object_steps;
+    }
+
+-- a view, whose scan leaves the local so
+recorded_view : (n op reply : ℕ) (view : List ℕ) (l : Local) (looks : List Looked) (peeks : List Peeked) → HasPhase l → IsAsked op l
+    → HasScanned n N (Begins_view reply) view l (scanned_for_view reply view looks peeks l) → Views n op reply view l (scanned_for_view reply view looks peeks l)
+recorded_view n op reply view l looks peeks has asked scan =
+    let phase : l.phase ≡ Asking = asking_is l.phase asked.asking in
+    let replies : unpublished_replies l.phase ≡ 0 = ap unpublished_replies phase in
+    let views : unpublished_views l.phase ≡ 0 = ap unpublished_views phase in
     let m : Local = scanned_for_view reply view looks peeks l in
+    let replied_to : Local = with_reply reply l in
     let has_replies : length l.replies ≡ l.published = omega (arith, has.replies, replies) in
     let has_views : length l.views ≡ l.published = omega (arith, has.views, views) in
     record {
+      events = record { scan = scan; replies = refl; views = refl; given = refl; object_steps = refl };
       recorded =
           record {
             publishing = refl;
+            unstaged = asked.unstaged;
             counted = asked.counted;
             operation = asked.operation;
             reply_is = get_or_push l.replies reply 0 l.published has_replies;
             view_is = get_or_push l.views view [] l.published has_views;
           };
       progress =
-          (λ i. record {
-            calls = viewed_calls l reply view l.published (has.operations ∙ asked.counted) has_replies has_views (omega (arith, has.seen, seen)) i;
-            published = l.published;
-            object_steps = l.object_steps;
-          });
+          views_make_records replied_to m view (replied_phase l reply has phase) refl refl
+          ∙ (λ i. after_viewing (record { reply = get_or_push l.replies reply 0 l.published has_replies i; view = view }) (replies_are_no_records l replied_to reply has phase refl i));
       grows = grows_by l m looks peeks (record { region = N; cut = view; since = length l.looked } ∷ []) refl refl refl;
     }
 
-pub views : (n op reply : ℕ) (view : List ℕ) (l m : Local) → HasPhase l → IsAsked op l → HasViewed n reply view l m → Views op reply view l m
-views n op reply view l m has asked h =
-    let (looks, peeks, is) = view_scanned n reply view l m h in
-    subst (Views op reply view l) (sym is) (recorded_view op reply view l looks peeks has asked)
+-- of a caller in a reachable world, by how it stood before the scan
+pub views : (s : Shape) (who op reply : ℕ) (view : List ℕ) (stance : Stance) (l m : Local) → IsLocalOf s who l → IsAsked op l → stance ≡ replied reply
+    → HasScanned s.callers N (opening_in (opening_with (Some N) stance.reply)) view l m → Views s.callers op reply view l m
+views s who op reply view stance l m here asked stands scan =
+    let so : HasScanned s.callers N (Begins_view reply) view l m = subst (λ (x : Stance). HasScanned s.callers N (opening_in (opening_with (Some N) x.reply)) view l m) stands scan in
+    let (looks, peeks, leaves) = view_scanned s.callers reply view l m so in
+    subst (Views s.callers op reply view l) (sym leaves)
+    (recorded_view s.callers op reply view l looks peeks (local_has_phase s who l here) asked (subst (HasScanned s.callers N (Begins_view reply) view l) leaves so))

@@ -1,10 +1,10 @@
 -- What the scans of a call leave of its caller's local: the one whose cut a row embeds, and the one that gives the view.
-use Rattle.std.proofs.Common.{◌≡◌, ℕ, true, false, List, [], ◌∷◌, ◌++◌, length, Option, Some, None, refl, ap, ◌∙◌}
+use Rattle.std.proofs.Common.{◌≡◌, ℕ, true, List, [], ◌∷◌, ◌++◌, length, Some, None, refl, ap, ◌∙◌}
 use Rattle.world_core.specs.declared.region.Region.{Region}
 use Rattle.world_core.specs.declared.region.Region.TheVariants.{N, M}
-use Rattle.world_core.specs.Local.{Phase, Announcing, Asking, Viewing, Publishing, Judging, Staged, Scan, Given, Looked, Peeked, Local}
+use Rattle.world_core.specs.Local.{Phase, Announcing, Asking, Viewing, Publishing, Judging, Staged, Scan, Looked, Peeked, Local}
 use Rattle.world_core.specs.Event.{Begins_scan, Begins_view, Purpose, For_row, purpose_of, served, is_staging}
-use Rattle.drv_wrapper.specs.Scanned.{Found, found_by, scan_with, local_in_scan, local_after_scan, HasScanned}
+use Rattle.collect_scan.specs.Scanned.{Found, found_by, scan_with, local_in_scan, HasScanned}
 
 -- The local after a scan that serves the row, and after the view's scan: what the scan has looked at and peeked stands in front.
 abbrev pub scanned_for_row : Region → List ℕ → List Looked → List Peeked → Local → Local

@@ -1,9 +1,8 @@
-pub mod Scanned
 pub mod Stands
 pub mod Calling
-pub mod Progress
 pub mod Growth
 pub mod Events
+pub mod Asking
 pub mod States
 pub mod ObjectSteps
 pub mod Telling

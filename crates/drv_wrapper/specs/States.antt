@@ -1,5 +1,7 @@
 -- The callers inside the states that a call passes through, and what these states tell.
 use Rattle.std.specs.Prelude.{ℕ, List}
+use Rattle.book_base.specs.declared.call.Record.{Record}
+use Rattle.world_core.specs.Local.{Local}
 use Rattle.row_table.specs.declared.caller.Caller.{Caller}
 use Rattle.row_table.specs.Callers.{who_of, local_with}
 use Rattle.drv_wrapper.specs.declared.announced.Announced.{Announced}
@@ -16,6 +18,16 @@ module _ {P : Type 0} where
 
   abbrev pub caller_viewed : Viewed P → Caller P
   caller_viewed v = v.caller
+
+  -- The locals of these callers.
+  abbrev pub announced_local : Announced P → Local
+  announced_local a = local_with a.caller
+
+  abbrev pub answered_local : Answered P → Local
+  answered_local a = local_with a.caller
+
+  abbrev pub viewed_local : Viewed P → Local
+  viewed_local v = local_with v.caller
 
   -- The number of the caller of an announced call, the number of the call, and its operation.
   abbrev pub who_announced : Announced P → ℕ
@@ -43,3 +55,7 @@ module _ {P : Type 0} where
 
   abbrev pub view_viewed : Viewed P → List ℕ
   view_viewed v = v.view
+
+  -- Its record: the reply and the view.
+  abbrev pub record_viewed : Viewed P → Record
+  record_viewed v = record { reply = v.reply; view = v.view }

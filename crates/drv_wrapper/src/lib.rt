@@ -2,7 +2,9 @@
 #![tactic(auto)]
 
 mod announced;
+mod announcing;
 mod answered;
+mod applying;
 mod asking;
 mod black_box;
 mod object_pass;
@@ -10,10 +12,14 @@ mod object_steps;
 #[cfg(test)]
 mod tests;
 mod viewed;
+mod viewing;
 
 pub use announced::Announced;
+pub use announcing::announce;
 pub use answered::Answered;
+pub use applying::apply;
 pub use asking::ask;
 pub use black_box::BlackBox;
 pub use object_pass::ObjectPass;
 pub use viewed::Viewed;
+pub use viewing::view;

@@ -1,0 +1,44 @@
+ghost use Rattle.std.specs.Prelude.{◌≡◌, ℕ, ◌+◌, ◌<◌, ◌≤◌};
+ghost use Rattle.world_core.specs.Local.{IsIdle};
+ghost use Rattle.row_table.specs.Callers.{who_of, local_with, stance_of, IsCallerOf, IsStill};
+ghost use Rattle.call_lines.specs.Phases.{progress_of};
+ghost use Rattle.call_lines.specs.Progress.{after_announcing};
+ghost use Rattle.collect_scan.specs.Scanned.{most_words};
+ghost use Rattle.drv_wrapper.specs.Stands.{ready};
+ghost use Rattle.drv_wrapper.specs.States.{caller_announced, op_announced, announced_local};
+ghost use Rattle.drv_wrapper.specs.Events.{HasAnnounced};
+ghost use Rattle.drv_wrapper.specs.Growth.{Grows};
+
+use crate::announced::Announced;
+use book_base::OpWord;
+use collect_scan::scan;
+use row_staging::announce_row;
+use row_table::{Caller, Rows, Steps};
+use std::sync::ledger::Ledger;
+use world_core::{Program, Region};
+
+/// Announces a call of a caller: scans N, stages the operation with the cut of this scan in the caller's row of
+/// N, and raises the caller's count there. From then on every view that is taken holds the call.
+///
+/// The caller is live and idle, and has a call left. It ticks at most as often as one scan.
+pub fn announce<P: Program, L: Ledger>(
+    mut caller: Caller<P>,
+    rows: &Rows<P>,
+    op: OpWord,
+    steps: &mut Steps<L>,
+) -> Announced<P>
+    requires rows { IsCallerOf P.meaning rows.now caller }
+    requires idle { IsIdle (local_with caller) }
+    requires left { (local_with caller).announced < rows.now.cap }
+    requires stands { stance_of caller ≡ ready }
+    ensures caller { IsStill P.meaning rows.now caller (caller_announced result) }
+    ensures operation { op_announced result ≡ op }
+    ensures announced { HasAnnounced rows.now.callers op (local_with caller) (announced_local result) }
+    ensures progress { progress_of (announced_local result) ≡ after_announcing op (progress_of (local_with caller)) }
+    ensures grows { Grows (local_with caller) (announced_local result) }
+    ensures ticks { (steps.old ≤ steps.new) × (steps.new ≤ steps.old + most_words rows.now.callers) }
+{
+    let cut = scan(rows, &mut caller, Region::N, steps);
+    announce_row(rows, &mut caller, op, &cut);
+    Announced { caller, op }
+}

@@ -1,0 +1,51 @@
+ghost use Rattle.std.specs.Prelude.{◌≡◌, ℕ, ◌+◌, ◌≤◌, length};
+ghost use Rattle.row_table.specs.Callers.{local_with, IsCallerOf, IsStill};
+ghost use Rattle.call_lines.specs.Phases.{progress_of};
+ghost use Rattle.call_lines.specs.Progress.{after_viewing};
+ghost use Rattle.collect_scan.specs.Scanned.{most_words};
+ghost use Rattle.drv_wrapper.specs.Asking.{MayGet};
+ghost use Rattle.drv_wrapper.specs.States.{caller_answered, op_answered, reply_answered, caller_viewed, op_viewed, reply_viewed, view_viewed, answered_local, viewed_local, record_viewed};
+ghost use Rattle.drv_wrapper.specs.Events.{HasViewed};
+ghost use Rattle.drv_wrapper.specs.Growth.{Grows};
+
+use crate::answered::Answered;
+use crate::viewed::Viewed;
+use collect_scan::scan;
+use row_table::{Rows, Steps};
+use std::sync::ledger::Ledger;
+use world_core::{Program, Region};
+
+/// Takes the view of a call that the object has answered: the cut of a scan of N that begins with the reply. So
+/// the view holds every call that was announced before the object had answered, the caller's own among them, and
+/// none that is announced after the scan (Castañeda and Rodríguez 2023).
+///
+/// The program allows the reply: one whose object is outside the world allows every reply. It ticks at most as
+/// often as one scan.
+pub fn view<P: Program, L: Ledger>(
+    answered: Answered<P>,
+    rows: &Rows<P>,
+    steps: &mut Steps<L>,
+) -> Viewed<P>
+    requires rows { IsCallerOf P.meaning rows.now (caller_answered answered) }
+    requires allowed { MayGet P.meaning rows.now (caller_answered answered) (reply_answered answered) }
+    ensures caller { IsStill P.meaning rows.now (caller_answered answered) (caller_viewed result) }
+    ensures call { (op_viewed result ≡ op_answered answered) × (reply_viewed result ≡ reply_answered answered) }
+    ensures wide { length (view_viewed result) ≡ rows.now.callers }
+    ensures viewed { HasViewed rows.now.callers (reply_viewed result) (view_viewed result) (answered_local answered) (viewed_local result) }
+    ensures progress { progress_of (viewed_local result) ≡ after_viewing (record_viewed result) (progress_of (answered_local answered)) }
+    ensures grows { Grows (answered_local answered) (viewed_local result) }
+    ensures ticks { (steps.old ≤ steps.new) × (steps.new ≤ steps.old + most_words rows.now.callers) }
+{
+    let Answered {
+        mut caller,
+        op,
+        reply,
+    } = answered;
+    let view = scan(rows, &mut caller, Region::N, steps);
+    Viewed {
+        caller,
+        op,
+        reply,
+        view,
+    }
+}
