@@ -1,0 +1,6 @@
+pub mod Standing
+pub mod Publications
+pub mod SeenCuts
+pub mod Gathering
+pub mod Outcomes
+pub mod WholeCalls

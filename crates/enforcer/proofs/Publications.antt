@@ -1,0 +1,65 @@
+-- What the publication of a record leaves of its caller's local.
+use Rattle.std.proofs.Common.{◌≡◌, ℕ, ◌+◌, ◌-◌, List, [], ◌∷◌, length, Some, slice_index, slice_index_or, refl, sym, ap, subst, ◌∙◌, arith}
+use Rattle.world_core.specs.declared.region.Region.TheVariants.{M}
+use Rattle.world_core.specs.Shape.{Shape}
+use Rattle.world_core.specs.Local.{Phase, Publishing, Local, Looked, Peeked}
+use Rattle.world_core.specs.Event.{Begins_scan, Publish, is_staging, local_after}
+use Rattle.call_lines.specs.Phases.{progress_of}
+use Rattle.call_lines.specs.Progress.{after_publishing}
+use Rattle.call_lines.proofs.Accounts.{publications_count}
+use Rattle.row_table.specs.declared.stance.Stance.{Stance}
+use Rattle.row_table.specs.Actions.{opening_in}
+use Rattle.row_table.specs.Stances.{opening_with}
+use Rattle.collect_scan.specs.Scanned.{HasScanned}
+use Rattle.row_staging.specs.Staging.{MayPublish}
+use Rattle.drv_wrapper.specs.Growth.{Grows}
+use Rattle.drv_wrapper.specs.Calling.{IsRecorded}
+use Rattle.drv_wrapper.proofs.Growing.{grows_by}
+use Rattle.drv_wrapper.proofs.Scans.{scanned_for_row, row_scanned}
+use Rattle.enforcer.specs.Recorded.{IsPublishing}
+use Rattle.enforcer.proofs.Standing.{publishing_is, unstaged_is}
+
+-- The scan before a publication leaves its cut to be embedded, and the record as it is.
+pub record Readies (n reply : ℕ) (view cut : List ℕ) (l m : Local) : Type 0 where
+  pub may : MayPublish n reply view cut m
+  pub published : IsPublishing reply view (local_after n m Publish)
+  pub progress : progress_of (local_after n m Publish) ≡ after_publishing (progress_of l)
+  pub grows : Grows l (local_after n m Publish)
+
+readied : (n op reply : ℕ) (view cut : List ℕ) (l : Local) (looks : List Looked) (peeks : List Peeked) → length view ≡ n → length cut ≡ n → l.phase ≡ Publishing
+    → IsRecorded op reply view l → Readies n reply view cut l (scanned_for_row M cut looks peeks l)
+readied n op reply view cut l looks peeks view_wide wide phase recorded =
+    let m : Local = local_after n (scanned_for_row M cut looks peeks l) Publish in
+    let number : l.published ≡ (l.published + 1) - 1 = omega arith in
+    record {
+      may = record { phase = phase; reply_is = recorded.reply_is; view_is = recorded.view_is; view_wide = view_wide; embeds = refl; wide = wide };
+      published =
+          record {
+            judging = refl;
+            unstaged = refl;
+            published =
+                record {
+                  some = omega arith;
+                  reply_is = ap (slice_index l.replies) (sym number) ∙ recorded.reply_is;
+                  view_is = ap (λ (k : ℕ). slice_index_or l.views k []) (sym number) ∙ recorded.view_is;
+                };
+          };
+      progress = publications_count l m refl;
+      grows = grows_by l m looks peeks (record { region = M; cut = cut; since = length l.looked } ∷ []) refl refl refl;
+    }
+
+readies : (n op reply : ℕ) (view cut : List ℕ) (l m : Local) → length view ≡ n → length cut ≡ n → IsRecorded op reply view l
+    → HasScanned n M Begins_scan cut l m → Readies n reply view cut l m
+readies n op reply view cut l m view_wide wide recorded h =
+    let phase = publishing_is l.phase recorded.publishing in
+    let (looks, peeks, is) = row_scanned n M cut l m (ap (λ (p : Phase). is_staging p M) phase) (unstaged_is l.staged recorded.unstaged) h in
+    subst (Readies n reply view cut l) (sym is) (readied n op reply view cut l looks peeks view_wide wide phase recorded)
+
+-- of a call that was viewed so, whose caller k has the local l
+pub readies_of : (s : Shape) (op reply : ℕ) (view : List ℕ) (said : ℕ) (shown cut : List ℕ) (stance : Stance) (l k m : Local) → said ≡ reply → shown ≡ view → k ≡ l
+    → length view ≡ s.callers → length cut ≡ s.callers → IsRecorded op reply view l → HasScanned s.callers M (opening_in (opening_with (Some M) stance.reply)) cut k m
+    → Readies s.callers said shown cut l m
+readies_of s op reply view said shown cut stance l k m same_reply same_view same view_wide wide recorded h =
+    subst (λ (x : ℕ). Readies s.callers x shown cut l m) (sym same_reply)
+    (subst (λ (v : List ℕ). Readies s.callers reply v cut l m) (sym same_view)
+    (readies s.callers op reply view cut l m view_wide wide recorded (subst (λ (x : Local). HasScanned s.callers M Begins_scan cut x m) same h)))

@@ -1,0 +1,80 @@
+-- What the scan that sees a cut leaves of its caller's local.
+use Rattle.std.proofs.Common.{◌≡◌, ◌≢◌, ℕ, ◌-◌, List, [], ◌∷◌, ◌++◌, length, None, slice_index, refl, sym, ap, subst, ◌∙◌, arith}
+use Rattle.std.proofs.lemmas.List.{get_or_push}
+use Rattle.world_core.specs.declared.region.Region.TheVariants.{M}
+use Rattle.world_core.specs.Shape.{Shape}
+use Rattle.world_core.specs.Local.{Phase, Announcing, Judging, Scan, Local, Looked, Peeked}
+use Rattle.world_core.specs.Event.{Begins_scan, Purpose, For_seen, For_nothing, purpose_of, served}
+use Rattle.world_core.specs.Agreement.{HasPhase, unseen_records}
+use Rattle.world_core.specs.Calls.{IsLocalOf}
+use Rattle.call_lines.specs.Phases.{progress_of}
+use Rattle.call_lines.specs.Progress.{after_seeing}
+use Rattle.call_lines.proofs.Accounts.{seen_cuts_are_of_the_last_call}
+use Rattle.collect_scan.specs.Scanned.{Found, found_by, scan_with, local_in_scan, HasScanned}
+use Rattle.collect_scan.specs.Given.{purpose_with}
+use Rattle.collect_scan.proofs.Owning.{own_entries_are_counts}
+use Rattle.drv_wrapper.specs.Growth.{Grows}
+use Rattle.drv_wrapper.proofs.Growing.{grows_by}
+use Rattle.drv_wrapper.proofs.Locals.{local_has_phase}
+use Rattle.enforcer.specs.Recorded.{IsPublishing, HasSeen}
+use Rattle.enforcer.proofs.Standing.{judging_is}
+
+-- the local after a scan that gave the seen cut
+abbrev pub scanned_for_seen : List ℕ → List Looked → List Peeked → Local → Local
+scanned_for_seen cut looks peeks l =
+    record l {
+      seen = l.seen ++ cut ∷ [];
+      phase = Announcing;
+      scan = None;
+      cuts = l.cuts ++ record { region = M; cut = cut; since = length l.looked } ∷ [];
+      looked = looks ++ l.looked;
+      peeked = peeks ++ l.peeked;
+    }
+
+seen_scanned : (n : ℕ) (cut : List ℕ) (l m : Local) → l.phase ≡ Judging → HasScanned n M Begins_scan cut l m
+    → (looks : List Looked) × (peeks : List Peeked) × (m ≡ scanned_for_seen cut looks peeks l)
+seen_scanned n cut l m phase h =
+    let found : Found = found_by n M h.taken in
+    let scan : Scan = scan_with l M Begins_scan h.taken in
+    let ended : Local = record (local_in_scan n l M Begins_scan h.taken) { scan = None; cuts = l.cuts ++ record { region = M; cut = cut; since = length l.looked } ∷ [] } in
+    let purpose : purpose_of l.phase l.staged scan ≡ For_seen = ap (λ (p : Phase). purpose_of p l.staged scan) phase in
+    (found.looks, found.peeks, h.is ∙ ap (λ (p : Purpose). served ended p cut) purpose)
+
+-- What seeing a cut leaves.
+pub record Sees (who reply : ℕ) (view cut : List ℕ) (l m : Local) : Type 0 where
+  pub saw : HasSeen reply view cut m
+  pub own : slice_index cut who ≡ m.published
+  pub progress : progress_of m ≡ after_seeing cut (progress_of l)
+  pub grows : Grows l m
+
+-- a scan of M while judging serves the seen cut
+serves : (l : Local) → l.phase ≡ Judging → purpose_with l M Begins_scan ≢ For_nothing
+serves l phase none =
+    let e : For_seen ≡ For_nothing = sym (ap (λ (p : Phase). purpose_of p l.staged (scan_with l M Begins_scan [])) phase) ∙ none in absurd cc
+
+seen_leaves : (reply : ℕ) (view cut : List ℕ) (l : Local) (looks : List Looked) (peeks : List Peeked) → HasPhase l → IsPublishing reply view l
+    → HasSeen reply view cut (scanned_for_seen cut looks peeks l)
+seen_leaves reply view cut l looks peeks has publishing =
+    let unseen : unseen_records l.phase ≡ 1 = ap unseen_records (judging_is l.phase publishing.judging) in
+    record {
+      announcing = refl;
+      unstaged = publishing.unstaged;
+      free = refl;
+      published = record { some = publishing.published.some; reply_is = publishing.published.reply_is; view_is = publishing.published.view_is };
+      seen_is = get_or_push l.seen cut [] (l.published - 1) (omega (arith, has.seen, unseen));
+    }
+
+pub sees : (s : Shape) (who now reply : ℕ) (view cut : List ℕ) (l m : Local) → IsLocalOf s who l → IsLocalOf s now m → IsPublishing reply view l
+    → HasScanned s.callers M Begins_scan cut l m → Sees now reply view cut l m
+sees s who now reply view cut l m here there publishing h =
+    let phase = judging_is l.phase publishing.judging in
+    let has = local_has_phase s who l here in
+    let (looks, peeks, is) = seen_scanned s.callers cut l m phase h in
+    record {
+      saw = subst (HasSeen reply view cut) (sym is) (seen_leaves reply view cut l looks peeks has publishing);
+      own = own_entries_are_counts s now M Begins_scan cut l m there h (serves l phase);
+      progress =
+          ap progress_of is
+          ∙ seen_cuts_are_of_the_last_call l (scanned_for_seen cut looks peeks l) cut has phase refl;
+      grows = subst (Grows l) (sym is) (grows_by l (scanned_for_seen cut looks peeks l) looks peeks (record { region = M; cut = cut; since = length l.looked } ∷ []) refl refl refl);
+    }

@@ -1,0 +1,51 @@
+-- How far a caller comes with a whole call, and that what it has found only grows.
+use Rattle.std.proofs.Common.{◌≡◌, ℕ, List, [], ◌∷◌, ◌++◌, Result, Ok, Err, IfOk, IfErr, refl, sym, ap, subst, ◌∙◌}
+use Rattle.book_base.specs.declared.call.Record.{Record}
+use Rattle.world_core.specs.Local.{Local, Given}
+use Rattle.call_lines.specs.Phases.{progress_of}
+use Rattle.call_lines.specs.Progress.{after_announcing, after_viewing, after_publishing, after_seeing}
+use Rattle.row_gather.specs.Peeks.{with_peeked, HasOnlyPeeked}
+use Rattle.drv_wrapper.specs.Growth.{Grows}
+use Rattle.drv_wrapper.proofs.Growing.{grows_by, grows_on}
+use Rattle.enforcer.specs.Enforced.{after_call}
+
+-- what holds of a result by what holds of it
+pub ok_by : {A B : Type 0} (r : Result A B) (P Q S T : A → Type 0) → ((x : A) → P x → Q x → S x → T x) → IfOk r P → IfOk r Q → IfOk r S → IfOk r T
+ok_by (Ok x) P Q S T f p q s = f x p q s
+ok_by (Err e) P Q S T f p q s = tt
+
+pub err_by : {A B : Type 0} (r : Result A B) (P Q T : B → Type 0) → ((x : B) → P x → Q x → T x) → IfErr r P → IfErr r Q → IfErr r T
+err_by (Ok x) P Q T f p q = tt
+err_by (Err e) P Q T f p q = f e p q
+
+pub ok_from : {A B : Type 0} (r : Result A B) (P T : A → Type 0) → ((x : A) → P x → T x) → IfOk r P → IfOk r T
+ok_from (Ok x) P T f p = f x p
+ok_from (Err e) P T f p = tt
+
+pub err_from : {A B : Type 0} (r : Result A B) (P T : B → Type 0) → ((x : B) → P x → T x) → IfErr r P → IfErr r T
+err_from (Ok x) P T f p = tt
+err_from (Err e) P T f p = f e p
+
+-- peeks leave a caller's calls
+peeks_leave : (l m : Local) (before after : ℕ) → HasOnlyPeeked l m before after → progress_of m ≡ progress_of l
+peeks_leave l m before after h = ap progress_of h.local
+
+unchanged : (cuts : List Given) → cuts ≡ cuts ++ []
+unchanged [] = refl
+unchanged (given ∷ cuts) = ap (λ (more : List Given). given ∷ more) (unchanged cuts)
+
+pub peeks_grow : (l m : Local) (before after : ℕ) → HasOnlyPeeked l m before after → Grows l m
+peeks_grow l m before after h = subst (Grows l) (sym h.local) (grows_by l (with_peeked l h.more) [] h.more [] refl refl (unchanged l.cuts))
+
+-- A call step by step: of a caller with the local l, that had viewed with v, published with p, seen with s, and peeked with m.
+pub whole_call : (op : ℕ) (viewed r told : Record) (seen cut : List ℕ) (l v p s m : Local) (before after : ℕ)
+    → progress_of v ≡ after_viewing viewed (after_announcing op (progress_of l)) → progress_of p ≡ after_publishing (progress_of v) → progress_of s ≡ after_seeing seen (progress_of p)
+    → HasOnlyPeeked s m before after → viewed ≡ r → told ≡ r → cut ≡ seen → progress_of m ≡ after_call op told cut (progress_of l)
+whole_call op viewed r told seen cut l v p s m before after views publishes sees peeks same tells saw =
+    peeks_leave s m before after peeks
+    ∙ sees
+    ∙ ap (after_seeing seen) (publishes ∙ ap after_publishing (views ∙ ap (λ (x : Record). after_viewing x (after_announcing op (progress_of l))) (same ∙ sym tells)))
+    ∙ ap (λ (x : List ℕ). after_call op told x (progress_of l)) (sym saw)
+
+pub grows_through : (l v p s m : Local) (before after : ℕ) → Grows l v → Grows v p → Grows p s → HasOnlyPeeked s m before after → Grows l m
+grows_through l v p s m before after one two three peeks = grows_on l v m one (grows_on v p m two (grows_on p s m three (peeks_grow s m before after peeks)))

@@ -1,0 +1,52 @@
+use Rattle.std.proofs.Common.{◌≡◌, sym, ◌∙◌}
+use Rattle.book_base.specs.declared.call.Record.{Record}
+use Rattle.row_table.specs.Callers.{local_with}
+use Rattle.call_lines.specs.Phases.{progress_of}
+use Rattle.row_gather.specs.Peeks.{HasOnlyPeeked}
+use Rattle.drv_wrapper.specs.Growth.{Grows}
+use Rattle.enforcer.specs.Judged.{record_in, cut_in}
+use Rattle.enforcer.specs.Enforced.{after_call, record_unjudged}
+use Rattle.enforcer.proofs.WholeCalls.{ok_by, err_by, ok_from, err_from, whole_call, grows_through}
+use Rattle.enforcer.proofs.enforcing.enforce.Goals as goal
+
+pub returns-clause-grows : goal.returns-clause-grows
+returns-clause-grows g c =
+    ok_from c.judge.result (λ r. HasOnlyPeeked (local_with c.seen-seen.result.caller) (local_with r.0) c.seen-seen.new.steps c.judge.new.steps) (λ r. Grows (local_with c.args.caller) (local_with r.0))
+    (λ r peeks. grows_through (local_with c.args.caller) (local_with c.apply-viewed.result.caller) (local_with c.publish-published.result.caller) (local_with c.seen-seen.result.caller) (local_with r.0)
+    c.seen-seen.new.steps c.judge.new.steps c.apply-viewed.ensures.grows c.publish-published.ensures.grows c.seen-seen.ensures.grows peeks)
+    c.judge.ensures.peeks
+
+pub returns-clause-unjudged_grows : goal.returns-clause-unjudged_grows
+returns-clause-unjudged_grows g c =
+    err_from c.judge.result (λ u. HasOnlyPeeked (local_with c.seen-seen.result.caller) (local_with u.caller) c.seen-seen.new.steps c.judge.new.steps)
+    (λ u. Grows (local_with c.args.caller) (local_with u.caller))
+    (λ u peeks. grows_through (local_with c.args.caller) (local_with c.apply-viewed.result.caller) (local_with c.publish-published.result.caller) (local_with c.seen-seen.result.caller)
+    (local_with u.caller) c.seen-seen.new.steps c.judge.new.steps c.apply-viewed.ensures.grows c.publish-published.ensures.grows c.seen-seen.ensures.grows peeks)
+    c.judge.ensures.unjudged_peeks
+
+pub returns-clause-progress : goal.returns-clause-progress
+returns-clause-progress g c =
+    let viewed : Record = record { reply = c.apply-viewed.result.reply; view = c.apply-viewed.result.view } in
+    let r : Record = record { reply = c.seen-seen.result.reply; view = c.seen-seen.result.view } in
+    let replies = sym (c.seen-seen.ensures.record.0 ∙ c.publish-published.ensures.record.0) in
+    let views = sym (c.seen-seen.ensures.record.1 ∙ c.publish-published.ensures.record.1) in
+    ok_by c.judge.result (λ x. HasOnlyPeeked (local_with c.seen-seen.result.caller) (local_with x.0) c.seen-seen.new.steps c.judge.new.steps) (λ x. record_in x.1 ≡ r)
+    (λ x. cut_in x.1 ≡ c.seen-seen.result.cut) (λ x. progress_of (local_with x.0) ≡ after_call c.args.op (record_in x.1) (cut_in x.1) (progress_of (local_with c.args.caller)))
+    (λ x peeks record_is cut_is. whole_call c.args.op viewed r (record_in x.1) c.seen-seen.result.cut (cut_in x.1) (local_with c.args.caller) (local_with c.apply-viewed.result.caller)
+    (local_with c.publish-published.result.caller) (local_with c.seen-seen.result.caller) (local_with x.0) c.seen-seen.new.steps c.judge.new.steps c.apply-viewed.ensures.progress
+    c.publish-published.ensures.progress c.seen-seen.ensures.progress peeks (λ i. record { reply = replies i; view = views i }) record_is cut_is)
+    c.judge.ensures.peeks c.judge.ensures.record c.judge.ensures.cut
+
+pub returns-clause-unjudged_progress : goal.returns-clause-unjudged_progress
+returns-clause-unjudged_progress g c =
+    let viewed : Record = record { reply = c.apply-viewed.result.reply; view = c.apply-viewed.result.view } in
+    let r : Record = record { reply = c.seen-seen.result.reply; view = c.seen-seen.result.view } in
+    let replies = sym (c.seen-seen.ensures.record.0 ∙ c.publish-published.ensures.record.0) in
+    let views = sym (c.seen-seen.ensures.record.1 ∙ c.publish-published.ensures.record.1) in
+    err_by c.judge.result (λ u. HasOnlyPeeked (local_with c.seen-seen.result.caller) (local_with u.caller) c.seen-seen.new.steps c.judge.new.steps)
+    (λ u. (u.reply ≡ c.seen-seen.result.reply) × (u.view ≡ c.seen-seen.result.view) × (u.seen ≡ c.seen-seen.result.cut))
+    (λ u. progress_of (local_with u.caller) ≡ after_call c.args.op (record_unjudged u) u.seen (progress_of (local_with c.args.caller)))
+    (λ u peeks tells. whole_call c.args.op viewed r (record_unjudged u) c.seen-seen.result.cut u.seen (local_with c.args.caller) (local_with c.apply-viewed.result.caller)
+    (local_with c.publish-published.result.caller) (local_with c.seen-seen.result.caller) (local_with u.caller) c.seen-seen.new.steps c.judge.new.steps c.apply-viewed.ensures.progress
+    c.publish-published.ensures.progress c.seen-seen.ensures.progress peeks (λ i. record { reply = replies i; view = views i }) (λ i. record { reply = tells.0 i; view = tells.1 i }) tells.2)
+    c.judge.ensures.unjudged_peeks c.judge.ensures.unjudged_record

@@ -1,0 +1,41 @@
+-- What a whole call comes to, and what an outcome says of later ones.
+use Rattle.std.specs.Prelude.{◌≡◌, ℕ, true, List, Result, Ok, Err}
+use Rattle.book_base.specs.declared.call.Record.{Record}
+use Rattle.book_base.specs.Cut.{IsWithin}
+use Rattle.book_base.specs.BookAt.{book_at}
+use Rattle.book_base.specs.Order.{HasLegalOrder}
+use Rattle.world_core.specs.Shape.{Shape}
+use Rattle.world_core.specs.Local.{Local}
+use Rattle.world_core.specs.Calls.{AreTogether, book_in}
+use Rattle.call_lines.specs.Phases.{Progress}
+use Rattle.call_lines.specs.Progress.{after_announcing, after_viewing, after_publishing, after_seeing}
+use Rattle.call_lines.specs.Workers.{IsJudgedBy}
+use Rattle.row_table.specs.declared.caller.Caller.{Caller}
+use Rattle.enforcer.specs.declared.outcome.Outcome.{Outcome}
+use Rattle.enforcer.specs.declared.outcome.Unjudged.{Unjudged}
+use Rattle.enforcer.specs.Judged.{record_in, cut_in, end_of, is_illegal, IsRightFor, IsRightByPeeks}
+
+-- How far a caller has come after a whole call: one call more, with this operation, this record and this seen cut, and published.
+abbrev pub after_call : ℕ → Record → List ℕ → Progress → Progress
+after_call op r cut progress = after_seeing cut (after_publishing (after_viewing r (after_announcing op progress)))
+
+-- The record of a call that wasn't judged; and the reply that came of a call, judged or not.
+abbrev pub record_unjudged : {P : Type 0} → Unjudged P → Record
+record_unjudged u = record { reply = u.reply; view = u.view }
+
+abbrev pub reply_of : {P : Type 0} → Result (Caller P × Outcome) (Unjudged P) → ℕ
+reply_of (Ok r) = (record_in r.1).reply
+reply_of (Err u) = u.reply
+
+-- An outcome that is right by what its caller peeked is the verdict at the end of the call's line.
+abbrev pub OutcomesAreVerdicts : Type 0
+OutcomesAreVerdicts =
+    (init : List ℕ) (next : List ℕ → ℕ → List ℕ × ℕ) (n : ℕ) (l : Local) (outcome : Outcome) → IsRightByPeeks init next n l outcome → IsJudgedBy init next n l (end_of outcome)
+
+-- An error is final: where the book of all callers' calls has no legal order at a cut, an outcome that is right at a greater cut is an
+-- error.
+abbrev pub ErrorsAreFinal : Type 0
+ErrorsAreFinal =
+    (init : List ℕ) (next : List ℕ → ℕ → List ℕ × ℕ) (s : Shape) (locals : List Local) (lower : List ℕ) (outcome : Outcome) → AreTogether s locals
+    → IsWithin lower (cut_in outcome) → ¬ HasLegalOrder init next (book_at lower (book_in locals)) → IsRightFor init next (book_at (cut_in outcome) (book_in locals)) outcome
+    → is_illegal outcome ≡ true

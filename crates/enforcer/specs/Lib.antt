@@ -1,0 +1,4 @@
+pub mod Recorded
+pub mod States
+pub mod Judged
+pub mod Enforced

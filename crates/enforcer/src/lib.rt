@@ -1,0 +1,20 @@
+//! The enforcer of Castañeda and Rodríguez (2023): a record is published, a cut is seen, and the book at it judged.
+#![tactic(auto)]
+
+mod enforcing;
+mod judging;
+pub mod laws;
+mod outcome;
+mod published_call;
+mod publishing;
+mod seeing;
+mod seen_call;
+
+pub use enforcing::enforce;
+pub use judging::{gather, judge};
+pub use outcome::{Outcome, Unjudged};
+pub use published_call::Published;
+pub use publishing::publish;
+pub use row_gather::gather_at;
+pub use seeing::seen;
+pub use seen_call::Seen;

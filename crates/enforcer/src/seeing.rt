@@ -1,0 +1,46 @@
+ghost use Rattle.std.specs.Prelude.{◌≡◌, ℕ, ◌+◌, ◌≤◌, length, slice_index};
+ghost use Rattle.row_table.specs.Callers.{who_of, local_with, IsCallerOf, IsStill};
+ghost use Rattle.collect_scan.specs.Scanned.{most_words};
+ghost use Rattle.call_lines.specs.Phases.{progress_of};
+ghost use Rattle.call_lines.specs.Progress.{after_seeing};
+ghost use Rattle.drv_wrapper.specs.Growth.{Grows};
+ghost use Rattle.enforcer.specs.States.{caller_published, reply_published, view_published, caller_seen, reply_seen, view_seen, cut_seen};
+
+use crate::published_call::Published;
+use crate::seen_call::Seen;
+use collect_scan::scan;
+use row_table::{Rows, Steps};
+use std::sync::ledger::Ledger;
+use world_core::{Program, Region};
+
+/// Sees which records are published: the cut of a scan of M that begins now, so that it holds the caller's own
+/// record and every one that was published before (Castañeda and Rodríguez 2023).
+///
+/// It ticks at most as often as one scan, and takes no memory.
+pub fn seen<P: Program, L: Ledger>(
+    published: Published<P>,
+    rows: &Rows<P>,
+    steps: &mut Steps<L>,
+) -> Seen<P>
+    requires rows { IsCallerOf P.meaning rows.now (caller_published published) }
+    ensures caller { IsStill P.meaning rows.now (caller_published published) (caller_seen result) }
+    ensures record { (reply_seen result ≡ reply_published published) × (view_seen result ≡ view_published published) }
+    ensures wide { length (cut_seen result) ≡ rows.now.callers }
+    ensures own { slice_index (cut_seen result) (who_of (caller_seen result)) ≡ (local_with (caller_seen result)).published }
+    ensures progress { progress_of (local_with (caller_seen result)) ≡ after_seeing (cut_seen result) (progress_of (local_with (caller_published published))) }
+    ensures grows { Grows (local_with (caller_published published)) (local_with (caller_seen result)) }
+    ensures ticks { (steps.old ≤ steps.new) × (steps.new ≤ steps.old + most_words rows.now.callers) }
+{
+    let Published {
+        mut caller,
+        reply,
+        view,
+    } = published;
+    let cut = scan(rows, &mut caller, Region::M, steps);
+    Seen {
+        caller,
+        reply,
+        view,
+        cut,
+    }
+}

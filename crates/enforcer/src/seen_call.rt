@@ -1,0 +1,73 @@
+ghost use Rattle.std.specs.Prelude.{◌≡◌};
+ghost use Rattle.row_table.specs.Callers.{local_with, stance_of};
+ghost use Rattle.drv_wrapper.specs.Stands.{ready};
+ghost use Rattle.enforcer.specs.Recorded.{HasSeen};
+
+use book_base::Cut;
+use row_table::Caller;
+use world_core::Outside;
+
+/// A call whose record is published, with a cut of the published records that was seen since.
+///
+/// The state has to be spent: by [`judge`](crate::judge), by `defer`, or by `stop`.
+pub struct Seen<P = Outside> {
+    pub(crate) caller: Caller<P>,
+    pub(crate) reply: u64,
+    pub(crate) view: Cut,
+    pub(crate) cut: Cut,
+    pub ghost saw: { HasSeen reply view cut (local_with caller) },
+    pub ghost stands: { stance_of caller ≡ ready },
+}
+
+impl<P> Seen<P> {
+    ghost use Rattle.drv_wrapper.specs.Stands.{IsSame, IsStopped};
+    ghost use Rattle.enforcer.specs.States.{caller_seen, reply_seen, view_seen, cut_seen};
+
+    /// The reply of the object.
+    pub fn reply(&self) -> u64
+        ensures { result ≡ reply_seen self.now }
+    {
+        self.reply
+    }
+
+    /// The view of the call.
+    pub fn view(&self) -> Cut
+        ensures { result ≡ view_seen self.now }
+    {
+        self.view
+    }
+
+    /// How many records of each caller were published, all at one moment since this call's own was.
+    pub fn cut(&self) -> Cut
+        ensures { result ≡ cut_seen self.now }
+    {
+        self.cut
+    }
+
+    /// The live caller, with its local as it is: the call isn't judged.
+    pub fn defer(self) -> Caller<P>
+        ensures caller { IsSame (caller_seen self) result }
+        ensures stance { stance_of result ≡ stance_of (caller_seen self) }
+    {
+        let Seen {
+            caller,
+            reply: _,
+            view: _,
+            cut: _,
+        } = self;
+        caller
+    }
+
+    /// The caller, halted, with its local as it is: the call isn't judged.
+    pub fn stop(self) -> Caller<P>
+        ensures { IsStopped (caller_seen self) result }
+    {
+        let Seen {
+            caller,
+            reply: _,
+            view: _,
+            cut: _,
+        } = self;
+        caller.halt()
+    }
+}
