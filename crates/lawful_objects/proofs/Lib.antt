@@ -1,0 +1,5 @@
+pub mod Replaying
+pub mod Pairing
+pub mod Telling
+pub mod Equipping
+pub mod Calls

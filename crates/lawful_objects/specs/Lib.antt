@@ -1,0 +1,6 @@
+pub mod Scratches
+pub mod Replays
+pub mod Pairs
+pub mod Passes
+pub mod Equipment
+pub mod Calling

@@ -1,0 +1,65 @@
+-- What a pass of a box tells, and whose it is.
+use Rattle.std.specs.Prelude.{◌≡◌, ℕ, ◌+◌, ◌*◌, ◌<◌, ◌≤◌, List, [], map, All, length, vec_len, vec_capacity}
+use Rattle.std.specs.List.{range_with_len}
+use Rattle.shared_log.specs.declared.entry.Entry.{Entry}
+use Rattle.shared_log.specs.declared.seat.LogSeat.{LogSeat}
+use Rattle.shared_log.specs.Seats.{caller_of, cap_of_seat, log_of, made_by, callers_of, cap_of, IsSeatOf}
+use Rattle.lawful_objects.specs.declared.scratch.Scratch.{Scratch}
+use Rattle.lawful_objects.specs.declared.log_pass.LogPass.{LogPass}
+use Rattle.lawful_objects.specs.declared.log_box.LogBox.{LogBox}
+use Rattle.lawful_objects.specs.Scratches.{HasRoom}
+use Rattle.lawful_objects.specs.Pairs.{pairs_of}
+
+-- The seat of a pass.
+abbrev pub seat_in : LogPass → LogSeat
+seat_in p = p.seat
+
+-- The caller of a pass, how many calls it made, how many it may make, and its calls, each as an operation and a reply.
+abbrev pub caller_of_pass : LogPass → ℕ
+caller_of_pass p = caller_of p.seat
+
+abbrev pub made_with : LogPass → ℕ
+made_with p = made_by p.seat
+
+abbrev pub cap_of_pass : LogPass → ℕ
+cap_of_pass p = cap_of_seat p.seat
+
+abbrev pub pairs_in : LogPass → List (ℕ × ℕ)
+pairs_in p = p.tools.pairs.items
+
+-- The log that a pass last saw: it ends with its caller's last call.
+abbrev pub log_in : LogPass → List Entry
+log_in p = log_of p.seat
+
+-- The pass has made no call, and may make so many.
+pub record IsFresh (calls : ℕ) (p : LogPass) : Type 0 where
+  pub made : made_with p ≡ 0
+  pub cap : cap_of_pass p ≡ calls
+  pub pairs : pairs_in p ≡ []
+
+module _ {M : Type 0} where
+  -- How many callers a box has, how many calls each may make, and its machine.
+  abbrev pub callers_in : LogBox M → ℕ
+  callers_in b = callers_of b.log
+
+  abbrev pub cap_in : LogBox M → ℕ
+  cap_in b = cap_of b.log
+
+  abbrev pub machine_in : LogBox M → M
+  machine_in b = b.machine
+
+  -- The pass is one of this box, and has room for all that its caller may ask; its pairs are what its log says, and its scratch
+  -- holds what the machine keeps of that log.
+  pub record IsPassOf (reply_to : M → List Entry → ℕ) (has_seen : M → List Entry → Scratch → Type 0) (b : LogBox M) (p : LogPass) : Type 0 where
+    pub seat : IsSeatOf b.log p.seat
+    pub pairs : pairs_in p ≡ pairs_of (reply_to (machine_in b)) (log_in p) (caller_of_pass p)
+    pub count : length (pairs_in p) ≡ made_with p
+    pub room : cap_in b ≤ vec_capacity p.tools.pairs
+    pub scratch : HasRoom (callers_in b * cap_in b) p.tools.scratch
+    pub waiting : vec_len p.tools.scratch.waiting ≡ callers_in b
+    pub seen : 0 < length (log_in p) → has_seen (machine_in b) (log_in p) p.tools.scratch
+
+  -- These are the passes of all callers of a box, in order.
+  pub record ArePassesOf (reply_to : M → List Entry → ℕ) (has_seen : M → List Entry → Scratch → Type 0) (b : LogBox M) (passes : List LogPass) : Type 0 where
+    pub callers : map caller_of_pass passes ≡ range_with_len 0 (callers_in b)
+    pub each : All (IsPassOf reply_to has_seen b) passes

@@ -1,0 +1,25 @@
+-- The rooms of a scratch.
+use Rattle.std.specs.Prelude.{◌≡◌, ℕ, ◌+◌, ◌*◌, ◌<◌, List, [], None, replicate, vec_len}
+use Rattle.book_base.specs.State.{Contents}
+use Rattle.lawful_objects.specs.declared.scratch.Scratch.{Scratch}
+
+-- An empty state with this room.
+abbrev pub empty_state : ℕ → Contents
+empty_state room = record { words = []; room = room }
+
+-- A new scratch: both states are empty and have room for one word more than n callers have calls, and nothing waits.
+pub record IsClear (n cap : ℕ) (s : Scratch) : Type 0 where
+  pub state : s.state ≡ empty_state (n * cap + 1)
+  pub other : s.other ≡ empty_state (n * cap + 1)
+  pub waiting : s.waiting.items ≡ replicate n None
+
+-- The states have room for more than so many words.
+pub record HasRoom (count : ℕ) (s : Scratch) : Type 0 where
+  pub state : count < s.state.room
+  pub other : count < s.other.room
+
+-- The scratch has the rooms that it had before.
+pub record KeepsRoom (before after : Scratch) : Type 0 where
+  pub state : after.state.room ≡ before.state.room
+  pub other : after.other.room ≡ before.other.room
+  pub waiting : vec_len after.waiting ≡ vec_len before.waiting

@@ -1,0 +1,18 @@
+//! Lawful objects: a log that a machine answers from, a tally and a cell, each asked by callers on many threads.
+#![tactic(auto)]
+
+pub mod laws;
+mod log_box;
+mod log_pass;
+mod machine;
+mod plain;
+mod scratch;
+#[cfg(test)]
+mod tests;
+
+pub use log_box::LogBox;
+pub use log_pass::LogPass;
+pub use machine::Machine;
+pub use plain::Plain;
+pub use scratch::Scratch;
+pub use shared_log::Entry;

@@ -1,0 +1,134 @@
+ghost use Rattle.std.specs.Prelude.{◌≡◌, ℕ, ◌+◌, ◌<◌, ◌≤◌, [], ◌∷◌, ◌++◌, Some, IfOk, All, length, map, vec_len, vec_capacity};
+ghost use Rattle.book_base.specs.declared.TheConstants.{MAX_CALLERS, MAX_CALLS};
+ghost use Rattle.shared_log.specs.Entries.{BeginsWith, IsAfterCall};
+ghost use Rattle.lawful_objects.specs.Pairs.{pairs_of};
+
+use crate::log_pass::{LogPass, Tools};
+use crate::machine::Machine;
+use book_base::{MAX_CALLERS, MAX_CALLS, NoMemory, OpWord};
+use drv_wrapper::{Announced, BlackBox};
+use shared_log::{Entry, LogSeat, SharedLog};
+use std::alloc::Global;
+
+/// A lawful object: its callers share one log of their calls, and a machine answers each call from the log up
+/// to it.
+///
+/// The log is one order of all calls, so the object does what the machine does in that order, whatever the
+/// threads do.
+pub struct LogBox<M: Machine> {
+    pub(crate) machine: M,
+    pub(crate) log: SharedLog,
+}
+
+impl<M: Machine> LogBox<M> {
+    ghost use Rattle.lawful_objects.specs.Passes.{callers_in, cap_in, machine_in, caller_of_pass, made_with, cap_of_pass, pairs_in, log_in, IsPassOf, ArePassesOf, IsFresh};
+    ghost use Rattle.lawful_objects.specs.Equipment.{AreReady};
+    ghost use Rattle.shared_log.specs.Seats.{log_of, AreSeatsOf};
+
+    /// Makes one call of the pass's caller: it is appended to the log, and answered from the log up to it. It
+    /// takes no memory.
+    pub fn make(&self, pass: &mut LogPass, op: OpWord) -> u64
+        requires own { IsPassOf M.reply_to M.has_seen self.now pass.old }
+        requires left { made_with pass.old < cap_of_pass pass.old }
+        ensures own { IsPassOf M.reply_to M.has_seen self.now pass.new }
+        ensures same { (caller_of_pass pass.new ≡ caller_of_pass pass.old) × (cap_of_pass pass.new ≡ cap_of_pass pass.old) }
+        ensures made { made_with pass.new ≡ made_with pass.old + 1 }
+        ensures log { IsAfterCall (caller_of_pass pass.old) op (log_in pass.old) (log_in pass.new) }
+        ensures reply { result ≡ M.reply_to (machine_in self.now) (log_in pass.new) }
+        ensures pairs { pairs_in pass.new ≡ pairs_in pass.old ++ (op, result) ∷ [] }
+    {
+        let known = pass.seat.log().len();
+        self.log.append(&mut pass.seat, op);
+        let reply = self
+            .machine
+            .go_on(pass.seat.log(), known, &mut pass.tools.scratch);
+        pass.tools.pairs.push((op, reply)).unwrap();
+        reply
+    }
+
+    // Each seat gets its tools.
+    fn equip(
+        &self,
+        seats: Vec<LogSeat>,
+        mut all_tools: Vec<Tools>,
+        mut passes: Vec<LogPass>,
+    ) -> Vec<LogPass>
+        requires seats { AreSeatsOf self.now.log seats.items × All (λ s. log_of s ≡ []) seats.items }
+        requires tools { (vec_len all_tools ≡ callers_in self.now) × All (AreReady (callers_in self.now) (cap_in self.now)) all_tools.items }
+        requires passes { (passes.items ≡ []) × (callers_in self.now ≤ vec_capacity passes) }
+        ensures passes { ArePassesOf M.reply_to M.has_seen self.now result.items }
+        ensures fresh { All (IsFresh (cap_in self.now)) result.items }
+    {
+        let mut rest = seats.into_iter();
+        while let Some(seat) = rest.next() {
+            let Some(tools) = all_tools.pop() else {
+                unreachable!()
+            };
+            passes.push(LogPass { seat, tools }).unwrap();
+        }
+        rest.destroy_empty();
+        passes
+    }
+}
+
+impl<M: Machine + Drop> LogBox<M> {
+    ghost use Rattle.lawful_objects.specs.Passes.{callers_in, cap_in, machine_in, caller_of_pass, made_with, cap_of_pass, pairs_in, log_in, ArePassesOf, IsFresh};
+
+    /// A box for `n` callers with `cap` calls each, and a pass for each caller, in order. The log is empty.
+    pub fn open(
+        alloc: Global,
+        machine: M,
+        n: u32,
+        cap: u64,
+    ) -> Result<(LogBox<M>, Vec<LogPass>), NoMemory>
+        requires some_callers { 1 ≤ n }
+        requires few_callers { n ≤ MAX_CALLERS }
+        requires some_calls { 1 ≤ cap }
+        requires few_calls { cap ≤ MAX_CALLS }
+        ensures log { IfOk result (λ r. (callers_in r.0 ≡ n) × (cap_in r.0 ≡ cap) × (machine_in r.0 ≡ machine)) }
+        ensures passes { IfOk result (λ r. ArePassesOf M.reply_to M.has_seen r.0 r.1.items) }
+        ensures fresh { IfOk result (λ r. All (IsFresh cap) r.1.items) }
+    {
+        let tools = Tools::for_all(alloc, n, cap)?;
+        let passes = Vec::with_capacity(alloc, n as usize)?;
+        match SharedLog::open(alloc, n, cap) {
+            Ok((log, seats)) => {
+                let whole = LogBox { machine, log };
+                let passes = whole.equip(seats, tools, passes);
+                Ok((whole, passes))
+            }
+            Err(failed) => {
+                passes.destroy_empty();
+                Err(failed)
+            }
+        }
+    }
+
+    /// The one log of all calls. The passes of all callers come back, in order. It takes no memory.
+    pub fn close(self, passes: Vec<LogPass>) -> Vec<Entry>
+        requires passes { ArePassesOf M.reply_to M.has_seen self passes.items }
+        ensures callers { All (λ e. e.caller < callers_in self) result.items }
+        ensures fronts { All (λ p. BeginsWith result.items (log_in p)) passes.items }
+        ensures told { All (λ p. pairs_in p ≡ pairs_of (M.reply_to (machine_in self)) result.items (caller_of_pass p)) passes.items }
+    {
+        let LogBox { machine: _, log } = self;
+        log.close(passes)
+    }
+}
+
+impl<M: Machine> BlackBox for LogBox<M> {
+    ghost use Rattle.lawful_objects.specs.Passes.{IsPassOf, pairs_in};
+    ghost use Rattle.std.specs.Prelude.{ℕ, List, length};
+    ghost use Rattle.std.proofs.Common.{sym, ap, ◌∙◌};
+    ghost use Rattle.std.proofs.lemmas.Option.{same_Some};
+
+    type Pass = LogPass;
+
+    ghost is_own = { IsPassOf M.reply_to M.has_seen };
+
+    ghost tells_each = { λ b pass pairs own told. ap (λ (l : List (ℕ × ℕ)). length l) (sym (same_Some (pairs_in pass) pairs told)) ∙ own.count };
+
+    fn call(&self, pass: &mut LogPass, announced: &Announced) -> u64 {
+        self.make(pass, announced.op())
+    }
+}

@@ -1,0 +1,42 @@
+ghost use Rattle.std.specs.Prelude.{◌≡◌, ℕ, ◌<◌, List, All, length, take, vec_len};
+ghost use Rattle.shared_log.specs.declared.entry.Entry.{Entry as Item};
+ghost use Rattle.lawful_objects.specs.declared.scratch.Scratch.{Scratch as Tool};
+ghost use Rattle.lawful_objects.specs.Scratches.{HasRoom, KeepsRoom};
+
+use crate::scratch::Scratch;
+use shared_log::Entry;
+
+/// How an object answers from the log of all calls: the meaning is the reply to the last entry of a log.
+pub trait Machine {
+    /// The reply to the last entry of a log.
+    ghost reply_to: { Self → List Item → ℕ };
+
+    /// What the scratch holds after the machine has answered a log, if that serves the next answer. A machine
+    /// that leaves it out keeps nothing there.
+    ghost has_seen: { Self → List Item → Tool → Type 0 } = { λ machine log scratch. Unit {0} };
+
+    /// The reply to the last entry of the log.
+    ///
+    /// It may use the scratch as it likes: its rooms stay, and what it held before doesn't matter.
+    fn answer(&self, log: &[Entry], scratch: &mut Scratch) -> u64
+        requires some { 0 < length log.now }
+        requires callers { All (λ e. e.caller < vec_len scratch.old.waiting) log.now }
+        requires room { HasRoom (length log.now) scratch.old }
+        ensures reply { result ≡ reply_to self.now log.now }
+        ensures room { KeepsRoom scratch.old scratch.new }
+        ensures seen { has_seen self.now log.now scratch.new };
+
+    /// The same, where the machine may go on from its last answer: of the first `known` entries the scratch
+    /// holds what the machine keeps.
+    fn go_on(&self, log: &[Entry], known: usize, scratch: &mut Scratch) -> u64
+        requires more { known < length log.now }
+        requires callers { All (λ e. e.caller < vec_len scratch.old.waiting) log.now }
+        requires room { HasRoom (length log.now) scratch.old }
+        requires seen { 0 < known → has_seen self.now (take known log.now) scratch.old }
+        ensures reply { result ≡ reply_to self.now log.now }
+        ensures room { KeepsRoom scratch.old scratch.new }
+        ensures seen { has_seen self.now log.now scratch.new }
+    {
+        self.answer(log, scratch)
+    }
+}

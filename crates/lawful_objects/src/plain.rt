@@ -1,0 +1,50 @@
+ghost use Rattle.std.specs.Prelude.{◌≡◌, ◌+◌, ◌≤◌, length};
+
+use crate::machine::Machine;
+use crate::scratch::Scratch;
+use book_base::{SeqObject, State};
+use shared_log::Entry;
+
+/// The machine that answers as a sequential object does: it replays the operations of the log, and goes on from
+/// the list that it reached at its last answer.
+#[derive(Clone, Copy, Debug)]
+pub struct Plain<S: SeqObject> {
+    pub object: S,
+}
+
+impl<S: SeqObject> Plain<S> {
+    ghost use Rattle.lawful_objects.specs.Replays.{list_after, last_reply};
+
+    // Makes the operations of a log. The reply to the last one.
+    fn replay(&self, log: &[Entry], state: &mut State) -> u64
+        requires room { length state.old.words + length log.now ≤ state.old.room }
+        ensures list { state.new ≡ record state.old { words = list_after (S.next self.now.object) state.old.words log.now } }
+        ensures reply { result ≡ last_reply (S.next self.now.object) state.old.words log.now }
+    {
+        let mut reply = 0;
+        for entry in log {
+            reply = self.object.step(state, entry.op);
+        }
+        reply
+    }
+}
+
+impl<S: SeqObject> Machine for Plain<S> {
+    ghost use Rattle.lawful_objects.specs.Replays.{list_after, last_reply};
+
+    ghost reply_to = { λ m log. last_reply (S.next m.object) (S.init m.object) log };
+
+    ghost has_seen = { λ m log scratch. scratch.state.words ≡ list_after (S.next m.object) (S.init m.object) log };
+
+    fn answer(&self, log: &[Entry], scratch: &mut Scratch) -> u64 {
+        self.object.reset(&mut scratch.state);
+        self.replay(log, &mut scratch.state)
+    }
+
+    fn go_on(&self, log: &[Entry], known: usize, scratch: &mut Scratch) -> u64 {
+        if known == 0 {
+            return self.answer(log, scratch);
+        }
+        self.replay(&log[known..], &mut scratch.state)
+    }
+}

@@ -1,0 +1,40 @@
+ghost use Rattle.std.specs.Prelude.{◌≡◌, ◌≤◌, None, IfOk};
+ghost use Rattle.book_base.specs.declared.TheConstants.{MAX_CALLERS, MAX_CALLS};
+
+use book_base::{MAX_CALLERS, MAX_CALLS, NoMemory, OpWord, State};
+use std::alloc::Global;
+
+/// What a machine works on while it answers, so that it takes no memory.
+///
+/// What it holds between two answers doesn't matter.
+#[derive(Debug, Drop)]
+pub struct Scratch {
+    pub state: State,
+    pub other: State,
+    /// A place for each caller.
+    pub waiting: Vec<Option<OpWord>>,
+}
+
+impl Scratch {
+    ghost use Rattle.lawful_objects.specs.Scratches.{IsClear};
+
+    /// A scratch for logs of `n` callers with `cap` calls each: both states are empty, with room for one word
+    /// more than there are calls, and nothing waits.
+    pub fn new(alloc: Global, n: u32, cap: u64) -> Result<Scratch, NoMemory>
+        requires some_callers { 1 ≤ n }
+        requires few_callers { n ≤ MAX_CALLERS }
+        requires some_calls { 1 ≤ cap }
+        requires few_calls { cap ≤ MAX_CALLS }
+        ensures { IfOk result (IsClear n cap) }
+    {
+        let room = n as u64 * cap + 1;
+        let state = State::with_room(alloc, room)?;
+        let other = State::with_room(alloc, room)?;
+        let waiting = Vec::from_elem(alloc, None, n as usize)?;
+        Ok(Scratch {
+            state,
+            other,
+            waiting,
+        })
+    }
+}

@@ -1,0 +1,11 @@
+pub mod Logs
+pub mod Room
+pub mod Holding
+pub mod Numbers
+pub mod Keeping
+pub mod Stepping
+pub mod Asking
+pub mod Learning
+pub mod Parting
+pub mod Dealing
+pub mod Closing

@@ -1,0 +1,39 @@
+-- What a caller knows of the log, and what it has of its next call.
+use Rattle.std.specs.Prelude.{◌≡◌, ℕ, ◌+◌, ◌<◌, ◌≤◌, List, [], length, slice_index, Option, Some, None}
+use Rattle.shared_log.specs.declared.entry.Entry.{Entry}
+use Rattle.shared_log.specs.Entries.{calls_by, BeginsWith}
+use Rattle.shared_log.specs.Words.{number_of, operation_index}
+
+-- The log as far as a caller knows it, and the words of its next operation that it has stored.
+pub record Hand : Type 0 where
+  pub log : List Entry
+  pub staged : List ℕ
+
+-- What a seat knows: the hands that are with it, by caller.
+abbrev pub View : Type 0
+View = List (Option Hand)
+
+abbrev pub hand : List Entry → List ℕ → Hand
+hand log staged = record { log = log; staged = staged }
+
+-- The hand of a caller that knows nothing yet; it stands for a hand that isn't there, too.
+abbrev pub empty : Hand
+empty = hand [] []
+
+abbrev pub the : Option Hand → Hand
+the None = empty
+the (Some h) = h
+
+-- The number of the next call of a caller with this hand.
+abbrev pub next_number : ℕ → ℕ → Hand → ℕ
+next_number cap i h = number_of cap i (length (calls_by i h.log))
+
+-- A hand of caller i is right beside these words and this log: the log begins with what the caller knows of it, and has no other
+-- entries of the caller; and what the caller has staged stands in the words.
+pub record Fits (n cap : ℕ) (words : List ℕ) (log : List Entry) (i : ℕ) (h : Hand) : Type 0 where
+  pub caller : i < n
+  pub front : BeginsWith log h.log
+  pub own : calls_by i log ≡ calls_by i h.log
+  pub room : 0 < length h.staged → length (calls_by i h.log) < cap
+  pub few : length h.staged ≤ 2
+  pub staged : (half : ℕ) → half < length h.staged → slice_index words (operation_index (next_number cap i h) + half) ≡ slice_index h.staged half

@@ -1,0 +1,59 @@
+-- The rule of the table, and what each kind of step tells.
+use Rattle.std.specs.Prelude.{◌≡◌, ◌≢◌, ℕ, ◌+◌, ◌<◌, ◌^◌, List, [], ◌∷◌, ◌++◌, length, slice_set, Option, Some, None}
+use Rattle.atomic_table.specs.Table.{State, Me}
+use Rattle.book_base.specs.OperationWord.{low_of, high_of}
+use Rattle.shared_log.specs.declared.entry.Entry.{Entry}
+use Rattle.shared_log.specs.Entries.{calls_by, entry, IsWithin}
+use Rattle.shared_log.specs.Words.{number_behind, operation_index, ticket_index, AreWordsOf}
+use Rattle.shared_log.specs.Holders.{has, AreHeld}
+use Rattle.shared_log.specs.Hands.{Hand, View, hand, the, Fits}
+
+-- There is one log: the words are its words, and the hand of each caller is with one seat and right beside them.
+pub record HaveOneLog (n cap : ℕ) (words : List ℕ) (views : List View) : Type 0 where
+  pub log : List Entry
+  pub stand : AreWordsOf n cap words log
+  pub hands : AreHeld (Fits n cap words log) views
+
+-- The rule: the words and the views of the table have one log.
+abbrev pub Ruled : ℕ → ℕ → State (Unit {0}) View → Type 0
+Ruled n cap t = HaveOneLog n cap t.words t.views
+
+-- A step changes the hand of one caller alone, and this is so of the hand before and the hand after.
+pub record Turns (who : ℕ) (me after : Me (Unit {0}) View) (tells : Hand → Hand → Type 0) : Type 0 where
+  pub next : Hand
+  pub moved : after ≡ (slice_set me.0 who (Some next), me.1)
+  pub told : tells (the (has me.0 who)) next
+
+-- A store stages one word more.
+abbrev pub Stages : ℕ → Hand → Hand → Type 0
+Stages word h next = next ≡ hand h.log (h.staged ++ word ∷ [])
+
+-- A filled ticket at the first place that a caller doesn't know: it learns the entry there, which is another's.
+pub record Learns (n cap who found : ℕ) (h next : Hand) : Type 0 where
+  pub entry : Entry
+  pub log : next ≡ hand (h.log ++ entry ∷ []) h.staged
+  pub ticket : found ≡ number_behind cap h.log entry + 1
+  pub other : calls_by who next.log ≡ calls_by who h.log
+  pub within : IsWithin n cap next.log
+
+-- A load of the ticket at that place: it is free, or an entry is learnt.
+pub record Looks (n cap who found : ℕ) (h next : Hand) : Type 0 where
+  pub free : found ≡ 0 → next ≡ h
+  pub filled : found ≢ 0 → Learns n cap who found h next
+
+-- An exchange of a free ticket at that place for the caller's own: it is placed, or an entry is learnt.
+pub record Places (n cap who found : ℕ) (h next : Hand) : Type 0 where
+  pub placed : found ≡ 0 → (op : ℕ) → h.staged ≡ low_of op ∷ high_of op ∷ [] → (next ≡ hand (h.log ++ entry who op ∷ []) []) × IsWithin n cap next.log
+  pub filled : found ≢ 0 → Learns n cap who found h next
+
+-- A load of a word of an operation of which the caller knows the entry.
+pub record Reads (cap word found : ℕ) (h next : Hand) : Type 0 where
+  pub same : next ≡ h
+  pub low : (before rest : List Entry) (e : Entry) → h.log ≡ before ++ e ∷ rest → word ≡ operation_index (number_behind cap before e) → found ≡ low_of e.op
+  pub high : (before rest : List Entry) (e : Entry) → h.log ≡ before ++ e ∷ rest → word ≡ operation_index (number_behind cap before e) + 1 → found ≡ high_of e.op
+
+-- What a caller that means to append an operation finds at the first place that it doesn't know: its own ticket, now, or the entry
+-- of another's call.
+abbrev pub Finds : ℕ → ℕ → ℕ → ℕ → Hand → Hand → Option Entry → Type 0
+Finds n cap who op h next None = (next ≡ hand (h.log ++ entry who op ∷ []) []) × IsWithin n cap next.log
+Finds n cap who op h next (Some e) = (next ≡ hand (h.log ++ e ∷ []) h.staged) × (calls_by who next.log ≡ calls_by who h.log) × IsWithin n cap next.log

@@ -1,0 +1,60 @@
+-- Whose a seat is, what it has of the log, and which log it is of.
+use Rattle.std.specs.Prelude.{◌≡◌, ℕ, ◌+◌, ◌*◌, ◌<◌, ◌≤◌, List, [], ◌∷◌, map, length, All, vec_capacity}
+use Rattle.std.specs.List.{range_with_len}
+use Rattle.shared_log.specs.declared.entry.Entry.{Entry}
+use Rattle.shared_log.specs.declared.seat.OneSeat.{OneSeat}
+use Rattle.shared_log.specs.declared.seat.LogSeat.{LogSeat}
+use Rattle.shared_log.specs.declared.shared_log.SharedLog.{SharedLog}
+use Rattle.shared_log.specs.Entries.{calls_by, BeginsWith, IsWithin, IsAfterCall}
+use Rattle.shared_log.specs.Holders.{has}
+use Rattle.shared_log.specs.Hands.{Hand, the}
+
+-- The hand that is with the seat of one caller.
+abbrev pub hand_with : OneSeat → Hand
+hand_with s = the (has s.seat.me.0 s.who)
+
+-- The number of the caller, how many calls it may make, the log up to its last call, and how many calls it has made.
+abbrev pub caller_of : LogSeat → ℕ
+caller_of s = s.seat.who
+
+abbrev pub cap_of_seat : LogSeat → ℕ
+cap_of_seat s = s.cap
+
+abbrev pub log_of : LogSeat → List Entry
+log_of s = s.log.items
+
+abbrev pub made_by : LogSeat → ℕ
+made_by s = length (calls_by (caller_of s) (log_of s))
+
+-- How many callers a log has, and how many calls each may make.
+abbrev pub callers_of : SharedLog → ℕ
+callers_of l = l.callers
+
+abbrev pub cap_of : SharedLog → ℕ
+cap_of l = l.cap
+
+-- The seat of one caller is one of this log's table.
+pub record IsPlaced (l : SharedLog) (s : OneSeat) : Type 0 where
+  pub table : s.seat.table_id ≡ l.table.shared.table_id
+  pub caller : s.who < l.callers
+
+-- The seat is one of this log: its caller is below the callers, it has room for all calls, and what it knows is within n and cap.
+pub record IsSeatOf (l : SharedLog) (s : LogSeat) : Type 0 where
+  pub placed : IsPlaced l s.seat
+  pub cap : s.cap ≡ l.cap
+  pub room : l.callers * l.cap ≤ vec_capacity s.log
+  pub within : IsWithin l.callers l.cap s.log.items
+
+-- These are the seats of all callers of a log, by caller.
+pub record AreSeatsOf (l : SharedLog) (seats : List LogSeat) : Type 0 where
+  pub callers : map caller_of seats ≡ range_with_len 0 (callers_of l)
+  pub each : All (IsSeatOf l) seats
+
+-- The seat after a call of its caller.
+abbrev pub HasCalled : ℕ → LogSeat → LogSeat → Type 0
+HasCalled op before after = IsAfterCall (caller_of before) op (log_of before) (log_of after)
+
+-- The one log of some seats: it begins with what each knows, and its entries of each caller are those that this caller knows.
+pub record IsOneLog (log : List Entry) (seats : List LogSeat) : Type 0 where
+  pub fronts : All (λ s. BeginsWith log (log_of s)) seats
+  pub calls : All (λ s. calls_by (caller_of s) log ≡ calls_by (caller_of s) (log_of s)) seats

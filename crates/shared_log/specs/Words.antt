@@ -1,0 +1,38 @@
+-- Where the words of a log of n callers with cap calls each lie, and what they say of its entries.
+use Rattle.std.specs.Prelude.{◌≡◌, ℕ, ◌+◌, ◌*◌, ◌<◌, ◌≤◌, List, ◌∷◌, ◌++◌, length, slice_index}
+use Rattle.book_base.specs.OperationWord.{low_of, high_of}
+use Rattle.shared_log.specs.declared.entry.Entry.{Entry}
+use Rattle.shared_log.specs.Entries.{calls_by, IsWithin}
+
+-- The number of call k of caller i, over the calls of all callers.
+abbrev pub number_of : ℕ → ℕ → ℕ → ℕ
+number_of cap i k = i * cap + k
+
+-- The low word of the call with this number; its high word is the next.
+abbrev pub operation_index : ℕ → ℕ
+operation_index number = 2 * number
+
+-- The ticket at a place of the log.
+abbrev pub ticket_index : ℕ → ℕ → ℕ → ℕ
+ticket_index n cap place = 2 * (n * cap) + place
+
+-- All words of the table.
+abbrev pub word_count : ℕ → ℕ → ℕ
+word_count n cap = 3 * (n * cap)
+
+-- The number of the call of an entry that stands behind some others: its caller's calls are numbered in their order.
+abbrev pub number_behind : ℕ → List Entry → Entry → ℕ
+number_behind cap before e = number_of cap e.caller (length (calls_by e.caller before))
+
+-- An entry behind some others is in the words: its ticket, and both words of its operation.
+pub record IsStored (n cap : ℕ) (words : List ℕ) (before : List Entry) (e : Entry) : Type 0 where
+  pub ticket : slice_index words (ticket_index n cap (length before)) ≡ number_behind cap before e + 1
+  pub low : slice_index words (operation_index (number_behind cap before e)) ≡ low_of e.op
+  pub high : slice_index words (operation_index (number_behind cap before e) + 1) ≡ high_of e.op
+
+-- The words of a log: its entries are stored, and the tickets behind them are free.
+pub record AreWordsOf (n cap : ℕ) (words : List ℕ) (log : List Entry) : Type 0 where
+  pub count : length words ≡ word_count n cap
+  pub within : IsWithin n cap log
+  pub stored : (before rest : List Entry) (e : Entry) → log ≡ before ++ e ∷ rest → IsStored n cap words before e
+  pub free : (place : ℕ) → length log ≤ place → place < n * cap → slice_index words (ticket_index n cap place) ≡ 0

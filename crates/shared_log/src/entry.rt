@@ -1,0 +1,8 @@
+use book_base::OpWord;
+
+/// One call in a log: whose it is, and its operation.
+#[derive(Clone, Copy, Debug, PartialEq, Eq)]
+pub struct Entry {
+    pub caller: u32,
+    pub op: OpWord,
+}

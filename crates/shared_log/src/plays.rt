@@ -1,0 +1,109 @@
+//! The rule of the table, and what its steps tell. These types are for the proofs alone.
+ghost use Rattle.std.specs.Prelude.{ℕ, [], None, slice_set};
+ghost use Rattle.shared_log.specs.Holders.{has, only, whole, joined};
+ghost use Rattle.shared_log.specs.Hands.{the, empty};
+ghost use Rattle.shared_log.specs.Rule.{Ruled, Turns, Stages, Looks, Places, Reads};
+
+use atomic_table::{Join, Play, Split, TableRule};
+use std::marker::{Brand, Model, PhantomData};
+
+/// What a seat knows: the hands of the callers that are with it. No value of it is made.
+pub struct Holding;
+
+impl Model for Holding {
+    ghost use Rattle.std.specs.Prelude.{[]};
+    ghost use Rattle.shared_log.specs.Hands.{View};
+
+    ghost Value = { View };
+
+    ghost view = { λ _. [] };
+}
+
+/// What the table is told once: its callers, and its cap of calls of each.
+#[derive(Drop)]
+pub struct Key {
+    pub callers: u32,
+    pub cap: u64,
+}
+
+/// The rule of the table: there is one log.
+pub struct OneLog;
+
+impl TableRule<(), Holding, Key> for OneLog {
+    ghost holds = { λ key. Ruled key.callers key.cap };
+
+    ghost first = { λ key. whole key.callers empty };
+}
+
+/// Whose step it is, in a log of how many callers with how many calls each. A call at `Brand` picks it.
+pub trait Part {
+    ghost callers: { ℕ };
+
+    ghost cap: { ℕ };
+
+    ghost who: { ℕ };
+}
+
+impl Part for Brand {
+    ghost callers = { 0 };
+
+    ghost cap = { 0 };
+
+    ghost who = { 0 };
+}
+
+/// A store of a word of the next operation.
+pub struct Stage<J> {
+    part: PhantomData<J>,
+}
+
+impl<J: Part> Play<(), Holding> for Stage<J> {
+    ghost then = { λ st me _ after. Turns J.who me after (Stages st.first) };
+}
+
+/// A load of the ticket at the first place that isn't known.
+pub struct Look<J> {
+    part: PhantomData<J>,
+}
+
+impl<J: Part> Play<(), Holding> for Look<J> {
+    ghost then = { λ st me found after. Turns J.who me after (Looks J.callers J.cap J.who found) };
+}
+
+/// A compare-exchange of the ticket there.
+pub struct Place<J> {
+    part: PhantomData<J>,
+}
+
+impl<J: Part> Play<(), Holding> for Place<J> {
+    ghost then = { λ st me found after. Turns J.who me after (Places J.callers J.cap J.who found) };
+}
+
+/// A load of a word of an operation.
+pub struct Read<J> {
+    part: PhantomData<J>,
+}
+
+impl<J: Part> Play<(), Holding> for Read<J> {
+    ghost then = { λ st me found after. Turns J.who me after (Reads J.cap st.word found) };
+}
+
+/// One caller gets a seat of its own.
+pub struct Leaves<J> {
+    part: PhantomData<J>,
+}
+
+impl<J: Part> Split<Holding> for Leaves<J> {
+    ghost left = { λ v. slice_set v J.who None };
+
+    ghost right = { λ v. only J.who (the (has v J.who)) };
+}
+
+/// The callers of another seat come to this one, and its view is spent.
+pub struct Returns;
+
+impl Join<Holding> for Returns {
+    ghost both = { joined };
+
+    ghost spent = { [] };
+}

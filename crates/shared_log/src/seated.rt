@@ -1,0 +1,22 @@
+ghost use Rattle.std.specs.Prelude.{◌≡◌};
+ghost use Rattle.shared_log.specs.declared.seat.LogSeat.{LogSeat as OwnSeat};
+
+use crate::seat::LogSeat;
+
+/// What has the seat of one caller of a log: the seat itself, or what a layer above keeps beside it.
+pub trait Seated {
+    /// The seat.
+    ghost seat: { Self → OwnSeat };
+
+    /// Gives the seat back, and lets all else go.
+    fn into_seat(self) -> LogSeat
+        ensures { result ≡ seat self };
+}
+
+impl Seated for LogSeat {
+    ghost seat = { λ s. s };
+
+    fn into_seat(self) -> LogSeat {
+        self
+    }
+}
