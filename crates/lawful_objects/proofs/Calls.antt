@@ -1,5 +1,5 @@
 -- Passes that are asked, one of them or each of them, are still the passes of their box.
-use Rattle.std.proofs.Common.{◌≡◌, ℕ, ◌+◌, ◌<◌, ◌≤◌, List, [], ◌∷◌, ◌++◌, length, map, take, drop, get_or, slice_set, refl, sym, ap, ◌∙◌, subst, arith}
+use Rattle.std.proofs.Common.{◌≡◌, ℕ, ◌+◌, ◌<◌, List, [], ◌∷◌, ◌++◌, length, map, take, drop, get_or, slice_set, refl, sym, ap, ◌∙◌, subst, arith}
 use Rattle.std.specs.List.{All, AllZip}
 use Rattle.std.proofs.Math.Seq.{map-set_same}
 use Rattle.std.proofs.lemmas.List.{append-nil, nil_from_length, length-drop, take_all}
@@ -8,7 +8,7 @@ use Rattle.shared_log.specs.declared.entry.Entry.{Entry}
 use Rattle.lawful_objects.specs.declared.scratch.Scratch.{Scratch}
 use Rattle.lawful_objects.specs.declared.log_pass.LogPass.{LogPass}
 use Rattle.lawful_objects.specs.declared.log_box.LogBox.{LogBox}
-use Rattle.lawful_objects.specs.Passes.{caller_of_pass, made_with, callers_in, IsPassOf, ArePassesOf}
+use Rattle.lawful_objects.specs.Passes.{caller_of_pass, made_with, IsPassOf, ArePassesOf}
 use Rattle.lawful_objects.specs.Calling.{HasCalledOnce}
 
 AllZip-append : {X Y : Type 0} (R : X → Y → Type 0) (xs zs : List X) (ys ws : List Y) → AllZip R xs ys → AllZip R zs ws → AllZip R (xs ++ zs) (ys ++ ws)

@@ -1,6 +1,6 @@
 -- Passes that are made of the seats of a log, each with its tools.
-use Rattle.std.proofs.Common.{◌≡◌, ℕ, ◌+◌, ◌*◌, ◌<◌, ◌≤◌, List, [], ◌∷◌, ◌++◌, length, map, Option, None, refl, sym, ap, ◌∙◌, subst, arith, append_assoc, vec_len, vec_capacity}
-use Rattle.std.specs.List.{All, range_with_len}
+use Rattle.std.proofs.Common.{◌≡◌, ℕ, ◌*◌, ◌≤◌, List, [], ◌∷◌, ◌++◌, length, map, Option, None, sym, ap, ◌∙◌, subst, arith, append_assoc, vec_len, vec_capacity}
+use Rattle.std.specs.List.{All}
 use Rattle.std.proofs.lemmas.List.{append-nil, map-append, length-map, length-replicate, nil_from_length}
 use Rattle.std.proofs.lemmas.List.FromFn.{length-range_with_len}
 use Rattle.std.proofs.lemmas.List.Elements.{All-nil, All-cons, All-head, All-tail, All-push, All-weaker}
@@ -13,7 +13,7 @@ use Rattle.shared_log.specs.Seats.{caller_of, log_of, callers_of, IsSeatOf, AreS
 use Rattle.lawful_objects.specs.declared.log_pass.LogPass.{LogPass}
 use Rattle.lawful_objects.specs.declared.log_box.LogBox.{LogBox}
 use Rattle.lawful_objects.specs.Pairs.{pairs_of}
-use Rattle.lawful_objects.specs.Passes.{seat_in, caller_of_pass, made_with, callers_in, cap_in, IsFresh, IsPassOf, ArePassesOf}
+use Rattle.lawful_objects.specs.Passes.{seat_in, callers_in, cap_in, IsFresh, IsPassOf, ArePassesOf}
 use Rattle.book_base.specs.State.{Contents}
 use Rattle.lawful_objects.specs.declared.scratch.Scratch.{Scratch}
 use Rattle.lawful_objects.specs.declared.log_pass.Tools.{Tools}

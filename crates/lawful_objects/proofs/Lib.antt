@@ -3,3 +3,5 @@ pub mod Pairing
 pub mod Telling
 pub mod Equipping
 pub mod Calls
+pub mod Forming
+pub mod Wording

@@ -1,11 +1,11 @@
 -- The pairs of a caller: of a log, of one that goes on, and of one that gets one entry more.
-use Rattle.std.proofs.Common.{◌≡◌, ◌≢◌, ℕ, ◌+◌, ◌==◌, if◌then◌else◌, Bool, true, false, List, [], ◌∷◌, ◌++◌, map, length, refl, sym, ap, ◌∙◌, subst, inl, inr, append_assoc, eq-eqb, ne_eqb}
+use Rattle.std.proofs.Common.{◌≡◌, ℕ, ◌==◌, true, false, List, [], ◌∷◌, ◌++◌, map, refl, sym, ap, ◌∙◌, inl, inr, append_assoc}
 use Rattle.std.specs.List.{filter}
-use Rattle.std.proofs.lemmas.Bool.{cases_eq, cases_Bool, cond-true, cond-false}
+use Rattle.std.proofs.lemmas.Bool.{cases_Bool, cond-true, cond-false}
 use Rattle.std.proofs.lemmas.List.{append-nil}
 use Rattle.shared_log.specs.declared.entry.Entry.{Entry}
-use Rattle.shared_log.specs.Entries.{calls_by, BeginsWith, entry, IsAfterCall}
-use Rattle.lawful_objects.specs.Pairs.{pairs_behind, pairs_of, PairsHaveTheCalls}
+use Rattle.shared_log.specs.Entries.{calls_by}
+use Rattle.lawful_objects.specs.Pairs.{pairs_behind, PairsHaveTheCalls}
 
 module _ (answer : List Entry → ℕ) (i : ℕ) where
   -- one entry in front, of the caller or of another

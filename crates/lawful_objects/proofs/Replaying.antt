@@ -1,5 +1,5 @@
 -- A replay of a log goes on by one step for each entry.
-use Rattle.std.proofs.Common.{◌≡◌, ◌≢◌, ℕ, suc, ◌+◌, ◌-◌, ◌<◌, ◌≤◌, List, [], ◌∷◌, ◌++◌, length, take, drop, get_or, refl, sym, ap, ◌∙◌, subst, arith}
+use Rattle.std.proofs.Common.{◌≡◌, ℕ, ◌+◌, ◌-◌, ◌<◌, ◌≤◌, List, [], ◌∷◌, ◌++◌, length, take, drop, get_or, refl, sym, ap, ◌∙◌, arith}
 use Rattle.std.proofs.lemmas.List.{take_more, take_all, length-take, length-drop, take-append-drop}
 use Rattle.shared_log.specs.declared.entry.Entry.{Entry}
 use Rattle.lawful_objects.specs.Replays.{list_after, last_reply, LastReplyIsNext}

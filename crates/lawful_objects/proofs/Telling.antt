@@ -1,15 +1,10 @@
 -- What a pass tells is what its log, and any log that goes on from it, says of its caller.
-use Rattle.std.proofs.Common.{◌≡◌, ℕ, ◌+◌, ◌*◌, ◌<◌, ◌≤◌, List, [], ◌∷◌, ◌++◌, length, map, Some, refl, sym, ap, ◌∙◌, subst, arith, append_assoc, length-append, eq-eqb}
-use Rattle.std.specs.List.{All, range_with_len}
+use Rattle.std.proofs.Common.{◌≡◌, ℕ, List, [], ◌∷◌, ◌++◌, length, refl, sym, ap, ◌∙◌, arith, length-append, eq-eqb}
 use Rattle.std.proofs.lemmas.List.{append-nil, append_cancel_right, nil_from_length, length-map}
-use Rattle.std.proofs.lemmas.Option.{same_Some}
 use Rattle.shared_log.specs.declared.entry.Entry.{Entry}
 use Rattle.shared_log.specs.Entries.{calls_by, BeginsWith, IsAfterCall, entry}
 use Rattle.shared_log.proofs.Logs.{calls_by-append, calls_by-push_own}
-use Rattle.lawful_objects.specs.declared.log_pass.LogPass.{LogPass}
-use Rattle.lawful_objects.specs.declared.log_box.LogBox.{LogBox}
-use Rattle.lawful_objects.specs.Pairs.{pairs_behind, pairs_of}
-use Rattle.lawful_objects.specs.Passes.{made_with, pairs_in, IsPassOf}
+use Rattle.lawful_objects.specs.Pairs.{pairs_of}
 use Rattle.lawful_objects.proofs.Pairing.{pairs_behind-append, none_behind, pairs_have_the_calls, behind_own}
 
 -- as many pairs as the caller has entries

@@ -1,5 +1,5 @@
 -- What a pass of a box tells, and whose it is.
-use Rattle.std.specs.Prelude.{◌≡◌, ℕ, ◌+◌, ◌*◌, ◌<◌, ◌≤◌, List, [], map, All, length, vec_len, vec_capacity}
+use Rattle.std.specs.Prelude.{◌≡◌, ℕ, ◌*◌, ◌<◌, ◌≤◌, List, [], map, All, length, vec_len, vec_capacity}
 use Rattle.std.specs.List.{range_with_len}
 use Rattle.shared_log.specs.declared.entry.Entry.{Entry}
 use Rattle.shared_log.specs.declared.seat.LogSeat.{LogSeat}

@@ -1,5 +1,5 @@
 -- The rooms of a scratch.
-use Rattle.std.specs.Prelude.{◌≡◌, ℕ, ◌+◌, ◌*◌, ◌<◌, List, [], None, replicate, vec_len}
+use Rattle.std.specs.Prelude.{◌≡◌, ℕ, ◌+◌, ◌*◌, ◌<◌, [], None, replicate, vec_len}
 use Rattle.book_base.specs.State.{Contents}
 use Rattle.lawful_objects.specs.declared.scratch.Scratch.{Scratch}
 

@@ -2,6 +2,7 @@
 
 ghost use Rattle.lawful_objects.specs.Replays.{LastReplyIsNext};
 ghost use Rattle.lawful_objects.specs.Pairs.{PairsHaveTheCalls};
+ghost use Rattle.lawful_objects.specs.Forms.{TalliesAreFormed, CellsAreFormed};
 
 /// The reply to the last operation of a log is the object's at the list that the operations before it leave.
 #[tactic(auto, using(crate::proofs::Replaying::last_reply_is_next))]
@@ -13,4 +14,11 @@ pub fn last_reply_is_next()
 #[tactic(auto, using(crate::proofs::Pairing::pairs_have_the_calls))]
 pub fn pairs_have_the_calls()
     ensures { PairsHaveTheCalls }
+{}
+
+/// Each reply of a tally has the form of a tally's replies, and each of a cell that of a cell's.
+#[tactic(auto, using(crate::proofs::Forming::tallies_are_formed, crate::proofs::Forming::cells_are_formed))]
+pub fn replies_are_formed()
+    ensures tallies { TalliesAreFormed }
+    ensures cells { CellsAreFormed }
 {}

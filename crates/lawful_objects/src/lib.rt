@@ -5,10 +5,14 @@ pub mod laws;
 mod log_box;
 mod log_pass;
 mod machine;
+mod one_word;
 mod plain;
 mod scratch;
+mod tally;
 #[cfg(test)]
 mod tests;
+mod word_cell;
+mod word_pass;
 
 pub use log_box::LogBox;
 pub use log_pass::LogPass;
@@ -16,3 +20,6 @@ pub use machine::Machine;
 pub use plain::Plain;
 pub use scratch::Scratch;
 pub use shared_log::Entry;
+pub use tally::Tally;
+pub use word_cell::WordCell;
+pub use word_pass::WordPass;

@@ -3,11 +3,12 @@ ghost use Rattle.std.specs.List.{AllZip};
 ghost use Rattle.std.specs.Thread.{IsSync};
 ghost use Rattle.lawful_objects.specs.Passes.{cap_of_pass, made_with, cap_in, ArePassesOf, IsFresh};
 ghost use Rattle.lawful_objects.specs.Calling.{MayCall, HasCalledOnce};
+ghost use Rattle.lawful_objects.specs.WordPasses.{IsTallyPass, IsCellPass};
 
 use crate::log_pass::LogPass;
-use crate::{Entry, LogBox, Machine, Plain};
+use crate::{Entry, LogBox, Machine, Plain, Tally, WordCell, WordPass};
 use book_base::{NoMemory, OpWord, join};
-use drv_wrapper::ObjectPass;
+use drv_wrapper::{BlackBox, ObjectPass};
 use seq_objects::Kind;
 use std::alloc::{AllocError, Global};
 use std::test::Fail;
@@ -18,6 +19,12 @@ const ENQUEUE_5: OpWord = 4294967301;
 const DEQUEUE: OpWord = 8589934592;
 
 const INCREMENT: OpWord = 4294967296;
+
+const WRITE_9: OpWord = 4294967305;
+
+const READ: OpWord = 8589934592;
+
+const UNKNOWN: OpWord = 8589934593;
 
 // Each pass makes one call, in a thread of its own where one can be made.
 #[cycle(calling)]
@@ -196,5 +203,66 @@ fn both_words_of_an_operation_are_seen(rt: HostRuntime) -> Result<(), Fail> {
         }
     );
     assert_eq!(rt; log[1].caller, 0);
+    Ok(())
+}
+
+// One call of a tally, by a caller that has one left.
+fn count(tally: &Tally, passes: &mut Vec<WordPass>, i: usize, op: OpWord) -> Option<u64>
+    requires { All (IsTallyPass tally.now) passes.old.items }
+    ensures { All (IsTallyPass tally.now) passes.new.items }
+{
+    if i >= passes.len() || passes[i].made() >= passes[i].cap() {
+        return None;
+    }
+    Some(tally.make(&mut passes[i], op))
+}
+
+// One call of a cell, by a caller that has one left.
+fn keep(cell: &WordCell, passes: &mut Vec<WordPass>, i: usize, op: OpWord) -> Option<u64>
+    requires { All (IsCellPass cell.now) passes.old.items }
+    ensures { All (IsCellPass cell.now) passes.new.items }
+{
+    if i >= passes.len() || passes[i].made() >= passes[i].cap() {
+        return None;
+    }
+    Some(cell.make(&mut passes[i], op))
+}
+
+// Threads may share the object, and its passes may go to them.
+fn may_be_shared<B: BlackBox + Sync>(_object: &B)
+where
+    B::Pass: Send,
+{}
+
+#[test]
+fn a_tally_counts_for_all_callers(rt: HostRuntime) -> Result<(), Fail> {
+    let (tally, mut passes) = Tally::open(rt.alloc(), 2, 3)?;
+    may_be_shared(&tally);
+    let replies = (
+        count(&tally, &mut passes, 0, INCREMENT),
+        count(&tally, &mut passes, 1, INCREMENT),
+        count(&tally, &mut passes, 0, UNKNOWN),
+    );
+    assert_eq!(rt;
+        replies,
+        (Some(8589934592), Some(8589934593), Some(17179869184))
+    );
+    Ok(())
+}
+
+#[test]
+fn a_cell_keeps_what_was_written(rt: HostRuntime) -> Result<(), Fail> {
+    let (cell, mut passes) = WordCell::open(rt.alloc(), 2, 3)?;
+    may_be_shared(&cell);
+    let replies = (
+        keep(&cell, &mut passes, 0, READ),
+        keep(&cell, &mut passes, 1, WRITE_9),
+        keep(&cell, &mut passes, 0, READ),
+        keep(&cell, &mut passes, 1, UNKNOWN),
+    );
+    assert_eq!(rt; replies.0, Some(8589934592));
+    assert_eq!(rt; replies.1, Some(0));
+    assert_eq!(rt; replies.2, Some(8589934601));
+    assert_eq!(rt; replies.3, Some(17179869184));
     Ok(())
 }

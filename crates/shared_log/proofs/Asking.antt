@@ -1,5 +1,5 @@
 -- The steps of a seat that has one caller, under the numbers that its kind of step was told.
-use Rattle.std.proofs.Common.{◌≡◌, ◌≢◌, ℕ, ◌+◌, ◌*◌, ◌<◌, ◌==◌, List, [], ◌∷◌, ◌++◌, length, slice_set, Option, Some, refl, sym, ap, ◌∙◌, subst}
+use Rattle.std.proofs.Common.{◌≡◌, ℕ, ◌+◌, ◌*◌, ◌<◌, ◌==◌, [], ◌∷◌, length, slice_set, Some, sym, ap, ◌∙◌, subst}
 use prog.Atomic.{either}
 use Rattle.atomic_table.specs.Table.{Me, Allows}
 use Rattle.book_base.specs.OperationWord.{low_of, high_of}

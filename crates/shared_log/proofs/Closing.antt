@@ -1,22 +1,21 @@
 -- All seats come back to one, and the longest of their logs is the one log.
-use Rattle.std.proofs.Common.{◌≡◌, ◌≢◌, ◌⊎◌, ℕ, zero, suc, ◌+◌, ◌*◌, ◌<◌, ◌≤◌, List, [], ◌∷◌, ◌++◌, length, map, get_or, slice_set, Option, Some, None, refl, sym, ap, ◌∙◌, subst, inl, inr, arith, append_assoc, length-append, length-set}
+use Rattle.std.proofs.Common.{◌≡◌, ℕ, zero, suc, ◌+◌, ◌<◌, ◌≤◌, List, [], ◌∷◌, ◌++◌, length, map, slice_set, Some, None, refl, sym, ap, ◌∙◌, subst, inl, inr, arith, append_assoc, length-append, length-set}
 use Rattle.std.specs.List.{All, Contains, range_with_len}
-use Rattle.std.proofs.lemmas.Bool.{cases_eq}
 use Rattle.std.proofs.lemmas.Option.{none-some}
 use Rattle.std.proofs.lemmas.List.{append-nil, map-append, nil_from_length}
 use Rattle.std.proofs.lemmas.List.Elements.{All-cons, All-nil, All-head, All-tail, All-weaker, All-contains, Contains-append_right}
 use mathlib.Core.Option.{some}
 use lib.ListN.{get_elem?}
-use Rattle.atomic_table.specs.Table.{State, Me, Final, Seen}
+use Rattle.atomic_table.specs.Table.{Me, Final, Seen}
 use Rattle.shared_log.specs.declared.entry.Entry.{Entry}
 use Rattle.shared_log.specs.declared.seat.LogSeat.{LogSeat}
 use Rattle.shared_log.specs.declared.shared_log.SharedLog.{SharedLog}
 use Rattle.shared_log.specs.Entries.{calls_by, BeginsWith, IsWithin, IsLonger}
 use Rattle.shared_log.specs.Holders.{has, only}
-use Rattle.shared_log.specs.Hands.{Hand, View, hand, the, Fits}
+use Rattle.shared_log.specs.Hands.{Hand, View, hand}
 use Rattle.shared_log.specs.Rule.{HaveOneLog, Ruled}
 use Rattle.shared_log.specs.Seats.{caller_of, log_of, IsSeatOf, AreSeatsOf, IsOneLog}
-use Rattle.shared_log.proofs.Logs.{ends, All-behind, whole_front, begins_itself}
+use Rattle.shared_log.proofs.Logs.{ends, All-behind, whole_front}
 use Rattle.shared_log.proofs.Holding.{only_here, length-only, with_here, with_else}
 
 only_below : (who i : ℕ) (h : Hand) → i < who → has (only who h) i ≡ None

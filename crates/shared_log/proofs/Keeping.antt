@@ -1,22 +1,15 @@
 -- Each step of a caller keeps the rule of the table, and tells what its kind tells.
-use Rattle.std.proofs.Common.{◌≡◌, ◌≢◌, ℕ, suc, ◌+◌, ◌*◌, ◌<◌, ◌≤◌, ◌==◌, ◌⊎◌, List, [], ◌∷◌, ◌++◌, length, slice_index, slice_set, Option, Some, refl, sym, ap, ◌∙◌, subst, inl, inr, arith, append_assoc, length-append, length-set, eq-eqb, ne_eqb}
-use Rattle.std.proofs.lemmas.Bool.{cases_eq, cases_lt}
-use Rattle.std.proofs.lemmas.List.{append-nil, get_or-set_other, get_or-set_same, get_or_append_left, get_or-append-add, set-get_or}
-use mathlib.Core.Option.{some}
-use lib.ListN.{get_elem?}
-use prog.Atomic.{either}
-use Rattle.atomic_table.specs.Table.{State, Me, keeps, Allows}
-use Rattle.atomic_table.proofs.Lists.{set_again}
+use Rattle.std.proofs.Common.{◌≡◌, ◌≢◌, ℕ, ◌+◌, ◌*◌, ◌<◌, List, [], ◌∷◌, ◌++◌, length, slice_index, slice_set, refl, sym, ap, ◌∙◌, subst, inl, inr, arith, append_assoc, length-append, length-set}
+use Rattle.std.proofs.lemmas.Bool.{cases_lt}
+use Rattle.std.proofs.lemmas.List.{append-nil, get_or-set_other, get_or-set_same, get_or_append_left, get_or-append-add}
 use Rattle.book_base.specs.OperationWord.{low_of, high_of}
 use Rattle.shared_log.specs.declared.entry.Entry.{Entry}
-use Rattle.shared_log.specs.Entries.{calls_by, BeginsWith, IsWithin, entry}
-use Rattle.shared_log.specs.Words.{number_of, number_behind, operation_index, ticket_index, word_count, IsStored, AreWordsOf}
-use Rattle.shared_log.specs.Holders.{has, AreHeld}
-use Rattle.shared_log.specs.Hands.{Hand, View, hand, the, next_number, Fits}
-use Rattle.shared_log.specs.Rule.{HaveOneLog, Ruled, Turns, Stages, Learns, Looks, Places, Reads}
-use Rattle.shared_log.proofs.Logs.{ends_at, calls_by-at, calls_by-append, calls_by-own, calls_by-push_own, calls_by-push_other, within_front, within_at, within_push, begins_more, begins_itself}
-use Rattle.shared_log.proofs.Holding.{held_changed}
-use Rattle.shared_log.proofs.Numbers.{number_low, operation_low, not_ticket, not_other, not_stored, not_others}
+use Rattle.shared_log.specs.Entries.{calls_by, IsWithin, entry}
+use Rattle.shared_log.specs.Words.{number_of, number_behind, operation_index, ticket_index, IsStored, AreWordsOf}
+use Rattle.shared_log.specs.Hands.{Hand, hand, next_number, Fits}
+use Rattle.shared_log.specs.Rule.{Learns}
+use Rattle.shared_log.proofs.Logs.{ends_at, calls_by-at, calls_by-push_other, within_front, within_at, within_push, begins_more}
+use Rattle.shared_log.proofs.Numbers.{number_low, not_ticket, not_other, not_stored, not_others}
 
 -- a word that isn't written stays
 stays : (words : List ℕ) (at other x : ℕ) → other ≢ at → slice_index (slice_set words at x) other ≡ slice_index words other

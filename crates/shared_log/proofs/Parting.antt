@@ -1,14 +1,13 @@
 -- What a caller's seat leaves and comes back to.
-use Rattle.std.proofs.Common.{◌≡◌, ◌≢◌, ℕ, suc, ◌+◌, ◌*◌, ◌<◌, ◌≤◌, List, [], ◌∷◌, ◌++◌, length, map, slice_set, Option, Some, None, refl, sym, ap, ◌∙◌, subst, arith}
-use Rattle.std.specs.List.{All, range_with_len}
+use Rattle.std.proofs.Common.{◌≡◌, ℕ, ◌+◌, ◌<◌, ◌≤◌, [], length, slice_set, Some, None, sym, ap, ◌∙◌, arith}
 use Rattle.std.proofs.lemmas.Nat.{mul-le}
 use Rattle.atomic_table.specs.Table.{Me, Splits, Joins}
 use Rattle.shared_log.specs.Words.{word_count}
 use Rattle.shared_log.specs.Holders as holders
 use Rattle.shared_log.specs.Holders.{has, only, whole}
-use Rattle.shared_log.specs.Hands.{Hand, View, the, hand, empty}
+use Rattle.shared_log.specs.Hands.{Hand, View, the, empty}
 use Rattle.shared_log.specs.Rule.{Ruled}
-use Rattle.shared_log.proofs.Holding.{only_here, joined_only, whole_at, without_else}
+use Rattle.shared_log.proofs.Holding.{only_here, joined_only, without_else}
 use Rattle.shared_log.proofs.Stepping as steps
 
 -- a table of a log has words

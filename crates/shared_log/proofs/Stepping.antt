@@ -1,23 +1,23 @@
 -- What each kind of step asks of the table.
-use Rattle.std.proofs.Common.{◌≡◌, ◌≢◌, ℕ, ◌+◌, ◌*◌, ◌<◌, ◌==◌, List, [], ◌∷◌, ◌++◌, length, slice_index, slice_set, Option, Some, None, replicate, refl, sym, ap, ◌∙◌, subst, inl, inr, arith, eq-eqb, ne_eqb, append_assoc, length-append, ◌^◌}
+use Rattle.std.proofs.Common.{◌≡◌, ◌≢◌, ℕ, ◌+◌, ◌*◌, ◌<◌, ◌==◌, List, [], ◌∷◌, ◌++◌, length, slice_index, slice_set, Some, None, replicate, refl, sym, ap, ◌∙◌, subst, inl, inr, arith, eq-eqb, ne_eqb, append_assoc, length-append, ◌^◌}
 use Rattle.std.proofs.Math.Nat.{mod-add-div'}
 use Rattle.std.proofs.lemmas.Bool.{cases_eq}
-use Rattle.std.proofs.lemmas.List.{append-nil, set-get_or, get_or-replicate, length-replicate}
+use Rattle.std.proofs.lemmas.List.{set-get_or, get_or-replicate, length-replicate}
 use mathlib.Core.Option.{some}
 use lib.ListN.{get_elem?}
 use prog.Atomic.{either}
 use Rattle.atomic_table.specs.Table.{State, Me, keeps, Allows, Splits, Joins, opening}
-use Rattle.atomic_table.proofs.Lists.{set_again, set_else}
-use Rattle.book_base.specs.OperationWord.{low_of, high_of, joined}
+use Rattle.atomic_table.proofs.Lists.{set_else}
+use Rattle.book_base.specs.OperationWord.{low_of, high_of}
 use Rattle.shared_log.specs.declared.entry.Entry.{Entry}
-use Rattle.shared_log.specs.Entries.{calls_by, BeginsWith, IsWithin, entry}
-use Rattle.shared_log.specs.Words.{number_of, number_behind, operation_index, ticket_index, word_count, AreWordsOf}
+use Rattle.shared_log.specs.Entries.{calls_by, IsWithin, entry}
+use Rattle.shared_log.specs.Words.{operation_index, ticket_index, word_count}
 use Rattle.shared_log.specs.Holders as holders
 use Rattle.shared_log.specs.Holders.{has, only, AreHeld}
 use Rattle.shared_log.specs.Hands.{Hand, View, hand, the, empty, next_number, Fits}
 use Rattle.shared_log.specs.Rule.{HaveOneLog, Ruled, Turns, Stages, Learns, Looks, Places, Reads}
 use Rattle.shared_log.proofs.Holding.{held_changed, held_parted, held_returned, held_at_start, joined_only}
-use Rattle.shared_log.proofs.Keeping.{stage_stands, stage_fits, stage_others, known_whole, next_entry, learnt, learn_fits, learn_tells, placed_words, placed_log, place_within, place_stands, placed_is, place_fits, place_others}
+use Rattle.shared_log.proofs.Keeping.{stage_stands, stage_fits, stage_others, next_entry, learnt, learn_fits, learn_tells, placed_log, place_within, place_stands, placed_is, place_fits, place_others}
 
 -- the words after a step that reads one
 read_again : (n cap i : ℕ) (words : List ℕ) (views : List View) → HaveOneLog n cap words views → HaveOneLog n cap (slice_set words i (slice_index words i)) views

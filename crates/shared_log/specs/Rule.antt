@@ -1,10 +1,10 @@
 -- The rule of the table, and what each kind of step tells.
-use Rattle.std.specs.Prelude.{◌≡◌, ◌≢◌, ℕ, ◌+◌, ◌<◌, ◌^◌, List, [], ◌∷◌, ◌++◌, length, slice_set, Option, Some, None}
+use Rattle.std.specs.Prelude.{◌≡◌, ◌≢◌, ℕ, ◌+◌, List, [], ◌∷◌, ◌++◌, slice_set, Option, Some, None}
 use Rattle.atomic_table.specs.Table.{State, Me}
 use Rattle.book_base.specs.OperationWord.{low_of, high_of}
 use Rattle.shared_log.specs.declared.entry.Entry.{Entry}
 use Rattle.shared_log.specs.Entries.{calls_by, entry, IsWithin}
-use Rattle.shared_log.specs.Words.{number_behind, operation_index, ticket_index, AreWordsOf}
+use Rattle.shared_log.specs.Words.{number_behind, operation_index, AreWordsOf}
 use Rattle.shared_log.specs.Holders.{has, AreHeld}
 use Rattle.shared_log.specs.Hands.{Hand, View, hand, the, Fits}
 

@@ -1,5 +1,5 @@
 -- Whose a seat is, what it has of the log, and which log it is of.
-use Rattle.std.specs.Prelude.{◌≡◌, ℕ, ◌+◌, ◌*◌, ◌<◌, ◌≤◌, List, [], ◌∷◌, map, length, All, vec_capacity}
+use Rattle.std.specs.Prelude.{◌≡◌, ℕ, ◌*◌, ◌<◌, ◌≤◌, List, map, length, All, vec_capacity}
 use Rattle.std.specs.List.{range_with_len}
 use Rattle.shared_log.specs.declared.entry.Entry.{Entry}
 use Rattle.shared_log.specs.declared.seat.OneSeat.{OneSeat}

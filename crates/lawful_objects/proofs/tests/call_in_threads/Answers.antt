@@ -1,4 +1,4 @@
-use Rattle.std.proofs.Common.{◌≡◌, List, length, drop, take, sym, ap, ◌∙◌, subst, arith}
+use Rattle.std.proofs.Common.{List, subst, arith}
 use Rattle.std.specs.List.{AllZip}
 use Rattle.lawful_objects.specs.declared.log_pass.LogPass.{LogPass}
 use Rattle.lawful_objects.specs.Calling.{HasCalledOnce}

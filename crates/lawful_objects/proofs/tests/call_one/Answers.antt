@@ -1,4 +1,4 @@
-use Rattle.std.proofs.Common.{arith, ap, ◌∙◌, sym}
+use Rattle.std.proofs.Common.{arith, ap, ◌∙◌}
 use Rattle.lawful_objects.specs.Passes.{caller_of_pass}
 use Rattle.lawful_objects.proofs.Calls.{one_asked}
 use Rattle.lawful_objects.proofs.tests.call_one.Goals as goal

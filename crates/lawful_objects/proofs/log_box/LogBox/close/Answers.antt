@@ -1,5 +1,4 @@
-use Rattle.std.proofs.Common.{◌≡◌, ℕ, List, length, map, sym, ap, ◌∙◌}
-use Rattle.std.specs.List.{All}
+use Rattle.std.proofs.Common.{◌≡◌, ◌∙◌}
 use Rattle.shared_log.specs.Entries.{calls_by, BeginsWith}
 use Rattle.shared_log.specs.Seats.{caller_of, log_of}
 use Rattle.lawful_objects.specs.Pairs.{pairs_of}

@@ -1,7 +1,6 @@
-use Rattle.std.proofs.Common.{◌≡◌, ℕ, List, ◌≤◌, ◌<◌, ◌*◌, length, sym, ap, ◌∙◌, subst, arith, vec_len, vec_capacity}
+use Rattle.std.proofs.Common.{◌≡◌, ℕ, List, ◌<◌, length, ap, ◌∙◌, subst, arith, vec_len, vec_capacity}
 use Rattle.std.proofs.lemmas.Bool.{cond-true}
 use Rattle.shared_log.specs.declared.entry.Entry.{Entry}
-use Rattle.shared_log.specs.Entries.{IsWithin}
 use Rattle.shared_log.proofs.Room.{length-within}
 use Rattle.lawful_objects.specs.Passes.{callers_in, cap_in}
 use Rattle.lawful_objects.proofs.Telling.{length-pairs_of, pairs_called}

@@ -1,4 +1,4 @@
-use Rattle.std.proofs.Common.{◌≡◌, ◌<◌, length, refl, sym, ap, ◌∙◌, arith}
+use Rattle.std.proofs.Common.{◌<◌, length, sym, ap, ◌∙◌, arith}
 use Rattle.book_base.specs.State.{Contents}
 use Rattle.lawful_objects.proofs.Replaying.{list_more, reply_more, length-replayed}
 use Rattle.lawful_objects.proofs.plain.Plain.replay.Goals as goal

@@ -1,4 +1,4 @@
-use Rattle.std.proofs.Common.{◌≡◌, ◌<◌, ◌≤◌, ◌-◌, ◌+◌, List, length, take, drop, refl, sym, ap, ◌∙◌, subst, arith}
+use Rattle.std.proofs.Common.{◌≤◌, ◌+◌, List, length, sym, ap, ◌∙◌, subst, arith}
 use Rattle.shared_log.specs.declared.entry.Entry.{Entry}
 use Rattle.lawful_objects.specs.Replays.{list_after, last_reply}
 use Rattle.book_base.specs.State.{Contents}

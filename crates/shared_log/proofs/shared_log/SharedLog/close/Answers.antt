@@ -1,5 +1,5 @@
 use Rattle.std.proofs.Common.{◌≡◌, length, arith, refl, ◌∙◌}
-use Rattle.shared_log.proofs.Closing.{IsNext, starts_closing, comes_next, more_closing, last_seat, closed, seat_popped, no_seats}
+use Rattle.shared_log.proofs.Closing.{starts_closing, comes_next, more_closing, last_seat, closed, seat_popped, no_seats}
 use Rattle.shared_log.proofs.shared_log.SharedLog.close.Goals as goal
 
 pub loop-seated-init : goal.loop-seated-init

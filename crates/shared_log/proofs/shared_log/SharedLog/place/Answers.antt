@@ -1,4 +1,4 @@
-use Rattle.std.proofs.Common.{◌≡◌, ℕ, ◌<◌, List, length, sym, ap, subst, arith}
+use Rattle.std.proofs.Common.{ℕ, ◌<◌, List, length, ap, arith}
 use Rattle.shared_log.specs.Entries.{calls_by}
 use Rattle.shared_log.proofs.Room.{length-left}
 use Rattle.shared_log.proofs.shared_log.SharedLog.place.Goals as goal

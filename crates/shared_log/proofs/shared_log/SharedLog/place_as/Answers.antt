@@ -1,6 +1,6 @@
 use Rattle.std.proofs.Common.{arith}
 use Rattle.shared_log.specs.Seats.{hand_with}
-use Rattle.shared_log.proofs.Asking.{place_asks, turned}
+use Rattle.shared_log.proofs.Asking.{place_asks}
 use Rattle.shared_log.proofs.shared_log.SharedLog.place_as.Goals as goal
 
 pub compare_exchange-requires : goal.compare_exchange-requires

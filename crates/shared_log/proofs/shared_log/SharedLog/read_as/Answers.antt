@@ -1,6 +1,6 @@
 use Rattle.std.proofs.Common.{arith}
 use Rattle.shared_log.specs.Seats.{hand_with}
-use Rattle.shared_log.proofs.Asking.{read_asks, turned}
+use Rattle.shared_log.proofs.Asking.{read_asks}
 use Rattle.shared_log.proofs.shared_log.SharedLog.read_as.Goals as goal
 
 pub load-requires : goal.load-requires

@@ -1,7 +1,5 @@
-use Rattle.std.proofs.Common.{◌<◌, ◌*◌, ◌+◌, arith, refl, rules}
-use Rattle.shared_log.specs.Entries.{calls_by}
+use Rattle.std.proofs.Common.{◌<◌, ◌*◌, arith}
 use Rattle.shared_log.specs.Hands.{next_number}
-use Rattle.shared_log.specs.Words.{operation_index}
 use Rattle.shared_log.specs.Seats.{hand_with}
 use Rattle.shared_log.proofs.Numbers.{number_low}
 use Rattle.shared_log.proofs.Asking.{stage_asks, turned}

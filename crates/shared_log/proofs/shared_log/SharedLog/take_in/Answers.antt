@@ -1,4 +1,4 @@
-use Rattle.std.proofs.Common.{◌<◌, refl, ap, sym, subst, ◌∙◌, rules}
+use Rattle.std.proofs.Common.{◌<◌, ap, sym, subst, rules}
 use Rattle.shared_log.proofs.Parting.{some_words, return_asks, returned}
 use Rattle.shared_log.proofs.shared_log.SharedLog.take_in.Goals as goal
 

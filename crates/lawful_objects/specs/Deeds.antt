@@ -1,0 +1,14 @@
+-- Steps on one word, and what calls made of them are.
+use Rattle.std.specs.Prelude.{◌≡◌, ℕ, List, [], ◌∷◌}
+
+-- A step: an addition of an amount to the word found, a store, or a load of the word found.
+pub data Deed : Type 0 where
+  Added : (amount found : ℕ) → Deed
+  Stored : (word : ℕ) → Deed
+  Loaded : (found : ℕ) → Deed
+
+-- These pairs of operations and replies are calls, one after the other, the first of which begins behind some steps and the last
+-- of which ends behind some: what one call is, is given.
+abbrev pub AreCalls : (ℕ → ℕ → List Deed → List Deed → Type 0) → List (ℕ × ℕ) → List Deed → List Deed → Type 0
+AreCalls call [] before after = before ≡ after
+AreCalls call (pair ∷ pairs) before after = (between : List Deed) × call pair.0 pair.1 before between × AreCalls call pairs between after
