@@ -17,10 +17,8 @@ fn a_script_is_read_and_written_back(rt: HostRuntime) -> Result<(), Fail> {
     };
     assert_eq!(rt; script.op(dequeue), 8589934592);
     assert_eq!(rt; (script.stop(0), script.stop(1)), (None, None));
-    assert_eq!(rt;
-        (script.turns().len(), script.turns()[4], script.turns()[5]),
-        (10, 0, 1)
-    );
+    let turns: [u32; 10] = [0, 0, 0, 0, 0, 1, 1, 1, 1, 1];
+    assert_eq!(rt; script.turns(), turns.as_slice());
     let text = write_script(rt.alloc(), &script)?;
     assert_eq!(rt; str::from_utf8(&text), str::from_utf8(WORKED));
     Ok(())
@@ -36,6 +34,7 @@ fn a_script_of_a_map_is_read_and_written_back(rt: HostRuntime) -> Result<(), Fai
         caller: 0,
         number: 0,
     };
+    assert_eq!(rt; (script.callers(), script.calls(0)), (4, 4));
     assert_eq!(rt; script.op(put), 166020696667680931843);
     assert_eq!(rt;
         (script.stop(0), script.stop(2), script.stop(3)),
