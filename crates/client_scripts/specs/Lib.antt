@@ -2,6 +2,6 @@ pub mod Plans
 pub mod Grammar
 pub mod ScriptRules
 pub mod ScriptLayout
-pub mod Tails
+pub mod Parts
 pub mod Beginnings
 pub mod Generator

@@ -50,7 +50,7 @@ abbrev pub with_stop : Begun → ℕ → ℕ → Begun
 with_stop begun caller phases = record begun { stops = slice_set begun.stops caller (Some phases); least = caller + 1 }
 
 -- a list cut into parts with these numbers of items
-abbrev pub grouped : List ℕ → List ℕ → List (List ℕ)
+abbrev pub grouped : {X : Type 0} → List ℕ → List X → List (List X)
 grouped [] items = []
 grouped (count ∷ counts) items = take count items ∷ grouped counts (drop count items)
 

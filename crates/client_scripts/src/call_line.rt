@@ -17,8 +17,10 @@ pub(crate) fn read_call_line(
     line: &[u8],
     call: Call,
 ) -> Result<OpWord, What>
-    ensures found { IfOk result (λ op. IsCallLine operations.now.version operations.now.kind call (words_of line.now) op) }
-    ensures refused { IfErr result (λ what. IsFirstTest (CallFails operations.now.version operations.now.kind call (words_of line.now)) what) }
+    ensures found { IfOk result (λ op.
+        IsCallLine operations.now.version operations.now.kind call (words_of line.now) op) }
+    ensures refused { IfErr result (IsFirstTest
+        (CallFails operations.now.version operations.now.kind call (words_of line.now))) }
 {
     let mut words = Words::new(line);
     let Some(()) = take_place(&mut words, call) else {
@@ -50,8 +52,10 @@ fn take_number(words: &mut Words, due: u64) -> Option<()>
 
 /// The operation whose words are all that is left of a line.
 fn read_operation(operations: &KindWords, words: &mut Words) -> Option<OpWord>
-    ensures found { IfSome result (λ op. (op < word_limit operations.now.version) × (words.old ≡ operation_words operations.now.kind op)) }
-    ensures none { IfNone result ((op : ℕ) → op < word_limit operations.now.version → words.old ≢ operation_words operations.now.kind op) }
+    ensures found { IfSome result (λ op. (op < word_limit operations.now.version)
+        × (words.old ≡ operation_words operations.now.kind op)) }
+    ensures none { IfNone result ((op : ℕ) → op < word_limit operations.now.version
+        → words.old ≢ operation_words operations.now.kind op) }
 {
     let first = words.next()?;
     let second = words.next();

@@ -1,11 +1,7 @@
 //! The lines of a script's calls.
 
-ghost use Rattle.std.specs.Prelude.{◌≡◌, ◌++◌, [], ◌∷◌, List, length, replicate, None, IfOk, IfErr};
-ghost use Rattle.book_base.specs.declared.call.Call.{Call};
-ghost use Rattle.text_fields.specs.Faults.{GoesTo, IsFirstFault, StopsFor};
-ghost use Rattle.book_text.specs.CallLines.{calls_from, all_calls};
-ghost use Rattle.client_scripts.specs.ScriptRules.{Begun, InBody, begin, with_operation, with_operations, script_rules};
-ghost use Rattle.client_scripts.specs.ScriptLayout.{told};
+ghost use Rattle.std.specs.Prelude.{◌≡◌, length, IfOk, IfErr};
+ghost use Rattle.client_scripts.specs.Parts.{IsCallRead, IsCallFault, AreCallsRead, AreCallsStopped, AreClientsRead, AreClientsStopped};
 
 use crate::call_line::read_call_line;
 use crate::script::Client;
@@ -21,9 +17,10 @@ pub(crate) fn read_clients(
     calls: &Cut,
     operations: &KindWords,
 ) -> Result<Vec<Client>, ReadFault>
-    ensures found { IfOk result (λ clients. GoesTo (script_rules operations.now.version) (InBody operations.now.kind (begin calls.now) (all_calls 0 calls.now)) lines.old (InBody operations.now.kind (told clients.items 0) []) lines.new) }
+    ensures found { IfOk result (λ clients.
+        AreClientsRead operations.now calls.now lines.old clients.items lines.new) }
     ensures count { IfOk result (λ clients. length clients.items ≡ length calls.now) }
-    ensures refused { IfErr result (λ e. StopsFor (script_rules operations.now.version) (InBody operations.now.kind (begin calls.now) (all_calls 0 calls.now)) lines.old e) }
+    ensures refused { IfErr result (AreClientsStopped operations.now calls.now lines.old) }
 {
     let mut clients = Vec::new(alloc);
     for i in 0..calls.n() {
@@ -43,9 +40,10 @@ fn read_operations(
     count: u64,
     operations: &KindWords,
 ) -> Result<Vec<OpWord>, ReadFault>
-    ensures found { IfOk result (λ ops. (begun : Begun) (more : List Call) → GoesTo (script_rules operations.now.version) (InBody operations.now.kind begun (calls_from i 0 count ++ more)) lines.old (InBody operations.now.kind (with_operations begun ops.items) more) lines.new) }
+    ensures found { IfOk result (λ ops.
+        AreCallsRead operations.now i count lines.old ops.items lines.new) }
     ensures count { IfOk result (λ ops. length ops.items ≡ count) }
-    ensures refused { IfErr result (λ e. (begun : Begun) (more : List Call) → StopsFor (script_rules operations.now.version) (InBody operations.now.kind begun (calls_from i 0 count ++ more)) lines.old e) }
+    ensures refused { IfErr result (AreCallsStopped operations.now i count lines.old) }
 {
     let mut ops = Vec::new(alloc);
     for number in 0..count {
@@ -57,8 +55,8 @@ fn read_operations(
 
 /// The operation of this call, whose line is next.
 fn read_call(lines: &mut Lines, call: Call, operations: &KindWords) -> Result<OpWord, TextFault>
-    ensures found { IfOk result (λ op. (begun : Begun) (more : List Call) → GoesTo (script_rules operations.now.version) (InBody operations.now.kind begun (call ∷ more)) lines.old (InBody operations.now.kind (with_operation begun op) more) lines.new) }
-    ensures refused { IfErr result (λ fault. (begun : Begun) (more : List Call) → IsFirstFault (script_rules operations.now.version) (InBody operations.now.kind begun (call ∷ more)) lines.old fault) }
+    ensures found { IfOk result (λ op. IsCallRead operations.now call lines.old op lines.new) }
+    ensures refused { IfErr result (IsCallFault operations.now call lines.old) }
 {
     let number = lines.number();
     let line = lines.line()?;

@@ -22,7 +22,8 @@ pub(crate) fn put_spaced(out: &mut Vec<u8>, n: u64) -> Result<(), NoMemory>
 /// Appends the head of a script's text: its title, the kind of the object, and the number of calls
 /// of each caller.
 pub(crate) fn put_head(out: &mut Vec<u8>, kind: Kind, calls: &Cut) -> Result<(), NoMemory>
-    ensures { OnOk result (out.new.items ≡ out.old.items ++ text_of (head_lines Second (codes "script") kind calls.now)) }
+    ensures { OnOk result (out.new.items ≡ out.old.items
+        ++ text_of (head_lines Second (codes "script") kind calls.now)) }
 {
     out.extend_from_slice(b"script 2\n")?;
     put_object(out, kind)?;
@@ -32,7 +33,8 @@ pub(crate) fn put_head(out: &mut Vec<u8>, kind: Kind, calls: &Cut) -> Result<(),
 
 /// Appends the line of the object.
 fn put_object(out: &mut Vec<u8>, kind: Kind) -> Result<(), NoMemory>
-    ensures { OnOk result (out.new.items ≡ out.old.items ++ line_text (object_words kind)) }
+    ensures { OnOk result (out.new.items
+        ≡ out.old.items ++ line_text (object_words kind)) }
 {
     out.extend_from_slice(b"object ")?;
     out.extend_from_slice(kind.name().as_bytes())?;
@@ -52,7 +54,8 @@ fn put_callers(out: &mut Vec<u8>, n: u32) -> Result<(), NoMemory>
 
 /// Appends the line of the numbers of calls.
 fn put_calls_line(out: &mut Vec<u8>, calls: &Cut) -> Result<(), NoMemory>
-    ensures { OnOk result (out.new.items ≡ out.old.items ++ line_text (calls_words calls.now)) }
+    ensures { OnOk result (out.new.items
+        ≡ out.old.items ++ line_text (calls_words calls.now)) }
 {
     out.extend_from_slice(b"calls")?;
     put_counts(out, calls)?;
@@ -72,7 +75,8 @@ fn put_counts(out: &mut Vec<u8>, cut: &Cut) -> Result<(), NoMemory>
 
 /// Appends the words of an operation, each behind a space.
 pub(crate) fn put_operation(out: &mut Vec<u8>, kind: Kind, op: OpWord) -> Result<(), NoMemory>
-    ensures { OnOk result (out.new.items ≡ out.old.items ++ spaced (operation_words kind op)) }
+    ensures { OnOk result (out.new.items
+        ≡ out.old.items ++ spaced (operation_words kind op)) }
 {
     out.push(b' ')?;
     kind.put_op(out, op)

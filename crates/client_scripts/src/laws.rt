@@ -10,36 +10,44 @@ ghost use Rattle.client_scripts.specs.Beginnings.{LeavesTexts};
 
 /// Bytes are the text of one script at most.
 pub fn one_script_per_text()
-    ensures { (version : Version) (bytes : List ℕ) (a b : Plan) → IsScriptText version bytes a → IsScriptText version bytes b → a ≡ b }
+    ensures { (version : Version) (bytes : List ℕ) (a b : Plan)
+        → IsScriptText version bytes a → IsScriptText version bytes b → a ≡ b }
 {}
 
 /// A script has one text in a version.
 pub fn one_text_per_script()
-    ensures { (version : Version) (a b : List ℕ) (plan : Plan) → IsScriptText version a plan → IsScriptText version b plan → a ≡ b }
+    ensures { (version : Version) (a b : List ℕ) (plan : Plan)
+        → IsScriptText version a plan → IsScriptText version b plan → a ≡ b }
 {}
 
 /// Bytes have one first fault at most.
 pub fn one_first_fault()
-    ensures { (version : Version) (bytes : List ℕ) (a b : TextFault) → IsFirstScriptFault version bytes a → IsFirstScriptFault version bytes b → a ≡ b }
+    ensures { (version : Version) (bytes : List ℕ) (a b : TextFault)
+        → IsFirstScriptFault version bytes a → IsFirstScriptFault version bytes b → a ≡ b }
 {}
 
 /// A script's text has no fault.
 pub fn no_fault_of_a_text()
-    ensures { (version : Version) (bytes : List ℕ) (plan : Plan) (fault : TextFault) → IsScriptText version bytes plan → ¬ (IsFirstScriptFault version bytes fault) }
+    ensures { (version : Version) (bytes : List ℕ) (plan : Plan) (fault : TextFault)
+        → IsScriptText version bytes plan → ¬ (IsFirstScriptFault version bytes fault) }
 {}
 
 /// Bytes are read as a script, line by line, exactly where they are what is written of it.
 pub fn a_text_is_its_scripts_lines()
-    ensures { (version : Version) (bytes : List ℕ) (plan : Plan) → IsWrittenText version bytes plan ↔ IsScriptText version bytes plan }
+    ensures { (version : Version) (bytes : List ℕ) (plan : Plan)
+        → IsWrittenText version bytes plan ↔ IsScriptText version bytes plan }
 {}
 
 /// No script's text is a proper prefix of another's.
 pub fn no_script_text_begins_another()
-    ensures { (version : Version) (bytes more : List ℕ) (a b : Plan) → IsScriptText version bytes a → IsScriptText version (bytes ++ more) b → more ≡ [] }
+    ensures { (version : Version) (bytes more : List ℕ) (a b : Plan)
+        → IsScriptText version bytes a → IsScriptText version (bytes ++ more) b → more ≡ [] }
 {}
 
-/// A first fault stands where the bytes leave the texts of scripts: some text begins with the lines before
-/// the fault's line, and none goes on with that line; or it isn't whole, or bytes follow a whole text.
+/// A first fault stands where the bytes leave the texts of scripts: some text begins with the lines
+/// before the fault's line, and none goes on with that line; or it isn't whole, or bytes follow a
+/// whole text.
 pub fn first_faults_leave_texts()
-    ensures { (version : Version) (bytes : List ℕ) (fault : TextFault) → IsFirstScriptFault version bytes fault → LeavesTexts version bytes fault }
+    ensures { (version : Version) (bytes : List ℕ) (fault : TextFault)
+        → IsFirstScriptFault version bytes fault → LeavesTexts version bytes fault }
 {}

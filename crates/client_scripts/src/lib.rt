@@ -1,4 +1,4 @@
-//! Scripts, which say what the callers of a concurrent object are to do: as values, as texts, and made from a number.
+//! Scripts, what the callers of a concurrent object are to do: as values, as texts, from a number.
 #![tactic(auto)]
 
 mod call_line;

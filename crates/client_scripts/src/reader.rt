@@ -4,12 +4,13 @@ ghost use Rattle.std.specs.Prelude.{◌≡◌, ◌↔◌, ◌⊎◌, [], IsTrue,
 ghost use Rattle.book_base.specs.declared.fault.TextFault.{TextFault};
 ghost use Rattle.text_fields.specs.declared.version.Version.{Version};
 ghost use Rattle.text_fields.specs.declared.version.Version.TheVariants.{First, Second};
-ghost use Rattle.text_fields.specs.Faults.{GoesTo, IsFirstFault, StopsFor};
+ghost use Rattle.text_fields.specs.Faults.{StopsFor};
 ghost use Rattle.text_fields.specs.Head.{TitleDue};
 ghost use Rattle.book_text.specs.Grammar.{end_words};
 ghost use Rattle.book_text.specs.BookRules.{whole_text};
 ghost use Rattle.client_scripts.specs.Plans.{Plan};
-ghost use Rattle.client_scripts.specs.ScriptRules.{InHead, Turned, AtEnd, script_rules, IsScriptText, IsNoScriptText, IsFirstScriptFault};
+ghost use Rattle.client_scripts.specs.Parts.{IsEndRead, IsEndFault};
+ghost use Rattle.client_scripts.specs.ScriptRules.{InHead, script_rules, IsScriptText, IsNoScriptText, IsFirstScriptFault};
 
 use crate::calls::read_clients;
 use crate::script::Script;
@@ -25,11 +26,16 @@ pub fn read_script(alloc: Global, bytes: &[u8]) -> Result<Script, ReadFault>
     // What is read is this script's text.
     ensures found { IfOk result (λ script. IsScriptText Second bytes.now script) }
     // A text of a script is read as that script, unless memory runs out.
-    ensures only { (plan : Plan) → IsScriptText Second bytes.now plan → MatchResult result (λ script. script ≡ plan) (λ e. e ≡ ReadFault.NoMemory) }
+    ensures only { (plan : Plan) → IsScriptText Second bytes.now plan
+        → MatchResult result (λ script. script ≡ plan) (λ e. e ≡ ReadFault.NoMemory) }
     // A fault of the text is the first fault of bytes that are no script's text.
-    ensures refused { IfErr result (λ e. (e ≡ ReadFault.NoMemory) ⊎ ((fault : TextFault) × (e ≡ ReadFault.Text fault) × IsFirstScriptFault Second bytes.now fault × IsNoScriptText Second bytes.now)) }
+    ensures refused { IfErr result (λ e. (e ≡ ReadFault.NoMemory)
+        ⊎ ((fault : TextFault) × (e ≡ ReadFault.Text fault)
+        × IsFirstScriptFault Second bytes.now fault × IsNoScriptText Second bytes.now)) }
     // Where the bytes have a first fault, the answer is that fault, unless memory runs out.
-    ensures first { (fault : TextFault) → IsFirstScriptFault Second bytes.now fault → MatchResult result (λ _. ⊥) (λ e. (e ≡ ReadFault.Text fault) ⊎ (e ≡ ReadFault.NoMemory)) }
+    ensures first { (fault : TextFault) → IsFirstScriptFault Second bytes.now fault
+        → MatchResult result (λ _. ⊥)
+        (λ e. (e ≡ ReadFault.Text fault) ⊎ (e ≡ ReadFault.NoMemory)) }
 {
     read_version(Version::Second, alloc, bytes)
 }
@@ -41,11 +47,16 @@ pub fn read_script1(alloc: Global, bytes: &[u8]) -> Result<Script, ReadFault>
     // What is read is this script's text.
     ensures found { IfOk result (λ script. IsScriptText First bytes.now script) }
     // A text of a script is read as that script, unless memory runs out.
-    ensures only { (plan : Plan) → IsScriptText First bytes.now plan → MatchResult result (λ script. script ≡ plan) (λ e. e ≡ ReadFault.NoMemory) }
+    ensures only { (plan : Plan) → IsScriptText First bytes.now plan
+        → MatchResult result (λ script. script ≡ plan) (λ e. e ≡ ReadFault.NoMemory) }
     // A fault of the text is the first fault of bytes that are no script's text.
-    ensures refused { IfErr result (λ e. (e ≡ ReadFault.NoMemory) ⊎ ((fault : TextFault) × (e ≡ ReadFault.Text fault) × IsFirstScriptFault First bytes.now fault × IsNoScriptText First bytes.now)) }
+    ensures refused { IfErr result (λ e. (e ≡ ReadFault.NoMemory)
+        ⊎ ((fault : TextFault) × (e ≡ ReadFault.Text fault)
+        × IsFirstScriptFault First bytes.now fault × IsNoScriptText First bytes.now)) }
     // Where the bytes have a first fault, the answer is that fault, unless memory runs out.
-    ensures first { (fault : TextFault) → IsFirstScriptFault First bytes.now fault → MatchResult result (λ _. ⊥) (λ e. (e ≡ ReadFault.Text fault) ⊎ (e ≡ ReadFault.NoMemory)) }
+    ensures first { (fault : TextFault) → IsFirstScriptFault First bytes.now fault
+        → MatchResult result (λ _. ⊥)
+        (λ e. (e ≡ ReadFault.Text fault) ⊎ (e ≡ ReadFault.NoMemory)) }
 {
     read_version(Version::First, alloc, bytes)
 }
@@ -53,7 +64,8 @@ pub fn read_script1(alloc: Global, bytes: &[u8]) -> Result<Script, ReadFault>
 /// The script that the bytes are the text of, in this version.
 fn read_version(version: Version, alloc: Global, bytes: &[u8]) -> Result<Script, ReadFault>
     ensures found { IfOk result (λ script. IsScriptText version bytes.now script) }
-    ensures refused { IfErr result (λ e. StopsFor (script_rules version) (InHead TitleDue) (whole_text bytes.now) e) }
+    ensures refused { IfErr result (λ e.
+        StopsFor (script_rules version) (InHead TitleDue) (whole_text bytes.now) e) }
 {
     let mut lines = Lines::new(bytes);
     let head = read_head_of(version, &mut lines, b"script")?;
@@ -69,9 +81,9 @@ fn read_version(version: Version, alloc: Global, bytes: &[u8]) -> Result<Script,
 
 /// The end of a text, and nothing behind it.
 fn read_end(lines: &mut Lines) -> Result<(), TextFault>
-    ensures found { IfOk result (λ _. (version : Version) (plan : Plan) → GoesTo (script_rules version) (Turned plan) lines.old (AtEnd plan) lines.new) }
+    ensures found { IfOk result (λ _. IsEndRead lines.old lines.new) }
     ensures whole { IfOk result (λ _. lines.new.bytes ≡ []) }
-    ensures refused { IfErr result (λ fault. (version : Version) (plan : Plan) → IsFirstFault (script_rules version) (Turned plan) lines.old fault) }
+    ensures refused { IfErr result (IsEndFault lines.old) }
 {
     let line = lines.number();
     let mut words = Words::new(lines.line()?);

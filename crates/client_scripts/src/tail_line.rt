@@ -1,14 +1,11 @@
 //! A line behind the calls, by itself: a stop, or the turns.
 
-ghost use Rattle.std.specs.Prelude.{◌≡◌, ◌≢◌, ◌⊎◌, ◌↔◌, ℕ, ◌<◌, ◌≤◌, ◌∷◌, [], List, length, map, decimal, IfOk, IfErr, IfSome, IfNone, IsTrue};
-ghost use Rattle.book_base.specs.declared.fault.What.{What};
+ghost use Rattle.std.specs.Prelude.{◌≡◌, ◌≢◌, ◌↔◌, ℕ, ◌<◌, ◌≤◌, ◌∷◌, [], List, length, map, decimal, IfOk, IfErr, IfSome, IfNone, IsTrue};
 ghost use Rattle.book_base.specs.declared.TheConstants.{MAX_CALLERS};
 ghost use Rattle.text_fields.specs.Lines.{words_of};
-ghost use Rattle.text_fields.specs.Faults.{IsFirstTest};
-ghost use Rattle.client_scripts.specs.declared.tail_line.TailLine.{TailLine};
-ghost use Rattle.client_scripts.specs.ScriptRules.{IsStop, AreTurns, TailFails};
+ghost use Rattle.client_scripts.specs.ScriptRules.{IsStop, AreTurns};
 ghost use Rattle.client_scripts.specs.ScriptLayout.{told};
-ghost use Rattle.client_scripts.specs.Tails.{SaysLine};
+ghost use Rattle.client_scripts.specs.Parts.{SaysLine, IsTailLineRefused};
 
 use crate::PHASES;
 use crate::script::Client;
@@ -35,7 +32,8 @@ pub(crate) fn read_tail_line(
 ) -> Result<TailLine, ReadFault>
     requires { length clients.now ≤ MAX_CALLERS }
     ensures found { IfOk result (λ tail. SaysLine (told clients.now least) (words_of line.now) tail) }
-    ensures refused { IfErr result (λ e. (e ≡ ReadFault.NoMemory) ⊎ ((what : What) × (e ≡ ReadFault.Text (record { line = number; what = what })) × IsFirstTest (TailFails (told clients.now least) (words_of line.now)) what)) }
+    ensures refused { IfErr result
+        (IsTailLineRefused (told clients.now least) (words_of line.now) number) }
 {
     let mut words = Words::new(line);
     let first = words.next();
@@ -64,8 +62,10 @@ fn fault(line: u64, what: What) -> ReadFault
 /// The caller and the phases behind the word `stop`, and nothing behind them.
 fn read_stop(words: &mut Words, clients: &[Client], least: u32) -> Option<(u32, u64)>
     requires { length clients.now ≤ MAX_CALLERS }
-    ensures found { IfSome result (λ (caller, phases). IsStop (told clients.now least) caller phases × (words.old ≡ decimal caller ∷ decimal phases ∷ [])) }
-    ensures none { IfNone result ((caller phases : ℕ) → IsStop (told clients.now least) caller phases → words.old ≢ decimal caller ∷ decimal phases ∷ []) }
+    ensures found { IfSome result (λ (caller, phases). IsStop (told clients.now least) caller phases
+        × (words.old ≡ decimal caller ∷ decimal phases ∷ [])) }
+    ensures none { IfNone result ((caller phases : ℕ) → IsStop (told clients.now least) caller phases
+        → words.old ≢ decimal caller ∷ decimal phases ∷ []) }
 {
     let caller = next_number(words, u64::MAX)?;
     let phases = next_number(words, u64::MAX)?;
@@ -91,8 +91,10 @@ fn may_stop(clients: &[Client], least: u32, caller: u64, phases: u64) -> bool
 
 /// The callers behind the word `turns`, each one of `n`, and nothing behind them.
 fn read_turns(alloc: Global, words: &mut Words, n: u32) -> Result<Option<Vec<u32>>, NoMemory>
-    ensures found { IfOk result (λ found. IfSome found (λ turns. AreTurns n turns.items × (words.old ≡ map decimal turns.items))) }
-    ensures none { IfOk result (λ found. IfNone found ((turns : List ℕ) → AreTurns n turns → words.old ≢ map decimal turns)) }
+    ensures found { IfOk result (λ found. IfSome found (λ turns. AreTurns n turns.items
+        × (words.old ≡ map decimal turns.items))) }
+    ensures none { IfOk result (λ found. IfNone found ((turns : List ℕ) → AreTurns n turns
+        → words.old ≢ map decimal turns)) }
 {
     let mut turns = Vec::new(alloc);
     while let Some(word) = words.next() {

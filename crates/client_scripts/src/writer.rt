@@ -44,7 +44,8 @@ fn announced(script: &Script) -> Cut
 
 /// Appends the lines of all calls.
 fn put_calls(out: &mut Vec<u8>, script: &Script) -> Result<(), NoMemory>
-    ensures { OnOk result (out.new.items ≡ out.old.items ++ text_of (by_number (caller_lines script.now.kind) 0 script.now.operations)) }
+    ensures { OnOk result (out.new.items ≡ out.old.items
+        ++ text_of (by_number (caller_lines script.now.kind) 0 script.now.operations)) }
 {
     for caller in 0..script.callers() {
         put_caller(out, script, caller)?;
@@ -55,7 +56,8 @@ fn put_calls(out: &mut Vec<u8>, script: &Script) -> Result<(), NoMemory>
 /// Appends the lines of a caller's calls.
 fn put_caller(out: &mut Vec<u8>, script: &Script, caller: u32) -> Result<(), NoMemory>
     requires { caller < length script.now.operations }
-    ensures { OnOk result (out.new.items ≡ out.old.items ++ text_of (caller_lines script.now.kind caller (operations_of script.now caller))) }
+    ensures { OnOk result (out.new.items ≡ out.old.items
+        ++ text_of (caller_lines script.now.kind caller (operations_of script.now caller))) }
 {
     for number in 0..script.calls(caller) {
         put_call(out, script, Call { caller, number })?;
@@ -66,7 +68,9 @@ fn put_caller(out: &mut Vec<u8>, script: &Script, caller: u32) -> Result<(), NoM
 /// Appends the line of a call.
 fn put_call(out: &mut Vec<u8>, script: &Script, call: Call) -> Result<(), NoMemory>
     requires { IsCall script.now call }
-    ensures { OnOk result (out.new.items ≡ out.old.items ++ line_text (call_words script.now.kind call (slice_index (operations_of script.now call.caller) call.number))) }
+    ensures { OnOk result (let ops = operations_of script.now call.caller in
+        out.new.items ≡ out.old.items
+        ++ line_text (call_words script.now.kind call (slice_index ops call.number))) }
 {
     put_number(out, u64::from(call.caller))?;
     put_spaced(out, call.number)?;
@@ -77,7 +81,8 @@ fn put_call(out: &mut Vec<u8>, script: &Script, call: Call) -> Result<(), NoMemo
 
 /// Appends the lines of the stops.
 fn put_stops(out: &mut Vec<u8>, script: &Script) -> Result<(), NoMemory>
-    ensures { OnOk result (out.new.items ≡ out.old.items ++ text_of (by_number stop_line 0 script.now.stops)) }
+    ensures { OnOk result (out.new.items ≡ out.old.items
+        ++ text_of (by_number stop_line 0 script.now.stops)) }
 {
     for caller in 0..script.callers() {
         put_stop(out, caller, script.stop(caller))?;
@@ -101,7 +106,8 @@ fn put_stop(out: &mut Vec<u8>, caller: u32, stop: Option<u64>) -> Result<(), NoM
 
 /// Appends the line of the turns.
 fn put_turns(out: &mut Vec<u8>, turns: &[u32]) -> Result<(), NoMemory>
-    ensures { OnOk result (out.new.items ≡ out.old.items ++ line_text (turns_words turns.now)) }
+    ensures { OnOk result (out.new.items
+        ≡ out.old.items ++ line_text (turns_words turns.now)) }
 {
     out.extend_from_slice(b"turns")?;
     put_turn_words(out, turns)?;
