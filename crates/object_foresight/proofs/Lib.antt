@@ -4,3 +4,4 @@ pub mod Linking
 pub mod Passing
 pub mod Foreseeing
 pub mod Ranking
+pub mod Ending

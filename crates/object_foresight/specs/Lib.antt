@@ -4,3 +4,4 @@ pub mod Links
 pub mod Pasts
 pub mod Ranks
 pub mod Foreseen
+pub mod Stuck

@@ -9,9 +9,10 @@ ghost use Rattle.object_foresight.specs.Pasts.{last_held, IsPast};
 
 use crate::links::Links;
 use crate::past::Past;
+use crate::stuck::is_stuck;
 use book_base::{Book, Call, Foresight};
 
-/// Holds back what the links of a book say, and each call of a book that is refused.
+/// Holds back what the links of a book say, and each call of a book that is refused or stuck.
 pub fn hold(book: &Book, links: &Links, known: &mut Foresight)
     requires links { AreLinksOf book.now links.now }
     requires bars { (c : Call) → IsCall book.now c → HasBar known.old c }
@@ -22,9 +23,12 @@ pub fn hold(book: &Book, links: &Links, known: &mut Foresight)
 {
     if links.is_refused {
         refuse(book, known);
-    } else {
-        follow(book, links, known);
-        keep(book, links, known);
+        return;
+    }
+    follow(book, links, known);
+    keep(book, links, known);
+    if is_stuck(book, known) {
+        refuse(book, known);
     }
 }
 
@@ -68,6 +72,7 @@ fn follow_caller(book: &Book, links: &Links, known: &mut Foresight, caller: u32)
 fn keep(book: &Book, links: &Links, known: &mut Foresight)
     requires links { AreLinksOf book.now links.now }
     requires bars { (c : Call) → IsCall book.now c → HasBar known.old c }
+    ensures bars { (c : Call) → IsCall book.now c → HasBar known.new c }
     ensures right { (init : List ℕ) (next : List ℕ → ℕ → List ℕ × ℕ) → IsForesight init next book.now known.old
         → AreKept init next book.now links.now known.old.ranks → IsForesight init next book.now known.new }
 {

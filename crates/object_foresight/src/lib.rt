@@ -8,6 +8,7 @@ mod links;
 mod past;
 mod ranks;
 mod reader;
+mod stuck;
 mod uses;
 
 pub use foresee::{foresee_container, foresee_queue, foresee_stack};

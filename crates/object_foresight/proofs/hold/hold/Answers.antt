@@ -1,9 +1,18 @@
 use Rattle.std.proofs.Common.{◌≡◌, ℕ, List, subst, sym}
 use Rattle.object_foresight.specs.Links.{AreKept}
+use Rattle.object_foresight.proofs.Foreseeing.{none_is_foreseen}
 use Rattle.object_foresight.proofs.hold.hold.Goals as goal
 
-pub returns-else-links : goal.returns-else-links
-returns-else-links c = record {
+pub returns-then-is_stuck : goal.returns-then-is_stuck
+returns-then-is_stuck c = record {
+  right = λ init next right none followed kept.
+      let known = c.keep.ensures.right init next (c.follow.ensures.right init next right followed)
+      (subst (λ (ranks : List (ℕ × ℕ)). AreKept init next c.args.book.now c.args.links.now ranks) (sym c.follow.ensures.ranks) kept) in
+      none_is_foreseen init next c.args.book.now _ (c.is_stuck.ensures init next known c.if-is_stuck.true);
+}
+
+pub returns-else-is_stuck : goal.returns-else-is_stuck
+returns-else-is_stuck c = record {
   right = λ init next right none followed kept.
       c.keep.ensures.right init next (c.follow.ensures.right init next right followed)
       (subst (λ (ranks : List (ℕ × ℕ)). AreKept init next c.args.book.now c.args.links.now ranks) (sym c.follow.ensures.ranks) kept);
