@@ -1,15 +1,19 @@
 -- Counting the uses of values, call by call.
-use Rattle.std.proofs.Common.{◌≡◌, ℕ, zero, suc, ◌+◌, ◌*◌, ◌<◌, ◌≤◌, ◌⊎◌, ◌==◌, ◌∙◌, Bool, true, false, not, List, [], ◌∷◌, length, slice_get, Option, Some, None, refl, sym, ap, subst, inl, inr, if◌then◌else◌, arith}
-use Rattle.std.proofs.lemmas.Bool.{cases_lt, cases_Bool, cond-true, cond-false, eqb-true, eq-eqb}
+use Rattle.std.proofs.Common.{◌≡◌, ℕ, zero, suc, ◌+◌, ◌<◌, ◌≤◌, ◌⊎◌, ◌==◌, ◌∙◌, min, List, [], ◌∷◌, length, get_or, set, slice_get, IsSomeAnd, get_or-set_same, get_or-set_other, Option, Some, refl, sym, ap, subst, inl, inr, if◌then◌else◌, arith}
+use Rattle.std.proofs.lemmas.Bool.{cases_lt, cases_eq, cases_Bool, cond-true, cond-false, eqb-true, eq-eqb}
 use Rattle.std.proofs.lemmas.Option.{same_Some, slice_get_within}
+use Rattle.std.proofs.lemmas.List.{get_or_past, length-set}
+use Rattle.list_laws.proofs.Options.{some_from_is_some_and}
+use Rattle.book_base.specs.Cut.{IsWithin}
+use Rattle.book_base.specs.declared.call.Record.{Record}
 use Rattle.book_base.specs.declared.call.Call.{Call}
 use Rattle.book_base.specs.declared.TheConstants.{MAX_CALLS}
-use Rattle.book_base.specs.Book.{Page, IsCall, calls_of}
+use Rattle.book_base.specs.Book.{Page, calls_of, record_of, Precedes}
 use Rattle.book_base.proofs.ViewLemmas.{same_call}
 use Rattle.book_base.proofs.PageLemmas.{caller_from_call}
 use Rattle.book_base.specs.Order.{HasLegalOrder}
 use Rattle.history_rules.specs.Container.{Reading, IsContainer}
-use Rattle.history_rules.specs.Calls.{PutsIn, PutsInAlone, TakesOut, AllTakesAnswered, IsNeverTaken}
+use Rattle.history_rules.specs.Calls.{PutsInAlone, IsNeverTaken}
 use Rattle.history_rules.specs.Rules.{AreDifferent}
 use Rattle.history_rules.proofs.MoreTaken.{taken_no_more_than_put}
 use Rattle.object_foresight.specs.declared.deal.Deal.{Deal}
@@ -17,8 +21,8 @@ use Rattle.object_foresight.specs.declared.deal.Deal.TheVariants as deals
 use Rattle.object_foresight.specs.declared.uses.Use.{Use}
 use Rattle.object_foresight.specs.declared.uses.Uses.{Uses}
 use Rattle.object_foresight.specs.Deals.{deal_of}
-use Rattle.object_foresight.specs.Uses.{IsReadTo, use_of, IsCounted, AreCounted}
-use Rattle.object_foresight.proofs.Dealing.{puts_by_deal, deal_of_put, takes_by_deal, deal_of_take, answered_by_deals, call_by_deal}
+use Rattle.object_foresight.specs.Uses.{IsReadTo, use_of, IsCounted, AreCounted, IsEarly}
+use Rattle.object_foresight.proofs.Dealing.{puts_by_deal, deal_of_put, takes_by_deal, deal_of_take, call_by_deal}
 
 -- the number of a caller's call
 abbrev pub call_of : ℕ → ℕ → Call
@@ -130,7 +134,7 @@ counted_take deal i n v used took is = record {
 pub counted_by_put : (reading : Reading) (book : List Page) (i n w : ℕ) (old new : Uses) → deal_of reading book (call_of i n) ≡ deals.Put w → AreCounted reading book i n old
     → ((v : ℕ) → use_of new.by_value.entries v ≡ (if v == w
     then record (use_of old.by_value.entries w) { puts = (use_of old.by_value.entries w).puts + 1; put = call_of i n } else use_of old.by_value.entries v))
-    → new.has_open_take ≡ old.has_open_take → AreCounted reading book i (n + 1) new
+    → new.open_from ≡ old.open_from → AreCounted reading book i (n + 1) new
 counted_by_put reading book i n w old new put is uses same =
     let deal = deal_of reading book in
     let old_use : ℕ → Use = use_of old.by_value.entries in
@@ -153,9 +157,9 @@ counted_by_put reading book i n w old new put is uses same =
         | inl h ↦ let f = is.few w in (omega (arith, f.0, ap (λ (u : Use). u.puts) h.1), omega (arith, f.1, ap (λ (u : Use). u.takes) h.1))
         | inr h ↦ let f = is.few v in (omega (arith, f.0, ap (λ (u : Use). u.puts) h.1), omega (arith, f.1, ap (λ (u : Use). u.takes) h.1))
       ];
-      answered = λ none c h e. elim (read_cases i n c h) [
-        | inl before ↦ is.answered (sym same ∙ none) c before e
-        | inr this ↦ let both : deals.Put w ≡ deals.OpenTake = sym put ∙ (sym (ap deal this) ∙ e) in cc
+      answered = λ c h e. elim (read_cases i n c h) [
+        | inl before ↦ omega (arith, is.answered c before e, ap (λ (xs : List ℕ). get_or xs c.caller 0) same)
+        | inr this ↦ absurd (let both : deals.Put w ≡ deals.OpenTake = sym put ∙ (sym (ap deal this) ∙ e) in cc)
       ];
     }
 
@@ -163,7 +167,7 @@ counted_by_put reading book i n w old new put is uses same =
 pub counted_by_take : (reading : Reading) (book : List Page) (i n w : ℕ) (old new : Uses) → deal_of reading book (call_of i n) ≡ deals.Took w → AreCounted reading book i n old
     → ((v : ℕ) → use_of new.by_value.entries v ≡ (if v == w
     then record (use_of old.by_value.entries w) { takes = (use_of old.by_value.entries w).takes + 1 } else use_of old.by_value.entries v))
-    → new.has_open_take ≡ old.has_open_take → AreCounted reading book i (n + 1) new
+    → new.open_from ≡ old.open_from → AreCounted reading book i (n + 1) new
 counted_by_take reading book i n w old new took is uses same =
     let deal = deal_of reading book in
     let old_use : ℕ → Use = use_of old.by_value.entries in
@@ -186,28 +190,44 @@ counted_by_take reading book i n w old new took is uses same =
         | inl h ↦ let f = is.few w in (omega (arith, f.0, ap (λ (u : Use). u.puts) h.1), omega (arith, f.1, ap (λ (u : Use). u.takes) h.1))
         | inr h ↦ let f = is.few v in (omega (arith, f.0, ap (λ (u : Use). u.puts) h.1), omega (arith, f.1, ap (λ (u : Use). u.takes) h.1))
       ];
-      answered = λ none c h e. elim (read_cases i n c h) [
-        | inl before ↦ is.answered (sym same ∙ none) c before e
-        | inr this ↦ let both : deals.Took w ≡ deals.OpenTake = sym took ∙ (sym (ap deal this) ∙ e) in cc
+      answered = λ c h e. elim (read_cases i n c h) [
+        | inl before ↦ omega (arith, is.answered c before e, ap (λ (xs : List ℕ). get_or xs c.caller 0) same)
+        | inr this ↦ absurd (let both : deals.Took w ≡ deals.OpenTake = sym took ∙ (sym (ap deal this) ∙ e) in cc)
       ];
     }
 
--- the same uses after a call that neither puts in nor takes out; an unanswered take is kept
+-- the same uses after a call that neither puts in nor takes out; an unanswered take lowers its caller's number
 pub counted_by_none : (reading : Reading) (book : List Page) (i n : ℕ) (old new : Uses)
     → ((v : ℕ) → deal_of reading book (call_of i n) ≡ deals.Put v → ⊥) → ((v : ℕ) → deal_of reading book (call_of i n) ≡ deals.Took v → ⊥)
-    → (new.has_open_take ≡ false → (deal_of reading book (call_of i n) ≡ deals.OpenTake → ⊥) × (old.has_open_take ≡ false))
+    → ((j : ℕ) → get_or new.open_from j 0 ≤ get_or old.open_from j 0) → (deal_of reading book (call_of i n) ≡ deals.OpenTake → get_or new.open_from i 0 ≤ n)
     → new.by_value ≡ old.by_value → AreCounted reading book i n old → AreCounted reading book i (n + 1) new
-counted_by_none reading book i n old new no_put no_take «open» same is =
+counted_by_none reading book i n old new no_put no_take lower now same is =
     let deal = deal_of reading book in
     let use_is : (v : ℕ) → use_of old.by_value.entries v ≡ use_of new.by_value.entries v = λ v. ap (λ b. use_of b.entries v) (sym same) in
     record {
       each = λ v. subst (IsCounted deal (IsReadTo i (n + 1)) v) (use_is v) (counted_skip deal i n v (use_of old.by_value.entries v) (no_put v) (no_take v) (is.each v));
       few = λ v. let f = is.few v in (omega (arith, f.0, ap (λ (u : Use). u.puts) (use_is v)), omega (arith, f.1, ap (λ (u : Use). u.takes) (use_is v)));
-      answered = λ none c h e. elim (read_cases i n c h) [
-        | inl before ↦ is.answered («open» none).1 c before e
-        | inr this ↦ («open» none).0 (sym (ap deal this) ∙ e)
+      answered = λ c h e. elim (read_cases i n c h) [
+        | inl before ↦ omega (arith, is.answered c before e, lower c.caller)
+        | inr this ↦
+            omega (arith, now (sym (ap deal this) ∙ e), ap (λ (d : Call). get_or new.open_from d.caller 0) this, ap (λ (d : Call). d.number) this)
       ];
     }
+
+-- a number that is lowered at one place
+pub lowered : (xs : List ℕ) (i n : ℕ) → ((j : ℕ) → get_or (set xs i (min (get_or xs i 0) n)) j 0 ≤ get_or xs j 0) × (get_or (set xs i (min (get_or xs i 0) n)) i 0 ≤ n)
+lowered xs i n =
+    let low : ℕ = min (get_or xs i 0) n in
+    let here : get_or (set xs i low) i 0 ≤ low = elim (cases_lt i (length xs)) [
+      | inl lt ↦ omega (arith, get_or-set_same xs i low 0 lt)
+      | inr le ↦ omega (arith, get_or_past (set xs i low) i 0 (omega (arith, length-set xs i low)))
+    ] in (
+      λ j. elim (cases_eq j i) [
+        | inl same ↦ omega (arith, here, ap (λ (k : ℕ). get_or (set xs i low) k 0) same, ap (λ (k : ℕ). get_or xs k 0) same)
+        | inr apart ↦ omega (arith, get_or-set_other xs i j low 0 apart)
+      ],
+      omega (arith, here),
+    )
 
 -- a call of the book that a caller's calls have, once the caller is read
 read_to_next : (reading : Reading) (book : List Page) (i : ℕ) (c : Call) → (deal_of reading book c ≡ deals.Other → ⊥) → IsReadTo (i + 1) 0 c → IsReadTo i (calls_of book i) c
@@ -233,7 +253,7 @@ counted_caller reading book i n uses all few is =
           (λ c h e. read_to_next reading book i c (λ other. let both : deals.Put v ≡ deals.Other = sym e ∙ other in cc) h)
           (λ c h e. read_to_next reading book i c (λ other. let both : deals.Took v ≡ deals.Other = sym e ∙ other in cc) h) (before.each v);
       few = λ v. let f = before.few v in (omega (arith, f.0, few), omega (arith, f.1, few));
-      answered = λ none c h e. before.answered none c (read_to_next reading book i c (λ other. let both : deals.OpenTake ≡ deals.Other = sym e ∙ other in cc) h) e;
+      answered = λ c h e. before.answered c (read_to_next reading book i c (λ other. let both : deals.OpenTake ≡ deals.Other = sym e ∙ other in cc) h) e;
     }
 
 -- nothing is read
@@ -257,7 +277,7 @@ counted_none reading book uses none =
         different = λ j k c a b. absurd (omega (arith, slice_get_within {A = Call} [] j c a));
       });
       few = λ v. (omega (arith, ap (λ (u : Use). u.puts) (empty v)), omega (arith, ap (λ (u : Use). u.takes) (empty v)));
-      answered = λ nothing c h e. read_none c h;
+      answered = λ c h e. absurd (read_none c h);
     }
 
 -- ---- what the uses of a whole book say
@@ -300,10 +320,14 @@ never_by_count reading book uses v is none call takes =
     let found = (is.each v).all_takers call (read_take reading book call v e) e in
     omega (arith, none, (is.each v).takes, slice_get_within (is.each v).takers found.0 call found.1)
 
--- where no unanswered take was found there is none
-pub answered_by_count : (reading : Reading) (book : List Page) (uses : Uses) → AreCounted reading book (length book) 0 uses → uses.has_open_take ≡ false → AllTakesAnswered reading book
-answered_by_count reading book uses is none =
-    answered_by_deals reading book (λ call e. is.answered none call (read_all reading book call (λ other. let both : deals.OpenTake ≡ deals.Other = sym e ∙ other in cc)) e)
+-- an early call precedes each unanswered take
+pub early_by_count : (reading : Reading) (book : List Page) (uses : Uses) (a : Call) → AreCounted reading book (length book) 0 uses → IsEarly book uses.open_from a
+    → (o : Call) → deal_of reading book o ≡ deals.OpenTake → Precedes book a o
+early_by_count reading book uses a is early o e =
+    let found = some_from_is_some_and (record_of book a) (λ (r : Record). IsWithin r.view uses.open_from) early in
+    let within : IsWithin found.0.view uses.open_from = subst (λ (r : Option Record). IsSomeAnd r (λ r. IsWithin r.view uses.open_from)) found.1 early in
+    let late = is.answered o (read_all reading book o (λ other. let both : deals.OpenTake ≡ deals.Other = sym e ∙ other in cc)) e in
+    inl (subst (λ (r : Option Record). IsSomeAnd r (λ r. get_or r.view o.caller 0 ≤ o.number)) (sym found.1) (omega (arith, within o.caller, late)))
 
 -- a value that is taken more often than it is put in leaves no legal order
 pub none_by_count : (reading : Reading) (init : List ℕ) (next : List ℕ → ℕ → List ℕ × ℕ) (book : List Page) (uses : Uses) (v : ℕ) → AreCounted reading book (length book) 0 uses

@@ -1,15 +1,14 @@
 -- What a deal says of its call.
-use Rattle.std.proofs.Common.{◌≡◌, ℕ, ◌<◌, ◌∙◌, List, Option, Some, None, refl, sym, ap, inl, inr}
+use Rattle.std.proofs.Common.{◌≡◌, ℕ, ◌∙◌, List, Option, Some, None, refl, ap, inl, inr}
 use Rattle.std.proofs.lemmas.Option.{slice_get_within}
 use Rattle.list_laws.proofs.Options.{cases_Option}
 use Rattle.book_base.specs.declared.call.Call.{Call}
 use Rattle.book_base.specs.declared.call.Record.{Record}
-use Rattle.book_base.specs.Book.{Page, page_of, IsCall, IsAnswered, operation_of, record_of}
+use Rattle.book_base.specs.Book.{Page, page_of, IsCall, operation_of, record_of}
 use Rattle.history_rules.specs.Container.{Deed, Puts, Takes, Neither, Reading}
-use Rattle.history_rules.specs.Calls.{PutsIn, TakesShowing, TakesOut, FindsNothing, AllTakesAnswered}
-use Rattle.object_foresight.specs.declared.deal.Deal.{Deal}
+use Rattle.history_rules.specs.Calls.{PutsIn, TakesOut, FindsNothing}
 use Rattle.object_foresight.specs.declared.deal.Deal.TheVariants as deals
-use Rattle.object_foresight.specs.Deals.{shown_deal, recorded_deal, take_of, deal_by_deed, deal_by_operation, deal_of}
+use Rattle.object_foresight.specs.Deals.{shown_deal, recorded_deal, deal_by_deed, deal_by_operation, deal_of}
 
 -- what a take's deal says of what its reply shows
 shown_took : (shown : Option ℕ) (v : ℕ) → shown_deal shown ≡ deals.Took v → shown ≡ Some v
@@ -83,13 +82,6 @@ nothing_by_deal reading book call e = nothing_by_operation reading book call (op
 pub deal_of_take : (reading : Reading) (book : List Page) (call : Call) (v : ℕ) → TakesOut reading book call v → deal_of reading book call ≡ deals.Took v
 deal_of_take reading book call v h =
     ap (deal_by_operation reading book call) h.2 ∙ (ap (deal_by_deed reading book call) h.4 ∙ (ap (recorded_deal reading) h.3 ∙ ap shown_deal h.5))
-
--- all takes are answered where no call has the deal of an unanswered one
-pub answered_by_deals : (reading : Reading) (book : List Page) → ((call : Call) → deal_of reading book call ≡ deals.OpenTake → ⊥) → AllTakesAnswered reading book
-answered_by_deals reading book none call op is takes = elim (cases_Option (record_of book call)) [
-  | inl nothing ↦ absurd (none call (ap (deal_by_operation reading book call) is ∙ (ap (deal_by_deed reading book call) takes ∙ ap (recorded_deal reading) nothing)))
-  | inr found ↦ slice_get_within (page_of book call.caller).records call.number found.0 found.1
-]
 
 -- a call without an operation has no deal
 pub call_by_deal : (reading : Reading) (book : List Page) (call : Call) → (deal_of reading book call ≡ deals.Other → ⊥) → IsCall book call

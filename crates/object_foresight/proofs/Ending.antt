@@ -1,18 +1,18 @@
 -- Where no caller's next call after a cut can stand, each legal order ends within the cut.
-use Rattle.std.proofs.Common.{◌≡◌, ℕ, zero, suc, ◌+◌, ◌<◌, ◌≤◌, ◌⊎◌, ◌∙◌, List, [], ◌∷◌, ◌++◌, length, map, replicate, take, drop, get_or, set, slice_get, Option, Some, None, IsSomeAnd, refl, sym, ap, subst, inl, inr, arith, drop-cons}
-use Rattle.std.proofs.lemmas.Bool.{cases_lt, cases_eq}
-use Rattle.std.proofs.lemmas.Option.{same_Some, none-some, slice_get-get_or, slice_get_within}
+use Rattle.std.proofs.Common.{◌≡◌, ℕ, zero, suc, ◌+◌, ◌<◌, ◌≤◌, ◌∙◌, List, [], ◌∷◌, ◌++◌, length, replicate, take, drop, get_or, set, slice_get, Some, refl, sym, ap, subst, inl, inr, arith, drop-cons}
+use Rattle.std.proofs.lemmas.Bool.{cases_lt}
+use Rattle.std.proofs.lemmas.Option.{same_Some, slice_get-get_or, slice_get_within}
 use Rattle.std.proofs.lemmas.List.{take_more, take-append-drop, length-set, length-replicate}
-use Rattle.list_laws.proofs.Options.{cases_Option, some_from_is_some_and}
+use Rattle.list_laws.proofs.Options.{some_from_is_some_and}
 use Rattle.list_laws.proofs.Places.{slice_get-take}
 use Rattle.list_laws.proofs.Fronts.{slice_get-take_within, slice_get-take_below}
 use Rattle.book_base.specs.declared.call.Call.{Call}
 use Rattle.book_base.specs.declared.call.Place.{Place}
 use Rattle.book_base.specs.declared.call.Record.{Record}
 use Rattle.book_base.specs.Cut.{Holds}
-use Rattle.book_base.specs.Book.{Page, page_of, IsCall, IsAnswered, record_of, Precedes}
+use Rattle.book_base.specs.Book.{Page, IsCall, IsAnswered, record_of}
 use Rattle.book_base.specs.Order.{call_at, StandsAt, step_at, IsLegalOrder, HasLegalOrder}
-use Rattle.book_base.specs.Foresight.{Known, bar_of, IsBelow, IsForesight, Reaches}
+use Rattle.book_base.specs.Foresight.{Known, IsForesight, Reaches}
 use Rattle.book_base.proofs.PageLemmas.{caller_from_call}
 use Rattle.book_base.proofs.ViewLemmas.{same_call, answer_stands}
 use Rattle.book_base.proofs.ReachingLemmas.{no_places_reach_the_start, one_more_place_reaches_on}

@@ -1,35 +1,38 @@
 -- What links say holds of queues, stacks and containers.
-use Rattle.std.proofs.Common.{◌≡◌, ℕ, ◌+◌, ◌-◌, ◌<◌, ◌≤◌, ◌⊎◌, ◌∙◌, Bool, true, false, List, [], ◌∷◌, length, sum, get_or, map, replicate, bytes_eq, Option, Some, None, IsSomeAnd, refl, sym, ap, subst, inl, inr, arith}
+use Rattle.std.proofs.Common.{◌≡◌, ℕ, ◌+◌, ◌<◌, ◌≤◌, ◌⊎◌, ◌∙◌, true, List, [], length, sum, get_or, replicate, bytes_eq, Option, Some, None, IsSomeAnd, refl, sym, ap, subst, inl, inr, arith}
 use Rattle.std.specs.List.{Contains}
 use Rattle.std.proofs.lemmas.Bool.{cases_lt, cases_Bool}
 use Rattle.std.proofs.lemmas.Slice.Eq.{bytes_eq-Decides}
-use Rattle.std.proofs.lemmas.Option.{same_Some, none-some}
 use Rattle.std.proofs.lemmas.List.{get_or_past, get_or-map, length-map}
-use Rattle.list_laws.proofs.Options.{cases_Option, some_from_is_some_and}
+use Rattle.list_laws.proofs.Options.{some_from_is_some_and}
 use Rattle.list_laws.proofs.Places.{get_or-replicate_default}
 use Rattle.list_laws.proofs.Counting.{sum-rises_apart}
 use Rattle.book_base.specs.declared.call.Call.{Call}
-use Rattle.book_base.specs.declared.call.Place.{Place}
 use Rattle.book_base.specs.declared.call.Record.{Record}
 use Rattle.book_base.specs.declared.foresight.Bar.{Bar}
 use Rattle.book_base.specs.declared.TheConstants.{MAX_CALLERS}
 use Rattle.book_base.specs.Cut.{IsWithin}
 use Rattle.book_base.specs.Book.{Page, IsValid, calls_of, record_of, Precedes}
 use Rattle.book_base.specs.Order.{HasLegalOrder}
-use Rattle.book_base.specs.Foresight.{Known, no_bar, bar_of, rank_of, IsBelow, HasEarly, Forbids, IsHopeless, IsForesight, MustComeFirst, blank_bars}
+use Rattle.book_base.specs.Foresight.{Known, no_bar, bar_of, rank_of, IsBelow, HasEarly, IsForesight, MustComeFirst, blank_bars}
 use Rattle.book_base.proofs.ForesightLemmas.{none_early}
 use Rattle.book_base.proofs.PageLemmas.{empty}
 use Rattle.book_base.proofs.ViewLemmas.{precedes_by_view}
 use Rattle.history_rules.specs.Container.{Reading, IsContainer, IsQueue, IsStack}
 use Rattle.history_rules.specs.Calls.{TakesOut}
-use Rattle.history_rules.proofs.QueueRuns.{queue_is_container, stack_is_container}
-use Rattle.history_rules.proofs.ContainerRules.{empty_before_put, empty_before_kept}
-use Rattle.history_rules.proofs.QueueRules.{puts_in_order, taken_before_kept}
-use Rattle.history_rules.proofs.StackRules.{put_is_covered, kept_covers_none}
+use Rattle.history_rules.proofs.QueueRuns.{stack_is_container}
+use Rattle.history_rules.proofs.ContainerRules.{empty_before_put}
+use Rattle.history_rules.proofs.QueueRules.{puts_in_order}
+use Rattle.history_rules.proofs.StackRules.{put_is_covered}
 use Rattle.object_foresight.specs.declared.links.Discipline.{Discipline}
-use Rattle.object_foresight.specs.declared.links.Discipline.TheVariants.{Queue, Stack, Container}
+use Rattle.object_foresight.specs.declared.links.Discipline.TheVariants.{Queue, Stack}
 use Rattle.object_foresight.specs.declared.links.Links.{Links}
-use Rattle.object_foresight.specs.Links.{link_at, reach_by, reach_of, IsLink, AreLinks, AreFollowed, AreKept}
+use Rattle.object_foresight.specs.declared.uses.Uses.{Uses}
+use Rattle.object_foresight.specs.Uses.{AreCounted, IsEarly}
+use Rattle.object_foresight.proofs.Counting.{early_by_count}
+use Rattle.object_foresight.proofs.Keeping.{PrecedesOpenTakes, empty_before_open, taken_before_open}
+use Rattle.object_foresight.proofs.StackKeeping.{open_covers_none}
+use Rattle.object_foresight.specs.Links.{link_at, reach_by, reach_of, AreLinks, AreFollowed, AreKept}
 use Rattle.object_foresight.specs.Ranks.{IsRanked, AreRanks}
 use Rattle.object_foresight.specs.Foreseen.{HoldsItsWords}
 
@@ -79,14 +82,14 @@ leads_before_put reading init next book discipline links is container queue none
 
 pub leads_before_kept : (reading : Reading) (init : List ℕ) (next : List ℕ → ℕ → List ℕ × ℕ) (book : List Page) (discipline : Discipline) (links : Links) → AreLinks reading book discipline links
     → IsContainer reading next → (discipline ≡ Queue → IsQueue reading next) → reading.values init ≡ []
-    → (a first put : Call) → (link_at links a).before ≡ Some first → (link_at links put).is_kept ≡ true → MustComeFirst init next book first put
-leads_before_kept reading init next book discipline links is container queue none a first put before kept =
+    → (a first put : Call) → PrecedesOpenTakes reading book a → (link_at links a).before ≡ Some first → (link_at links put).is_kept ≡ true → MustComeFirst init next book first put
+leads_before_kept reading init next book discipline links is container queue none a first put early before kept =
     let stays = (is.each put).kept kept in
     elim ((is.each a).before first before) [
       | inl nothing ↦
           subst (λ (c : Call). MustComeFirst init next book c put) (sym nothing.1)
-          (empty_before_kept reading init next book container none stays.0 stays.1.0 a put nothing.0 stays.1.1 stays.1.2)
-      | inr led ↦ taken_before_kept reading init next book (queue led.0) none stays.0 led.1.0 stays.1.0 a first put led.1.1 led.1.2 stays.1.1 stays.1.2
+          (empty_before_open reading init next book container none stays.0 a put early nothing.0 stays.1 stays.2)
+      | inr led ↦ taken_before_open reading init next book (queue led.0) none led.1.0 stays.0 a first put early led.1.1 led.1.2 stays.1 stays.2
     ]
 
 -- no list has an early word where no word has a rank
@@ -101,11 +104,12 @@ followed_without_ranks reading init next book discipline links ranks is containe
   covers = λ a b put precedes after cut list early. absurd (none_early_without ranks list (link_at links a).reach empty early);
 }
 
-pub kept_without_ranks : (reading : Reading) (init : List ℕ) (next : List ℕ → ℕ → List ℕ × ℕ) (book : List Page) (discipline : Discipline) (links : Links) (ranks : List (ℕ × ℕ)) → AreLinks reading book discipline links
-    → IsContainer reading next → (discipline ≡ Queue → IsQueue reading next) → reading.values init ≡ [] → ranks ≡ [] → AreKept init next book links ranks
-kept_without_ranks reading init next book discipline links ranks is container queue none empty = record {
-  order = leads_before_kept reading init next book discipline links is container queue none;
-  covers = λ a put kept cut list early. absurd (none_early_without ranks list (link_at links a).reach empty early);
+pub kept_without_ranks : (reading : Reading) (init : List ℕ) (next : List ℕ → ℕ → List ℕ × ℕ) (book : List Page) (discipline : Discipline) (links : Links) (uses : Uses) (ranks : List (ℕ × ℕ))
+    → AreLinks reading book discipline links → AreCounted reading book (length book) 0 uses
+    → IsContainer reading next → (discipline ≡ Queue → IsQueue reading next) → reading.values init ≡ [] → ranks ≡ [] → AreKept init next book links uses.open_from ranks
+kept_without_ranks reading init next book discipline links uses ranks is counted container queue none empty = record {
+  order = λ a first put early. leads_before_kept reading init next book discipline links is container queue none a first put (early_by_count reading book uses a counted early);
+  covers = λ a put is_early kept cut list early. absurd (none_early_without ranks list (link_at links a).reach empty early);
 }
 
 -- ---- views are a chain
@@ -117,6 +121,13 @@ chain_within a b long within few i = elim (cases_Bool (bytes_eq a b)) [
   | inr apart ↦ absurd (omega (arith, few, sum-rises_apart a b long (λ t _. within t) apart))
 ]
 
+-- an answered call of a less view counts no more of any caller
+view_below : (book : List Page) → IsValid book → (a c : Call) (r s : Record) → record_of book a ≡ Some r → record_of book c ≡ Some s → sum s.view ≤ sum r.view → (i : ℕ) → get_or s.view i 0 ≤ get_or r.view i 0
+view_below book valid a c r s at_a at_c few i = elim (valid.comparable c a s r at_c at_a) [
+  | inl within ↦ within i
+  | inr within ↦ chain_within r.view s.view (valid.wide a r at_a ∙ sym (valid.wide c s at_c)) within few i
+]
+
 -- what a call of a less view precedes
 precedes_below : (book : List Page) → IsValid book → (a b c : Call) (r s : Record) → record_of book a ≡ Some r → record_of book c ≡ Some s → sum s.view ≤ sum r.view → Precedes book a b → Precedes book c b
 precedes_below book valid a b c r s at_a at_c few precedes =
@@ -124,10 +135,7 @@ precedes_below book valid a b c r s at_a at_c few precedes =
       | inl known ↦ subst (λ (o : Option Record). IsSomeAnd o (λ r. get_or r.view b.caller 0 ≤ b.number)) at_a known
       | inr own ↦ precedes_by_view book valid a b r at_a own.0 own.1
     ] in
-    let less : get_or s.view b.caller 0 ≤ get_or r.view b.caller 0 = elim (valid.comparable c a s r at_c at_a) [
-      | inl within ↦ within b.caller
-      | inr within ↦ chain_within r.view s.view (valid.wide a r at_a ∙ sym (valid.wide c s at_c)) within few b.caller
-    ] in
+    let less : get_or s.view b.caller 0 ≤ get_or r.view b.caller 0 = view_below book valid a c r s at_a at_c few b.caller in
     inl (subst (λ (o : Option Record). IsSomeAnd o (λ s. get_or s.view b.caller 0 ≤ b.number)) (sym at_c) (omega (arith, seen, less)))
 
 -- a word of a rank below a reach is taken by a call that precedes what the call of this reach precedes
@@ -167,16 +175,30 @@ followed_by_stack reading init next book links ranks valid is are stack holds no
       ];
 }
 
-pub kept_by_stack : (reading : Reading) (init : List ℕ) (next : List ℕ → ℕ → List ℕ × ℕ) (book : List Page) (links : Links) (ranks : List (ℕ × ℕ)) → AreLinks reading book Stack links
-    → AreRanks reading book ranks → IsStack reading next → HoldsItsWords reading → reading.values init ≡ [] → AreKept init next book links ranks
-kept_by_stack reading init next book links ranks is are stack holds none = record {
-  order = leads_before_kept reading init next book Stack links is (stack_is_container reading next stack) (λ e. absurd cc) none;
-  covers = λ a put kept cut list early.
+-- a taker of a rank below an early call's reach is early too
+early_below : (book : List Page) → IsValid book → (open_from : List ℕ) (a c : Call) (r s : Record) → record_of book a ≡ Some r → record_of book c ≡ Some s → sum s.view ≤ sum r.view → IsEarly book open_from a → IsEarly book open_from c
+early_below book valid open_from a c r s at_a at_c few early =
+    let within : IsWithin r.view open_from = subst (λ (o : Option Record). IsSomeAnd o (λ r. IsWithin r.view open_from)) at_a early in
+    subst (λ (o : Option Record). IsSomeAnd o (λ s. IsWithin s.view open_from)) (sym at_c) (λ i. omega (arith, within i, view_below book valid a c r s at_a at_c few i))
+
+pub kept_by_stack : (reading : Reading) (init : List ℕ) (next : List ℕ → ℕ → List ℕ × ℕ) (book : List Page) (links : Links) (uses : Uses) (ranks : List (ℕ × ℕ)) → IsValid book → AreLinks reading book Stack links
+    → AreCounted reading book (length book) 0 uses → AreRanks reading book ranks → IsStack reading next → HoldsItsWords reading → reading.values init ≡ [] → AreKept init next book links uses.open_from ranks
+kept_by_stack reading init next book links uses ranks valid is counted are stack holds none = record {
+  order = λ a first put early. leads_before_kept reading init next book Stack links is (stack_is_container reading next stack) (λ e. absurd cc) none a first put (early_by_count reading book uses a counted early);
+  covers = λ a put is_early kept cut list early.
       let word = early_is_taken reading book ranks list (link_at links a).reach are early in
       let ranked = word.3 in
       let stays = (is.each put).kept kept in
-      kept_covers_none reading init next book stack none stays.0 word.0 stays.1.0 ranked.take ranked.put put ranked.takes ranked.alone stays.1.1 stays.1.2 cut list
-      (holds list word.0 ranked.takes.1.reply word.2 ranked.takes.5);
+      let take = take_record reading book ranked.take word.0 ranked.takes in
+      elim (is.each a).reach [
+        | inl nothing ↦ absurd (omega (arith, nothing, word.4))
+        | inr reach ↦
+            let r = reach_answered book a (record_of book a) (omega (arith, reach, word.4)) in
+            let few : sum take.0.view ≤ sum r.0.view = omega (arith, word.4, reach, ranked.rank_is, take.2, r.2) in
+            let before = early_by_count reading book uses ranked.take counted (early_below book valid uses.open_from a ranked.take r.0 take.0 r.1 take.1 few is_early) in
+            open_covers_none reading init next book stack none word.0 stays.0 ranked.take ranked.put put before ranked.takes ranked.alone stays.1 stays.2 cut list
+            (holds list word.0 ranked.takes.1.reply word.2 ranked.takes.5)
+      ];
 }
 
 -- no list has a word of a rank below 0

@@ -2,6 +2,8 @@ pub mod Dealing
 pub mod Counting
 pub mod Linking
 pub mod Passing
+pub mod Keeping
+pub mod StackKeeping
 pub mod Foreseeing
 pub mod Ranking
 pub mod Ending

@@ -1,13 +1,13 @@
 -- The links of calls are right.
-use Rattle.std.proofs.Common.{◌≡◌, ℕ, zero, suc, ◌+◌, ◌<◌, ◌⊎◌, ◌==◌, ◌&&◌, ◌∙◌, Bool, true, false, not, nat_lt, List, [], ◌∷◌, ◌++◌, length, map, get_or, Option, Some, None, refl, sym, ap, subst, inl, inr, cond, arith, length-append, Vec, Global}
-use Rattle.std.proofs.lemmas.Bool.{cases_Bool, cond-true, cond-false, eqb-true, ltb-true, and_parts, true≢false}
+use Rattle.std.proofs.Common.{◌≡◌, ℕ, zero, suc, ◌+◌, ◌⊎◌, ◌==◌, ◌∙◌, Bool, true, false, List, [], ◌∷◌, ◌++◌, length, map, get_or, Option, Some, refl, sym, ap, subst, inl, inr, arith, length-append, Vec, Global}
+use Rattle.std.proofs.lemmas.Bool.{eqb-true, ltb-true, true≢false}
 use Rattle.std.proofs.lemmas.Option.{same_Some, none-some, slice_get_within}
 use Rattle.std.proofs.lemmas.List.{map-append, length-map}
 use Rattle.list_laws.proofs.Options.{if_some}
 use Rattle.book_base.specs.declared.call.Call.{Call}
 use Rattle.book_base.specs.Book.{Page, page_of, IsCall}
-use Rattle.history_rules.specs.Container.{Reading, IsContainer}
-use Rattle.history_rules.specs.Calls.{PutsIn, PutsInAlone, TakesOut, FindsNothing, AllTakesAnswered, IsNeverTaken}
+use Rattle.history_rules.specs.Container.{Reading}
+use Rattle.history_rules.specs.Calls.{PutsInAlone}
 use Rattle.object_foresight.specs.declared.deal.Deal.{Deal}
 use Rattle.object_foresight.specs.declared.deal.Deal.TheVariants as deals
 use Rattle.object_foresight.specs.declared.uses.Uses.{Uses}
@@ -17,9 +17,9 @@ use Rattle.object_foresight.specs.declared.links.Link.{Link}
 use Rattle.object_foresight.specs.declared.links.Links.{Links}
 use Rattle.object_foresight.specs.Deals.{deal_of}
 use Rattle.object_foresight.specs.Uses.{use_of, AreCounted}
-use Rattle.object_foresight.specs.Links.{no_link, link_at, only_put, keeps, refuses, reach_of, reach_for, before_for, link_by, link_of, Leads, IsLink, HasNoneOfAny, AreLinks, AreLinksTo, AreLinksOf}
+use Rattle.object_foresight.specs.Links.{no_link, only_put, refuses, reach_of, reach_for, before_for, link_of, IsLink, HasNoneOfAny, AreLinks, AreLinksTo, AreLinksOf}
 use Rattle.object_foresight.proofs.Dealing.{puts_by_deal, takes_by_deal, nothing_by_deal}
-use Rattle.object_foresight.proofs.Counting.{call_of, alone_by_count, never_by_count, answered_by_count, none_by_count}
+use Rattle.object_foresight.proofs.Counting.{call_of, alone_by_count, never_by_count, none_by_count}
 
 -- the only put of a value puts it in alone
 pub alone_by_put : (reading : Reading) (book : List Page) (uses : Uses) (v : ℕ) (put : Call) → AreCounted reading book (length book) 0 uses → only_put uses v ≡ Some put → PutsInAlone reading book put v
@@ -54,11 +54,7 @@ link_by_deal reading book uses discipline call (deals.Put v) is e = record {
   before = λ first at. absurd (none-some first at);
   after = λ put at. absurd (none-some put at);
   reach = reach_either discipline (reach_of book call);
-  kept = λ kept.
-      let parts = and_parts (not uses.has_open_take) ((use_of uses.by_value.entries v).takes == 0) kept in
-      let closed : uses.has_open_take ≡ false = elim (cases_Bool uses.has_open_take) [ inl so ↦ absurd (true≢false (sym parts.0 ∙ ap not so)) | inr other ↦ other ] in
-      let none : (use_of uses.by_value.entries v).takes ≡ 0 = eqb-true (use_of uses.by_value.entries v).takes 0 parts.1 in
-      (answered_by_count reading book uses is closed, (v, puts_by_deal reading book call v e, never_by_count reading book uses v is none));
+  kept = λ kept. (v, puts_by_deal reading book call v e, never_by_count reading book uses v is (eqb-true (use_of uses.by_value.entries v).takes 0 kept));
 }
 link_by_deal reading book uses discipline call (deals.Took v) is e = record {
   before = λ first at.

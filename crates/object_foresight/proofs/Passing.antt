@@ -1,9 +1,7 @@
 -- What passed calls say of a put behind them.
-use Rattle.std.proofs.Common.{◌≡◌, ◌≢◌, ℕ, zero, suc, ◌+◌, ◌-◌, ◌<◌, ◌≤◌, ◌⊎◌, ◌∙◌, List, length, max, get_or, set, replicate, Option, Some, None, IfSome, IsSomeAnd, refl, sym, ap, subst, inl, inr, arith, get_or-set_same, get_or-set_other}
-use Rattle.std.specs.Prelude.{⊤}
+use Rattle.std.proofs.Common.{◌≡◌, ℕ, ◌+◌, ◌-◌, ◌<◌, ◌≤◌, ◌⊎◌, ◌∙◌, List, length, max, get_or, set, replicate, Option, Some, None, IfSome, IsSomeAnd, refl, sym, ap, subst, inl, inr, arith, get_or-set_same, get_or-set_other}
 use Rattle.std.proofs.lemmas.List.{length-set, length-replicate, length-map, get_or-map, get_or_past}
 use Rattle.std.proofs.lemmas.Bool.{cases_lt, cases_eq}
-use Rattle.std.proofs.lemmas.Option.{same_Some, none-some}
 use Rattle.list_laws.proofs.Options.{cases_Option, some_from_is_some_and}
 use Rattle.list_laws.proofs.Places.{get_or-replicate_default}
 use Rattle.book_base.specs.declared.call.Call.{Call}

@@ -1,12 +1,12 @@
 -- What the calls of a book say of the puts of other values.
-use Rattle.std.specs.Prelude.{◌≡◌, ℕ, ◌+◌, ◌<◌, ◌⊎◌, ◌==◌, ◌&&◌, not, nat_lt, Bool, true, false, List, [], length, map, Option, Some, None, slice_index_or, sum, if◌then◌else◌}
+use Rattle.std.specs.Prelude.{◌≡◌, ℕ, ◌+◌, ◌⊎◌, ◌==◌, nat_lt, Bool, true, false, List, [], length, map, Option, Some, None, slice_index_or, sum, if◌then◌else◌}
 use Rattle.book_base.specs.declared.call.Call.{Call}
 use Rattle.book_base.specs.declared.call.Record.{Record}
 use Rattle.book_base.specs.Book.{Page, IsCall, record_of, Precedes}
 use Rattle.book_base.specs.Order.{HasLegalOrder}
 use Rattle.book_base.specs.Foresight.{HasEarly, IsHopeless, MustComeFirst}
 use Rattle.history_rules.specs.Container.{Reading, IsContainer}
-use Rattle.history_rules.specs.Calls.{PutsIn, PutsInAlone, TakesOut, FindsNothing, AllTakesAnswered, IsNeverTaken}
+use Rattle.history_rules.specs.Calls.{PutsIn, PutsInAlone, TakesOut, FindsNothing, IsNeverTaken}
 use Rattle.object_foresight.specs.declared.deal.Deal.{Deal}
 use Rattle.object_foresight.specs.declared.deal.Deal.TheVariants as deals
 use Rattle.object_foresight.specs.declared.uses.Uses.{Uses}
@@ -14,7 +14,7 @@ use Rattle.object_foresight.specs.declared.links.Discipline.{Discipline}
 use Rattle.object_foresight.specs.declared.links.Discipline.TheVariants.{Queue, Stack, Container}
 use Rattle.object_foresight.specs.declared.links.Link.{Link}
 use Rattle.object_foresight.specs.declared.links.Links.{Links}
-use Rattle.object_foresight.specs.Uses.{use_of}
+use Rattle.object_foresight.specs.Uses.{use_of, IsEarly}
 
 -- a link that says nothing
 abbrev pub no_link : Link
@@ -28,9 +28,9 @@ link_at links call = slice_index_or (slice_index_or (map (λ row. row.items) lin
 abbrev pub only_put : Uses → ℕ → Option Call
 only_put uses v = if (use_of uses.by_value.entries v).puts == 1 then Some (use_of uses.by_value.entries v).put else None
 
--- whether each take is answered, and none takes the value
+-- whether no answered call takes the value
 abbrev pub keeps : Uses → ℕ → Bool
-keeps uses v = not uses.has_open_take && ((use_of uses.by_value.entries v).takes == 0)
+keeps uses v = (use_of uses.by_value.entries v).takes == 0
 
 -- whether a call with this deal takes a value that is taken more often than it is put in
 abbrev pub refuses : Uses → Deal → Bool
@@ -82,7 +82,7 @@ pub record IsLink (reading : Reading) (book : List Page) (discipline : Disciplin
   pub before : (first : Call) → link.before ≡ Some first → Leads reading book discipline call first
   pub after : (put : Call) → link.after ≡ Some put → (v : ℕ) × TakesOut reading book call v × PutsInAlone reading book put v
   pub reach : (link.reach ≡ 0) ⊎ (link.reach ≡ reach_of book call)
-  pub kept : link.is_kept ≡ true → AllTakesAnswered reading book × ((v : ℕ) × PutsIn reading book call v × IsNeverTaken reading book v)
+  pub kept : link.is_kept ≡ true → (v : ℕ) × PutsIn reading book call v × IsNeverTaken reading book v
 
 -- no container from empty has a legal order of the book
 abbrev pub HasNoneOfAny : Reading → List Page → Type 0
@@ -108,9 +108,9 @@ pub record AreFollowed (init : List ℕ) (next : List ℕ → ℕ → List ℕ �
   pub covers : (a b put : Call) → Precedes book a b → (link_at links b).after ≡ Some put
       → (cut list : List ℕ) → HasEarly ranks list (link_at links a).reach → IsHopeless init next book cut list put
 
--- What links say of puts of what stays for good holds of an object: what leads from any call stands before them, and they are
--- hopeless at a list with a word of a rank below any reach.
-pub record AreKept (init : List ℕ) (next : List ℕ → ℕ → List ℕ × ℕ) (book : List Page) (links : Links) (ranks : List (ℕ × ℕ)) : Type 0 where
-  pub order : (a first put : Call) → (link_at links a).before ≡ Some first → (link_at links put).is_kept ≡ true → MustComeFirst init next book first put
-  pub covers : (a put : Call) → (link_at links put).is_kept ≡ true
+-- What links say of puts of what no answered call takes holds of an object: what leads from a call that precedes each unanswered
+-- take stands before them, and they are hopeless at a list with a word of a rank below the reach of such a call.
+pub record AreKept (init : List ℕ) (next : List ℕ → ℕ → List ℕ × ℕ) (book : List Page) (links : Links) (open_from : List ℕ) (ranks : List (ℕ × ℕ)) : Type 0 where
+  pub order : (a first put : Call) → IsEarly book open_from a → (link_at links a).before ≡ Some first → (link_at links put).is_kept ≡ true → MustComeFirst init next book first put
+  pub covers : (a put : Call) → IsEarly book open_from a → (link_at links put).is_kept ≡ true
       → (cut list : List ℕ) → HasEarly ranks list (link_at links a).reach → IsHopeless init next book cut list put

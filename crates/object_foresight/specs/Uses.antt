@@ -1,11 +1,12 @@
 -- How often each value of a book is put in and taken out.
-use Rattle.std.specs.Prelude.{◌≡◌, ℕ, ◌+◌, ◌*◌, ◌<◌, ◌≤◌, ◌⊎◌, false, List, length, slice_get, Some, unwrap_or}
+use Rattle.std.specs.Prelude.{◌≡◌, ℕ, ◌+◌, ◌*◌, ◌<◌, ◌≤◌, ◌⊎◌, List, length, slice_get, Some, IsSomeAnd, slice_index, unwrap_or}
 use Rattle.std.specs.Ordering.{nat_cmp}
 use Rattle.std.specs.BTreeMap.{is_at}
 use Rattle.std.specs.Map.{lookup}
 use Rattle.book_base.specs.declared.call.Call.{Call}
 use Rattle.book_base.specs.declared.TheConstants.{MAX_CALLS}
-use Rattle.book_base.specs.Book.{Page}
+use Rattle.book_base.specs.Book.{Page, record_of}
+use Rattle.book_base.specs.Cut.{IsWithin}
 use Rattle.history_rules.specs.Container.{Reading}
 use Rattle.history_rules.specs.Rules.{AreDifferent}
 use Rattle.object_foresight.specs.declared.deal.Deal.{Deal}
@@ -46,5 +47,9 @@ pub record AreCounted (reading : Reading) (book : List Page) (caller number : �
   pub each : (v : ℕ) → IsCounted (deal_of reading book) (IsReadTo caller number) v (use_of uses.by_value.entries v)
   -- no value is used more often than calls were read
   pub few : (v : ℕ) → ((use_of uses.by_value.entries v).puts ≤ caller * MAX_CALLS + number) × ((use_of uses.by_value.entries v).takes ≤ caller * MAX_CALLS + number)
-  -- each call that takes is answered, where no unanswered one was found
-  pub answered : uses.has_open_take ≡ false → (call : Call) → IsReadTo caller number call → deal_of reading book call ≡ deals.OpenTake → ⊥
+  -- no take of a caller is unanswered before the number from which on they may be
+  pub answered : (call : Call) → IsReadTo caller number call → deal_of reading book call ≡ deals.OpenTake → slice_index uses.open_from call.caller ≤ call.number
+
+-- An answered call's view counts no call of a caller from that number on.
+abbrev pub IsEarly : List Page → List ℕ → Call → Type 0
+IsEarly book open_from call = IsSomeAnd (record_of book call) (λ r. IsWithin r.view open_from)

@@ -13,8 +13,9 @@ use std::alloc::Global;
 
 /// What a queue foresees of a book (after Henzinger, Sezgin and Vafeiadis 2013): where the take of x
 /// precedes the take of v, x is put in before v; a take that finds nothing and precedes the take of v
-/// stands before the put of v; what is never taken is put in after both, where each take is answered; and
-/// no value is taken more often than it is put in.
+/// stands before the put of v; what no answered call takes is put in after whatever is taken, and after
+/// the takes that find nothing, of those takes that precede each unanswered one; and no value is taken more
+/// often than it is put in.
 pub fn foresee_queue<R: Reader>(
     alloc: Global,
     reader: &R,
@@ -26,14 +27,14 @@ pub fn foresee_queue<R: Reader>(
     let uses = Uses::of(alloc, reader, book)?;
     let links = Links::of(alloc, reader, book, &uses, Discipline::Queue)?;
     let mut known = Foresight::blank(alloc, book)?;
-    hold(book, &links, &mut known);
+    hold(book, &links, &uses, &mut known);
     Ok(known)
 }
 
 /// What a stack foresees of a book: where the take of x precedes the take of v, v isn't put on x; a take
-/// that finds nothing and precedes the take of v stands before the put of v; what is never taken is put on
-/// nothing that is taken, and after takes that find nothing, where each take is answered; and no value is
-/// taken more often than it is put in.
+/// that finds nothing and precedes the take of v stands before the put of v; what no answered call takes is
+/// put on nothing that is taken, and after the takes that find nothing, of those takes that precede each
+/// unanswered one; and no value is taken more often than it is put in.
 pub fn foresee_stack<R: Reader>(
     alloc: Global,
     reader: &R,
@@ -46,13 +47,13 @@ pub fn foresee_stack<R: Reader>(
     let links = Links::of(alloc, reader, book, &uses, Discipline::Stack)?;
     let mut known = Foresight::blank(alloc, book)?;
     rank_takes(reader, book, &uses, &mut known)?;
-    hold(book, &links, &mut known);
+    hold(book, &links, &uses, &mut known);
     Ok(known)
 }
 
 /// What any container foresees of a book: a take that finds nothing and precedes the take of v stands
-/// before the put of v, and before the put of what is never taken, where each take is answered; and no
-/// value is taken more often than it is put in.
+/// before the put of v, and before the put of what no answered call takes, where it precedes each
+/// unanswered take; and no value is taken more often than it is put in.
 pub fn foresee_container<R: Reader>(
     alloc: Global,
     reader: &R,
@@ -64,6 +65,6 @@ pub fn foresee_container<R: Reader>(
     let uses = Uses::of(alloc, reader, book)?;
     let links = Links::of(alloc, reader, book, &uses, Discipline::Container)?;
     let mut known = Foresight::blank(alloc, book)?;
-    hold(book, &links, &mut known);
+    hold(book, &links, &uses, &mut known);
     Ok(known)
 }

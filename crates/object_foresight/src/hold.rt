@@ -1,24 +1,26 @@
-ghost use Rattle.std.specs.Prelude.{◌≡◌, ℕ, true, ◌<◌, ◌≤◌, List, length, slice_index, ⊤};
+ghost use Rattle.std.specs.Prelude.{◌≡◌, ℕ, true, ◌<◌, ◌≤◌, List, length, slice_index};
 ghost use Rattle.book_base.specs.declared.call.Call.{Call};
 ghost use Rattle.book_base.specs.declared.TheConstants.{MAX_CALLS};
 ghost use Rattle.book_base.specs.Book.{Page, IsCall, IsSmall, IsValid};
 ghost use Rattle.book_base.specs.Order.{HasLegalOrder};
 ghost use Rattle.book_base.specs.Foresight.{HasBar, HasEarly, IsForesight, IsHopeless, MustComeFirst};
 ghost use Rattle.object_foresight.specs.Links.{AreLinksOf, AreFollowed, AreKept};
+ghost use Rattle.object_foresight.specs.Uses.{IsEarly};
 ghost use Rattle.object_foresight.specs.Pasts.{last_held, IsPast};
 
 use crate::links::Links;
 use crate::past::Past;
 use crate::stuck::is_stuck;
+use crate::uses::Uses;
 use book_base::{Book, Call, Foresight};
 
 /// Holds back what the links of a book say, and each call of a book that is refused or stuck.
-pub fn hold(book: &Book, links: &Links, known: &mut Foresight)
+pub fn hold(book: &Book, links: &Links, uses: &Uses, known: &mut Foresight)
     requires links { AreLinksOf book.now links.now }
     requires bars { (c : Call) → IsCall book.now c → HasBar known.old c }
     ensures right { (init : List ℕ) (next : List ℕ → ℕ → List ℕ × ℕ) → IsForesight init next book.now known.old
         → (links.now.is_refused ≡ true → ¬ HasLegalOrder init next book.now)
-        → AreFollowed init next book.now links.now known.old.ranks → AreKept init next book.now links.now known.old.ranks
+        → AreFollowed init next book.now links.now known.old.ranks → AreKept init next book.now links.now uses.now.open_from known.old.ranks
         → IsForesight init next book.now known.new }
 {
     if links.is_refused {
@@ -26,7 +28,7 @@ pub fn hold(book: &Book, links: &Links, known: &mut Foresight)
         return;
     }
     follow(book, links, known);
-    keep(book, links, known);
+    keep(book, links, uses, known);
     if is_stuck(book, known) {
         refuse(book, known);
     }
@@ -68,30 +70,38 @@ fn follow_caller(book: &Book, links: &Links, known: &mut Foresight, caller: u32)
     }
 }
 
-// Holds back the puts of what stays for good, behind all that is taken or finds nothing.
-fn keep(book: &Book, links: &Links, known: &mut Foresight)
+// Holds back the puts of what no answered call takes, behind what is taken or finds nothing before each
+// unanswered take.
+fn keep(book: &Book, links: &Links, uses: &Uses, known: &mut Foresight)
     requires links { AreLinksOf book.now links.now }
     requires bars { (c : Call) → IsCall book.now c → HasBar known.old c }
     ensures bars { (c : Call) → IsCall book.now c → HasBar known.new c }
     ensures right { (init : List ℕ) (next : List ℕ → ℕ → List ℕ × ℕ) → IsForesight init next book.now known.old
-        → AreKept init next book.now links.now known.old.ranks → IsForesight init next book.now known.new }
+        → AreKept init next book.now links.now uses.now.open_from known.old.ranks → IsForesight init next book.now known.new }
 {
-    let past = Past::whole(book, links);
+    let past = Past::early(book, links, uses);
     for caller in 0..book.callers() {
-        keep_caller(book, links, known, caller, &past);
+        keep_caller(book, links, uses, known, caller, &past);
     }
 }
 
-// Holds back the puts of a caller that stay for good.
-fn keep_caller(book: &Book, links: &Links, known: &mut Foresight, caller: u32, past: &Past)
+// Holds back the puts of a caller whose values no answered call takes.
+fn keep_caller(
+    book: &Book,
+    links: &Links,
+    uses: &Uses,
+    known: &mut Foresight,
+    caller: u32,
+    past: &Past,
+)
     requires bars { (c : Call) → IsCall book.now c → HasBar known.old c }
     requires small { IsSmall book.now }
     requires caller { caller < length book.now }
-    requires past { IsPast (λ _. ⊤) book.now links.now past.now }
+    requires past { IsPast (IsEarly book.now uses.now.open_from) book.now links.now past.now }
     ensures bars { (c : Call) → IsCall book.now c → HasBar known.new c }
     ensures ranks { known.new.ranks ≡ known.old.ranks }
     ensures right { (init : List ℕ) (next : List ℕ → ℕ → List ℕ × ℕ) → IsForesight init next book.now known.old
-        → AreKept init next book.now links.now known.old.ranks → IsForesight init next book.now known.new }
+        → AreKept init next book.now links.now uses.now.open_from known.old.ranks → IsForesight init next book.now known.new }
 {
     for number in 0..book.calls(caller) {
         let put = Call { caller, number };

@@ -32,7 +32,7 @@ pub struct Link {
     pub after: Option<Call>,
     /// One more than what this call's view counts, or 0.
     pub reach: u64,
-    /// Whether this call puts in a value that stays for good.
+    /// Whether this call puts in a value that no answered call takes.
     pub is_kept: bool,
 }
 
@@ -168,11 +168,11 @@ impl Uses {
         if used.puts == 1 { Some(used.put) } else { None }
     }
 
-    // Whether each take is answered, and none takes a value.
+    // Whether no answered take takes a value.
     fn keeps(&self, value: u64) -> bool
         ensures { result ≡ links.keeps self.now value }
     {
-        !self.has_open_take && self.use_of(value).takes == 0
+        self.use_of(value).takes == 0
     }
 }
 

@@ -1,10 +1,12 @@
-ghost use Rattle.std.specs.Prelude.{◌≡◌, ℕ, ◌≤◌, ◌<◌, length, replicate, max, IfSome, ⊤, Some};
+ghost use Rattle.std.specs.Prelude.{◌≡◌, ℕ, ◌≤◌, ◌<◌, length, replicate, max, IfSome};
 ghost use Rattle.book_base.specs.declared.TheConstants.{MAX_CALLS, MAX_CALLERS};
 ghost use Rattle.book_base.specs.Book.{IsCall, IsSmall, IsValid, Precedes};
 ghost use Rattle.object_foresight.specs.Links.{link_at, AreLinksOf};
+ghost use Rattle.object_foresight.specs.Uses.{IsEarly};
 ghost use Rattle.object_foresight.specs.Pasts.{raised_to, IsPast};
 
 use crate::links::{Link, Links};
+use crate::uses::Uses;
 use book_base::{Book, Call, Cut};
 
 /// What the calls that were passed say: a floor that must stand before a put, and the greatest reach.
@@ -33,28 +35,31 @@ impl Past {
         }
     }
 
-    /// All calls of a book were passed.
-    pub fn whole(book: &Book, links: &Links) -> Past
+    /// The calls of a book that precede each unanswered take were passed.
+    pub fn early(book: &Book, links: &Links, uses: &Uses) -> Past
         requires { AreLinksOf book.now links.now }
-        ensures { IsPast (λ _. ⊤) book.now links.now result }
+        ensures { IsPast (IsEarly book.now uses.now.open_from) book.now links.now result }
     {
         let mut past = Past::none(book);
         for caller in 0..book.callers() {
-            past.pass_all_of(book, links, caller);
+            past.pass_early_of(book, links, uses, caller);
         }
         past
     }
 
-    // Passes all calls of a caller.
-    fn pass_all_of(&mut self, book: &Book, links: &Links, caller: u32)
+    // Passes the calls of a caller that precede each unanswered take.
+    fn pass_early_of(&mut self, book: &Book, links: &Links, uses: &Uses, caller: u32)
         requires small { IsSmall book.now }
         requires links { AreLinksOf book.now links.now }
         requires caller { caller < length book.now }
-        requires past { IsPast (λ _. ⊤) book.now links.now self.old }
-        ensures past { IsPast (λ _. ⊤) book.now links.now self.new }
+        requires past { IsPast (IsEarly book.now uses.now.open_from) book.now links.now self.old }
+        ensures past { IsPast (IsEarly book.now uses.now.open_from) book.now links.now self.new }
     {
-        for number in 0..book.calls(caller) {
-            self.pass(links.at(Call { caller, number }));
+        for number in 0..book.answers(caller) {
+            let call = Call { caller, number };
+            if uses.is_early(book, call) {
+                self.pass(links.at(call));
+            }
         }
     }
 

@@ -1,13 +1,13 @@
-ghost use Rattle.std.specs.Prelude.{◌≡◌, ℕ, ◌+◌, ◌*◌, ◌<◌, ◌↔◌, ◌==◌, true, if◌then◌else◌, length, IfOk, OnOk, IfSome, IsTrue};
-ghost use Rattle.book_base.specs.Book.{IsCall, IsSmall};
+ghost use Rattle.std.specs.Prelude.{◌≡◌, ℕ, ◌+◌, ◌*◌, ◌<◌, ◌↔◌, ◌==◌, true, if◌then◌else◌, length, min, slice_index, slice_set, IfOk, OnOk, IsTrue};
+ghost use Rattle.book_base.specs.Book.{IsCall, IsAnswered, IsSmall};
 ghost use Rattle.book_base.specs.declared.TheConstants.{MAX_CALLS, MAX_CALLERS};
 ghost use Rattle.object_foresight.specs.declared.deal.Deal.TheVariants as deals;
 ghost use Rattle.object_foresight.specs.Deals.{deal_of};
-ghost use Rattle.object_foresight.specs.Uses.{use_of, no_use, AreCounted};
+ghost use Rattle.object_foresight.specs.Uses.{use_of, AreCounted, IsEarly};
 
 use crate::deal::{Deal, deal_of};
 use crate::reader::Reader;
-use book_base::{Book, Call, NoMemory};
+use book_base::{Book, Call, MAX_CALLERS, NoMemory};
 use std::alloc::Global;
 use std::collections::BTreeMap;
 
@@ -19,11 +19,12 @@ pub struct Use {
     pub takes: u64,
 }
 
-/// How often each value of a book is put in and taken out, and whether a take is unanswered.
+/// How often each value of a book is put in and taken out, and for each caller the number from which on its
+/// takes may be unanswered.
 #[derive(Drop)]
 pub struct Uses {
     pub by_value: BTreeMap<u64, Use>,
-    pub has_open_take: bool,
+    pub open_from: [u64; MAX_CALLERS],
 }
 
 impl Uses {
@@ -33,7 +34,7 @@ impl Uses {
     {
         let mut uses = Uses {
             by_value: BTreeMap::new(alloc),
-            has_open_take: false,
+            open_from: [u64::MAX; MAX_CALLERS],
         };
         for caller in 0..book.callers() {
             uses.count_caller(reader, book, caller)?;
@@ -71,11 +72,21 @@ impl Uses {
             Deal::Put(value) => self.count_put(value, call),
             Deal::Took(value) => self.count_take(value),
             Deal::OpenTake => {
-                self.has_open_take = true;
+                self.open_at(call);
                 Ok(())
             }
             Deal::FoundNothing | Deal::Other => Ok(()),
         }
+    }
+
+    // Lowers the number of a caller from which on takes may be unanswered to that of an unanswered take.
+    fn open_at(&mut self, call: Call)
+        requires { call.caller < MAX_CALLERS }
+        ensures lowered { self.new.open_from ≡ slice_set self.old.open_from call.caller (min (slice_index self.old.open_from call.caller) call.number) }
+        ensures uses { self.new.by_value ≡ self.old.by_value }
+    {
+        let number = &mut self.open_from[call.caller as usize];
+        *number = (*number).min(call.number);
     }
 
     // Counts one more put of a value.
@@ -84,7 +95,7 @@ impl Uses {
         ensures uses { OnOk result ((v : ℕ) → use_of self.new.by_value.entries v ≡ (if v == value
             then record (use_of self.old.by_value.entries value) { puts = (use_of self.old.by_value.entries value).puts + 1; put = call }
             else use_of self.old.by_value.entries v)) }
-        ensures takes { self.new.has_open_take ≡ self.old.has_open_take }
+        ensures answered { self.new.open_from ≡ self.old.open_from }
     {
         let mut used = self.use_of(value);
         used.puts += 1;
@@ -99,7 +110,7 @@ impl Uses {
         ensures uses { OnOk result ((v : ℕ) → use_of self.new.by_value.entries v ≡ (if v == value
             then record (use_of self.old.by_value.entries value) { takes = (use_of self.old.by_value.entries value).takes + 1 }
             else use_of self.old.by_value.entries v)) }
-        ensures takes { self.new.has_open_take ≡ self.old.has_open_take }
+        ensures answered { self.new.open_from ≡ self.old.open_from }
     {
         let mut used = self.use_of(value);
         used.takes += 1;
@@ -122,5 +133,20 @@ impl Uses {
                 takes: 0,
             },
         }
+    }
+
+    /// Whether an answered call precedes each unanswered take. No clause says that each such call is found:
+    /// that costs time alone.
+    pub fn is_early(&self, book: &Book, call: Call) -> bool
+        requires { IsAnswered book.now call }
+        ensures { IsTrue result → IsEarly book.now self.now.open_from call }
+    {
+        let view = book.record(call).view;
+        for caller in 0..view.n() {
+            if view.get(caller) > self.open_from[caller as usize] {
+                return false;
+            }
+        }
+        true
     }
 }

@@ -1,9 +1,8 @@
-use Rattle.std.proofs.Common.{◌≡◌, ℕ, List, [], refl, sym, ap, ◌∙◌}
+use Rattle.std.proofs.Common.{ap}
 use Rattle.book_base.specs.Foresight.{Known}
-use Rattle.object_foresight.specs.declared.links.Discipline.TheVariants.{Queue, Stack, Container}
+use Rattle.object_foresight.specs.declared.links.Discipline.TheVariants.{Container}
 use Rattle.object_foresight.proofs.Linking.{links_name_calls}
-use Rattle.history_rules.proofs.QueueRuns.{queue_is_container, stack_is_container}
-use Rattle.object_foresight.proofs.Foreseeing.{followed_without_ranks, kept_without_ranks, followed_by_stack, kept_by_stack, blank_is_foreseen}
+use Rattle.object_foresight.proofs.Foreseeing.{followed_without_ranks, kept_without_ranks}
 use Rattle.object_foresight.proofs.foresee.foresee_container.Goals as goal
 
 pub hold-requires-clause-links : goal.hold-requires-clause-links
@@ -18,4 +17,4 @@ returns g c init next container none =
     let ranks = ap (λ (k : Known). k.ranks) c.in_ok-known.ensures.blank in
     c.hold.ensures.right init next (c.in_ok-known.ensures.right init next) (λ refused. are.refused refused init next container none)
     (followed_without_ranks reading init next book Container links c.in_ok-known.known.ranks are container (λ e. absurd cc) none ranks)
-    (kept_without_ranks reading init next book Container links c.in_ok-known.known.ranks are container (λ e. absurd cc) none ranks)
+    (kept_without_ranks reading init next book Container links c.in_ok-uses.uses c.in_ok-known.known.ranks are c.in_ok-uses.ensures container (λ e. absurd cc) none ranks)

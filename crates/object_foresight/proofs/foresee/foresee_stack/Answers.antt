@@ -1,9 +1,9 @@
-use Rattle.std.proofs.Common.{◌≡◌, ℕ, List, [], refl, sym, ap, ◌∙◌}
+use Rattle.std.proofs.Common.{ap, ◌∙◌}
 use Rattle.book_base.specs.Foresight.{Known}
-use Rattle.object_foresight.specs.declared.links.Discipline.TheVariants.{Queue, Stack, Container}
+use Rattle.object_foresight.specs.declared.links.Discipline.TheVariants.{Stack}
 use Rattle.object_foresight.proofs.Linking.{links_name_calls}
-use Rattle.history_rules.proofs.QueueRuns.{queue_is_container, stack_is_container}
-use Rattle.object_foresight.proofs.Foreseeing.{followed_without_ranks, kept_without_ranks, followed_by_stack, kept_by_stack, blank_is_foreseen}
+use Rattle.history_rules.proofs.QueueRuns.{stack_is_container}
+use Rattle.object_foresight.proofs.Foreseeing.{followed_by_stack, kept_by_stack, blank_is_foreseen}
 use Rattle.object_foresight.proofs.foresee.foresee_stack.Goals as goal
 
 pub hold-requires-clause-links : goal.hold-requires-clause-links
@@ -19,4 +19,4 @@ returns g c init next stack holds none =
     let bars = c.in_ok-rank_takes.ensures.bars ∙ ap (λ (k : Known). k.bars) c.in_ok-known.ensures.blank in
     c.hold.ensures.right init next (blank_is_foreseen init next book known bars) (λ refused. are.refused refused init next (stack_is_container reading next stack) none)
     (followed_by_stack reading init next book links known.ranks c.rank_takes.ensures.valid are c.in_ok-rank_takes.ensures.ranks stack holds none)
-    (kept_by_stack reading init next book links known.ranks are c.in_ok-rank_takes.ensures.ranks stack holds none)
+    (kept_by_stack reading init next book links c.in_ok-uses.uses known.ranks c.rank_takes.ensures.valid are c.in_ok-uses.ensures c.in_ok-rank_takes.ensures.ranks stack holds none)

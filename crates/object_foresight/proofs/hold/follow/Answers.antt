@@ -1,4 +1,4 @@
-use Rattle.std.proofs.Common.{◌≡◌, ℕ, ◌∙◌, List, ap, sym, subst}
+use Rattle.std.proofs.Common.{ℕ, ◌∙◌, List, sym, subst}
 use Rattle.object_foresight.specs.Links.{AreFollowed}
 use Rattle.object_foresight.proofs.hold.follow.Goals as goal
 

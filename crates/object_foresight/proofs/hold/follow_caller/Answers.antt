@@ -1,8 +1,8 @@
-use Rattle.std.proofs.Common.{◌≡◌, ℕ, ◌+◌, ◌<◌, ◌∙◌, List, ap, sym, subst, inl, inr, refl, arith, Some, Option}
-use Rattle.book_base.specs.Book.{IsCall, Precedes}
-use Rattle.book_base.specs.Foresight.{Known, HasEarly, IsHopeless}
+use Rattle.std.proofs.Common.{◌+◌, ◌∙◌, ap, sym, inl, inr, refl, arith}
+use Rattle.book_base.specs.Book.{Precedes}
+use Rattle.book_base.specs.Foresight.{Known}
 use Rattle.object_foresight.specs.declared.links.Link.{Link}
-use Rattle.object_foresight.specs.Links.{link_at, AreFollowed}
+use Rattle.object_foresight.specs.Links.{link_at}
 use Rattle.object_foresight.specs.Pasts.{last_held}
 use Rattle.object_foresight.proofs.Counting.{call_of}
 use Rattle.object_foresight.proofs.Passing.{none_is_past, past_wider, precedes_next}

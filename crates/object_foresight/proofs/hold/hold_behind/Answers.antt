@@ -1,4 +1,4 @@
-use Rattle.std.proofs.Common.{◌≡◌, ℕ, ◌-◌, ◌<◌, ◌∙◌, List, ap, sym, subst, arith}
+use Rattle.std.proofs.Common.{ℕ, ◌-◌, ◌∙◌, List, ap, sym, subst, arith}
 use Rattle.book_base.specs.Foresight.{Known, HasEarly, MustComeFirst}
 use Rattle.object_foresight.proofs.hold.hold_behind.Goals as goal
 use Rattle.object_foresight.proofs.hold.hold_behind.Goals.{then-count-gt0, else-count-gt0}

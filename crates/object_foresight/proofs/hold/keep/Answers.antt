@@ -1,4 +1,4 @@
-use Rattle.std.proofs.Common.{◌≡◌, ℕ, ◌∙◌, List, ap, sym, subst}
+use Rattle.std.proofs.Common.{ℕ, ◌∙◌, List, sym, subst}
 use Rattle.object_foresight.specs.Links.{AreKept}
 use Rattle.object_foresight.proofs.hold.keep.Goals as goal
 
@@ -9,5 +9,5 @@ loop-caller-preserved c =
       bars = c.keep_caller.ensures.bars;
       ranks = c.keep_caller.ensures.ranks ∙ i.ranks;
       right = λ init next right are. c.keep_caller.ensures.right init next (i.right init next right are)
-          (subst (λ (ranks : List (ℕ × ℕ)). AreKept init next c.args.book.now c.args.links.now ranks) (sym i.ranks) are);
+          (subst (λ (ranks : List (ℕ × ℕ)). AreKept init next c.args.book.now c.args.links.now c.args.uses.now.open_from ranks) (sym i.ranks) are);
     }

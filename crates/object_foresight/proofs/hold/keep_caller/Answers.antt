@@ -1,11 +1,10 @@
-use Rattle.std.proofs.Common.{◌≡◌, ℕ, ◌<◌, ◌∙◌, List, ap, sym, subst, inl, inr, arith}
+use Rattle.std.proofs.Common.{◌∙◌, ap, sym, inl, inr, arith}
 use Rattle.book_base.specs.Book.{IsCall}
-use Rattle.book_base.specs.Foresight.{Known, HasEarly, IsHopeless}
+use Rattle.book_base.specs.Foresight.{Known}
 use Rattle.object_foresight.specs.declared.links.Link.{Link}
-use Rattle.object_foresight.specs.Links.{link_at, AreKept}
+use Rattle.object_foresight.specs.Links.{link_at}
 use Rattle.object_foresight.specs.Pasts.{last_held}
 use Rattle.object_foresight.proofs.Counting.{call_of}
-use Rattle.object_foresight.proofs.Passing.{small_call}
 use Rattle.object_foresight.proofs.Foreseeing.{none_early_at, early_same}
 use Rattle.object_foresight.proofs.hold.keep_caller.Goals as goal
 use Rattle.object_foresight.proofs.hold.keep_caller.Goals.{then-at, else-at}
@@ -27,10 +26,10 @@ loop-number-preserved c =
             bars = λ d h. rw w.known-is (w.hold_behind.ensures.bars d (i.bars d h));
             ranks = rw w.known-is (w.hold_behind.ensures.ranks ∙ i.ranks);
             right = λ init next right are. rw w.known-is (w.hold_behind.ensures.right init next c.args.book.now (i.right init next right are)
-                (λ j some. let from = c.requires.past.floor j some in are.order from.0 (last_held c.args.past.now.floor j) put from.2 kept)
+                (λ j some. let from = c.requires.past.floor j some in are.order from.0 (last_held c.args.past.now.floor j) put from.1 from.2 kept)
                 (λ cut list early. elim c.requires.past.limit [
                   | inl none ↦ absurd (none_early_at known.ranks list c.args.past.now.limit none early)
-                  | inr from ↦ are.covers from.0 put kept cut list (early_same known.ranks c.args.known.now.ranks list c.args.past.now.limit (link_at c.args.links.now from.0).reach i.ranks from.2 early)
+                  | inr from ↦ are.covers from.0 put from.1 kept cut list (early_same known.ranks c.args.known.now.ranks list c.args.past.now.limit (link_at c.args.links.now from.0).reach i.ranks from.2 early)
                 ]));
           }
       | else-at w ↦ record {

@@ -1,4 +1,4 @@
-use Rattle.std.proofs.Common.{◌<◌, arith, subst, sym}
+use Rattle.std.proofs.Common.{arith}
 use Rattle.book_base.specs.Book.{IsCall}
 use Rattle.object_foresight.proofs.Counting.{call_of}
 use Rattle.object_foresight.proofs.Passing.{small_call}

@@ -1,4 +1,4 @@
-use Rattle.std.proofs.Common.{◌≡◌, ℕ, Some, sym, ap, ◌∙◌, arith}
+use Rattle.std.proofs.Common.{sym, ◌∙◌, arith}
 use Rattle.object_foresight.proofs.Ranking.{ranked_more}
 use Rattle.object_foresight.proofs.ranks.rank_call.Goals as goal
 

@@ -1,4 +1,4 @@
-use Rattle.std.proofs.Common.{ℕ, ◌<◌, arith}
+use Rattle.std.proofs.Common.{arith}
 use Rattle.book_laws.specs.Next.{next_call}
 use Rattle.object_foresight.proofs.stuck.lacks_an_answer.Goals as goal
 

@@ -1,6 +1,6 @@
-use Rattle.std.proofs.Common.{◌≡◌, ℕ, ◌+◌, List, [], ◌∷◌, ◌++◌, length, get_or, refl, sym, ap, subst, ◌∙◌, arith, length-append}
+use Rattle.std.proofs.Common.{ℕ, List, [], ◌∷◌, length, get_or, refl, sym, ap, subst, arith, length-append}
 use Rattle.object_foresight.specs.declared.links.Link.{Link}
-use Rattle.object_foresight.specs.Links.{no_link, IsLink, AreLinksTo}
+use Rattle.object_foresight.specs.Links.{no_link, IsLink}
 use Rattle.object_foresight.proofs.Counting.{call_of}
 use Rattle.object_foresight.proofs.Linking.{link_is_right, refused_is_right, each_pushed, links_more, links_flagged}
 use Rattle.object_foresight.proofs.links.Links.add_row.Goals as goal

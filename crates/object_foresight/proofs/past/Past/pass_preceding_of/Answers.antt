@@ -1,4 +1,4 @@
-use Rattle.std.proofs.Common.{ℕ, ◌+◌, List, ◌∙◌, ap, length, refl, arith, set}
+use Rattle.std.proofs.Common.{◌+◌, ◌∙◌, ap, length, refl, arith}
 use Rattle.std.proofs.lemmas.List.{length-set}
 use Rattle.book_base.specs.declared.call.Call.{Call}
 use Rattle.book_base.specs.Book.{Precedes}
