@@ -21,11 +21,11 @@ use Rattle.object_foresight.specs.Stuck.{IsBlocked}
 use Rattle.object_foresight.proofs.Counting.{call_of}
 
 -- what a front of an order reaches
-record IsReached (init : List ℕ) (next : List ℕ → ℕ → List ℕ × ℕ) (book : List Page) (front : List Place) : Type 0 where
-  cut : List ℕ
-  list : List ℕ
-  wide : length cut ≡ length book
-  reaches : Reaches init next book front cut list
+pub record IsReached (init : List ℕ) (next : List ℕ → ℕ → List ℕ × ℕ) (book : List Page) (front : List Place) : Type 0 where
+  pub cut : List ℕ
+  pub list : List ℕ
+  pub wide : length cut ≡ length book
+  pub reaches : Reaches init next book front cut list
 
 -- a call of a front stands in the order, at the same place
 stands_in_front : (order : List Place) (n k : ℕ) (call : Call) → StandsAt (take n order) k call → (k < n) × StandsAt order k call
@@ -56,7 +56,7 @@ next_number init next book order legal n place at cut list reaches =
     ]
 
 -- each front of a legal order reaches some cut
-front_reaches : (init : List ℕ) (next : List ℕ → ℕ → List ℕ × ℕ) (book : List Page) (order : List Place) → IsLegalOrder init next book order → (n : ℕ) → n ≤ length order → IsReached init next book (take n order)
+pub front_reaches : (init : List ℕ) (next : List ℕ → ℕ → List ℕ × ℕ) (book : List Page) (order : List Place) → IsLegalOrder init next book order → (n : ℕ) → n ≤ length order → IsReached init next book (take n order)
 front_reaches init next book order legal zero within = record {
   cut = replicate (length book) 0;
   list = init;
@@ -79,6 +79,13 @@ front_reaches init next book order legal (suc n) within =
       wide = length-set before.cut place.caller (place.number + 1) ∙ before.wide;
       reaches = subst (λ (front : List Place). Reaches init next book front (set before.cut place.caller (place.number + 1)) (next before.list (step_at book place).0).0) more on;
     }
+
+-- an order is its front, a place, and what follows
+pub split_at : (order : List Place) (p : ℕ) (place : Place) → slice_get order p ≡ Some place → order ≡ take p order ++ place ∷ drop (suc p) order
+split_at order p place at =
+    let inside : p < length order = slice_get_within order p place at in
+    let value : get_or order p place ≡ place = sym (same_Some place (get_or order p place) (sym at ∙ slice_get-get_or order p place inside)) in
+    sym (take-append-drop p order) ∙ ap (λ (rest : List Place). take p order ++ rest) (drop-cons order p place inside ∙ ap (λ (x : Place). x ∷ drop (suc p) order) value)
 
 -- Each caller's next call after the cut is blocked.
 abbrev pub IsEnd : List Page → Known → List ℕ → Type 0
@@ -103,8 +110,6 @@ none_outside init next book known cut order right ends legal p place at before o
     elim blocked [
       | inl below ↦
           let front = front_reaches init next book order legal p (omega (arith, slice_get_within order p place at)) in
-          let inside : p < length order = slice_get_within order p place at in
-          let value : get_or order p place ≡ place = sym (same_Some place (get_or order p place) (sym at ∙ slice_get-get_or order p place inside)) in
           let less : (j : ℕ) → get_or front.cut j 0 ≤ get_or cut j 0 = λ j. elim (cases_lt (get_or cut j 0) (get_or front.cut j 0)) [
             | inl more ↦
                 let last : Call = call_of j (get_or cut j 0) in
@@ -113,10 +118,8 @@ none_outside init next book known cut order right ends legal p place at before o
                 absurd (omega (arith, before stands.0 last early.0 early.1))
             | inr le ↦ le
           ] in
-          let split : order ≡ take p order ++ place ∷ drop (suc p) order =
-          sym (take-append-drop p order) ∙ ap (λ (rest : List Place). take p order ++ rest) (drop-cons order p place inside ∙ ap (λ (x : Place). x ∷ drop (suc p) order) value) in
           right front.cut front.list call (inl (below.0, omega (arith, below.1, less below.0))) (take p order) (drop (suc p) order) place.reply front.reaches
-          (subst (λ (o : List Place). IsLegalOrder init next book o) split legal)
+          (subst (λ (o : List Place). IsLegalOrder init next book o) (split_at order p place at) legal)
       | inr unmet ↦ elim unmet.1 [
         | inl seen ↦
             let known_record = some_from_is_some_and (record_of book unmet.0) (λ (r : Record). get_or r.view call.caller 0 ≤ call.number) seen in

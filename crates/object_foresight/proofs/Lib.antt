@@ -7,3 +7,4 @@ pub mod StackKeeping
 pub mod Foreseeing
 pub mod Ranking
 pub mod Ending
+pub mod Nesting

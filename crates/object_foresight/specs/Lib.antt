@@ -5,3 +5,4 @@ pub mod Pasts
 pub mod Ranks
 pub mod Foreseen
 pub mod Stuck
+pub mod Nests

@@ -5,6 +5,7 @@ ghost use Rattle.object_foresight.specs.Foreseen.{HoldsItsWords};
 
 use crate::hold::hold;
 use crate::links::{Discipline, Links};
+use crate::nest::nest;
 use crate::ranks::rank_takes;
 use crate::reader::Reader;
 use crate::uses::Uses;
@@ -31,8 +32,8 @@ pub fn foresee_queue<R: Reader>(
     Ok(known)
 }
 
-/// What a stack foresees of a book: where the take of x precedes the take of v, v isn't put on x; a take
-/// that finds nothing and precedes the take of v stands before the put of v; what no answered call takes is
+/// What a stack foresees of a book: where the take of x precedes the take of v, v isn't put on x, so
+/// that a put of v which precedes the take of x stands before the put of x; a take that finds nothing and precedes the take of v stands before the put of v; what no answered call takes is
 /// put on nothing that is taken, and after the takes that find nothing, of those takes that precede each
 /// unanswered one; and no value is taken more often than it is put in.
 pub fn foresee_stack<R: Reader>(
@@ -47,6 +48,7 @@ pub fn foresee_stack<R: Reader>(
     let links = Links::of(alloc, reader, book, &uses, Discipline::Stack)?;
     let mut known = Foresight::blank(alloc, book)?;
     rank_takes(reader, book, &uses, &mut known)?;
+    nest(alloc, book, &links, &uses, &mut known)?;
     hold(book, &links, &uses, &mut known);
     Ok(known)
 }

@@ -5,6 +5,7 @@ mod deal;
 mod foresee;
 mod hold;
 mod links;
+mod nest;
 mod past;
 mod ranks;
 mod reader;

@@ -1,0 +1,14 @@
+use Rattle.std.proofs.Common.{◌≡◌, ℕ, List}
+use Rattle.book_base.specs.declared.call.Call.{Call}
+use Rattle.book_base.specs.Book.{IsCall}
+use Rattle.book_base.specs.Foresight.{HasBar, IsForesight}
+use Rattle.object_foresight.specs.Nests.{AreNested}
+use Rattle.object_foresight.proofs.nest.nest.Given as goal
+
+abbrev pub invariant-loop-caller : goal.invariant-loop-caller
+invariant-loop-caller l = record {
+  bars : (c : Call) → IsCall l.book c → HasBar l.known c;
+  ranks : l.known.ranks ≡ l.fn.known.ranks;
+  right : (init : List ℕ) (next : List ℕ → ℕ → List ℕ × ℕ) → IsForesight init next l.book l.fn.known
+      → AreNested init next l.book l.links l.uses.open_from → IsForesight init next l.book l.known;
+}
