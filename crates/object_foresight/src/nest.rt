@@ -1,4 +1,4 @@
-ghost use Rattle.std.specs.Prelude.{◌≡◌, ℕ, ◌<◌, List, length, OnOk, IfOk, IfSome, IsTrue, Some};
+ghost use Rattle.std.specs.Prelude.{◌≡◌, ℕ, ◌<◌, ◌↔◌, List, length, OnOk, IfOk, IfSome, IsTrue, Some};
 ghost use Rattle.book_base.specs.declared.call.Call.{Call};
 ghost use Rattle.book_base.specs.Book.{IsCall, IsAnswered, IsSmall, IsValid, Precedes};
 ghost use Rattle.book_base.specs.Foresight.{HasBar, IsForesight};
@@ -252,9 +252,14 @@ fn is_taken_later(book: &Book, links: &Links, first: Call, take: Call, later: Ca
         return false;
     }
     match links.at(later).after {
-        Some(put) => {
-            put.caller == first.caller && put.number == first.number && book.precedes(take, later)
-        }
+        Some(put) => is_same(put, first) && book.precedes(take, later),
         None => false,
     }
+}
+
+// Whether two calls are one.
+fn is_same(a: Call, b: Call) -> bool
+    ensures { IsTrue result ↔ (a ≡ b) }
+{
+    a.caller == b.caller && a.number == b.number
 }
