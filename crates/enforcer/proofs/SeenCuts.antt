@@ -1,9 +1,9 @@
 -- What the scan that sees a cut leaves of its caller's local.
-use Rattle.std.proofs.Common.{◌≡◌, ◌≢◌, ℕ, ◌-◌, List, [], ◌∷◌, ◌++◌, length, None, slice_index, refl, sym, ap, subst, ◌∙◌, arith}
+use Rattle.std.proofs.Common.{◌≡◌, ◌≢◌, ℕ, ◌-◌, List, [], ◌∷◌, ◌++◌, length, None, Some, slice_index, refl, sym, ap, subst, ◌∙◌, arith}
 use Rattle.std.proofs.lemmas.List.{get_or_push}
 use Rattle.world_core.specs.declared.region.Region.TheVariants.{M}
 use Rattle.world_core.specs.Shape.{Shape}
-use Rattle.world_core.specs.Local.{Phase, Announcing, Judging, Scan, Local, Looked, Peeked}
+use Rattle.world_core.specs.Local.{Phase, Announcing, Judging, Scan, Local, Given, Looked, Peeked}
 use Rattle.world_core.specs.Event.{Begins_scan, Purpose, For_seen, For_nothing, purpose_of, served}
 use Rattle.world_core.specs.Agreement.{HasPhase, unseen_records}
 use Rattle.world_core.specs.Calls.{IsLocalOf}
@@ -16,7 +16,7 @@ use Rattle.collect_scan.proofs.Owning.{own_entries_are_counts}
 use Rattle.drv_wrapper.specs.Growth.{Grows}
 use Rattle.drv_wrapper.proofs.Growing.{grows_by}
 use Rattle.drv_wrapper.proofs.Locals.{local_has_phase}
-use Rattle.enforcer.specs.Recorded.{IsPublishing, HasSeen}
+use Rattle.enforcer.specs.Recorded.{IsPublishing, HasSeen, last_of_M}
 use Rattle.enforcer.proofs.Standing.{judging_is}
 
 -- the local after a scan that gave the seen cut
@@ -52,6 +52,12 @@ serves : (l : Local) → l.phase ≡ Judging → purpose_with l M Begins_scan �
 serves l phase none =
     let e : For_seen ≡ For_nothing = sym (ap (λ (p : Phase). purpose_of p l.staged (scan_with l M Begins_scan [])) phase) ∙ none in absurd cc
 
+-- the last of some cuts is the one that was given last
+last_is : (cuts : List Given) (cut : List ℕ) (since : ℕ) → last_of_M (cuts ++ record { region = M; cut = cut; since = since } ∷ []) ≡ Some cut
+last_is [] cut since = refl
+last_is (given ∷ []) cut since = refl
+last_is (given ∷ later ∷ cuts) cut since = last_is (later ∷ cuts) cut since
+
 seen_leaves : (reply : ℕ) (view cut : List ℕ) (l : Local) (looks : List Looked) (peeks : List Peeked) → HasPhase l → IsPublishing reply view l
     → HasSeen reply view cut (scanned_for_seen cut looks peeks l)
 seen_leaves reply view cut l looks peeks has publishing =
@@ -61,6 +67,7 @@ seen_leaves reply view cut l looks peeks has publishing =
       unstaged = publishing.unstaged;
       free = refl;
       published = record { some = publishing.published.some; reply_is = publishing.published.reply_is; view_is = publishing.published.view_is };
+      last = last_is l.cuts cut (length l.looked);
       seen_is = get_or_push l.seen cut [] (l.published - 1) (omega (arith, has.seen, unseen));
     }
 

@@ -1,5 +1,5 @@
 -- How far a caller comes with a whole call, and that what it has found only grows.
-use Rattle.std.proofs.Common.{◌≡◌, ℕ, List, [], ◌∷◌, ◌++◌, Result, Ok, Err, IfOk, IfErr, refl, sym, ap, subst, ◌∙◌}
+use Rattle.std.proofs.Common.{◌≡◌, ℕ, List, [], ◌∷◌, ◌++◌, Result, Ok, Err, IfOk, IfErr, ◌≤◌, refl, sym, ap, subst, ◌∙◌, arith}
 use Rattle.book_base.specs.declared.call.Record.{Record}
 use Rattle.world_core.specs.Local.{Local, Given}
 use Rattle.call_lines.specs.Phases.{progress_of}
@@ -49,3 +49,7 @@ whole_call op viewed r told seen cut l v p s m before after views publishes sees
 
 pub grows_through : (l v p s m : Local) (before after : ℕ) → Grows l v → Grows v p → Grows p s → HasOnlyPeeked s m before after → Grows l m
 grows_through l v p s m before after one two three peeks = grows_on l v m one (grows_on v p m two (grows_on p s m three (peeks_grow s m before after peeks)))
+
+-- the counter never falls through four parts of a call
+pub ticks_through : (a b c d e : ℕ) → a ≤ b → b ≤ c → c ≤ d → d ≤ e → a ≤ e
+ticks_through a b c d e one two three four = omega (arith, one, two, three, four)

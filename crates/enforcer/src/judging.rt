@@ -1,11 +1,13 @@
-ghost use Rattle.std.specs.Prelude.{◌≡◌, false, IfOk, IfErr};
+ghost use Rattle.std.specs.Prelude.{◌≡◌, ◌+◌, ◌≤◌, false, IfOk, IfErr};
 ghost use Rattle.world_core.specs.Local.{IsIdle};
 ghost use Rattle.world_core.specs.Calls.{IsGathered};
 ghost use Rattle.row_table.specs.Callers.{local_with, stance_of, IsCallerOf, IsStill};
 ghost use Rattle.row_gather.specs.Peeks.{OnlyPeeks};
 ghost use Rattle.row_gather.specs.Exact.{IsTheBookAt};
+ghost use Rattle.row_gather.specs.Words.{words_of_book};
 ghost use Rattle.frontier_check.specs.Verdict.{IsRight};
 ghost use Rattle.drv_wrapper.specs.Stands.{ready};
+ghost use Rattle.enforcer.specs.Recorded.{HoldsOwn};
 ghost use Rattle.enforcer.specs.States.{caller_seen, reply_seen, view_seen, cut_seen};
 ghost use Rattle.enforcer.specs.Judged.{record_in, cut_in, stance_after, IsRightByPeeks, IsRightOf};
 
@@ -36,6 +38,7 @@ pub fn gather<P: Program, L: Ledger>(
     ensures peeks { OnlyPeeks (caller_seen seen.old) (caller_seen seen.new) steps.old steps.new }
     ensures gathered { IfOk result (IsGathered rows.now.callers (local_with (caller_seen seen.new)) (cut_seen seen.new)) }
     ensures exact { IfOk result (IsTheBookAt P.meaning rows.now (caller_seen seen.new) (cut_seen seen.new)) }
+    ensures ticks { IfOk result (λ book. steps.new ≡ steps.old + words_of_book book) }
 {
     gather_at(alloc, rows, &mut seen.caller, &seen.cut, steps)
 }
@@ -83,12 +86,15 @@ pub fn judge<P: Program, S: SeqObject, L: Ledger>(
     ensures stands { IfOk result (λ r. stance_of r.0 ≡ stance_after r.1) }
     ensures record { IfOk result (λ r. record_in r.1 ≡ record { reply = reply_seen seen; view = view_seen seen }) }
     ensures cut { IfOk result (λ r. cut_in r.1 ≡ cut_seen seen) }
+    ensures own { IfOk result (λ r. HoldsOwn (cut_in r.1) r.0) }
     ensures gathered { IfOk result (λ r. IsRightByPeeks (S.init object.now) (S.next object.now) rows.now.callers (local_with r.0) r.1) }
     ensures verdict { IfOk result (λ r. IsRightOf (S.init object.now) (S.next object.now) P.meaning rows.now r.0 r.1) }
     ensures unjudged_caller { IfErr result (λ u. IsStill P.meaning rows.now (caller_seen seen) u.caller) }
     ensures unjudged_peeks { IfErr result (λ u. OnlyPeeks (caller_seen seen) u.caller steps.old steps.new) }
     ensures unjudged_stands { IfErr result (λ u. stance_of u.caller ≡ record ready { live = false }) }
     ensures unjudged_record { IfErr result (λ u. (u.reply ≡ reply_seen seen) × (u.view ≡ view_seen seen) × (u.seen ≡ cut_seen seen)) }
+    ensures unjudged_own { IfErr result (λ u. HoldsOwn u.seen u.caller) }
+    ensures ticks { steps.old ≤ steps.new }
 {
     let decided = decide(alloc, object, rows, &mut seen, guide, steps);
     let Seen {

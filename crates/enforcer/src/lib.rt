@@ -18,3 +18,6 @@ pub use publishing::publish;
 pub use row_gather::gather_at;
 pub use seeing::seen;
 pub use seen_call::Seen;
+
+#[cfg(test)]
+mod tests;

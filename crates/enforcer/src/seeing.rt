@@ -1,9 +1,10 @@
-ghost use Rattle.std.specs.Prelude.{◌≡◌, ℕ, ◌+◌, ◌≤◌, length, slice_index};
-ghost use Rattle.row_table.specs.Callers.{who_of, local_with, IsCallerOf, IsStill};
+ghost use Rattle.std.specs.Prelude.{◌≡◌, ℕ, ◌+◌, ◌≤◌, length};
+ghost use Rattle.row_table.specs.Callers.{local_with, IsCallerOf, IsStill};
 ghost use Rattle.collect_scan.specs.Scanned.{most_words};
 ghost use Rattle.call_lines.specs.Phases.{progress_of};
 ghost use Rattle.call_lines.specs.Progress.{after_seeing};
 ghost use Rattle.drv_wrapper.specs.Growth.{Grows};
+ghost use Rattle.enforcer.specs.Recorded.{HoldsOwn};
 ghost use Rattle.enforcer.specs.States.{caller_published, reply_published, view_published, caller_seen, reply_seen, view_seen, cut_seen};
 
 use crate::published_call::Published;
@@ -26,7 +27,7 @@ pub fn seen<P: Program, L: Ledger>(
     ensures caller { IsStill P.meaning rows.now (caller_published published) (caller_seen result) }
     ensures record { (reply_seen result ≡ reply_published published) × (view_seen result ≡ view_published published) }
     ensures wide { length (cut_seen result) ≡ rows.now.callers }
-    ensures own { slice_index (cut_seen result) (who_of (caller_seen result)) ≡ (local_with (caller_seen result)).published }
+    ensures own { HoldsOwn (cut_seen result) (caller_seen result) }
     ensures progress { progress_of (local_with (caller_seen result)) ≡ after_seeing (cut_seen result) (progress_of (local_with (caller_published published))) }
     ensures grows { Grows (local_with (caller_published published)) (local_with (caller_seen result)) }
     ensures ticks { (steps.old ≤ steps.new) × (steps.new ≤ steps.old + most_words rows.now.callers) }

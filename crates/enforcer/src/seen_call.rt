@@ -1,7 +1,7 @@
 ghost use Rattle.std.specs.Prelude.{◌≡◌};
 ghost use Rattle.row_table.specs.Callers.{local_with, stance_of};
 ghost use Rattle.drv_wrapper.specs.Stands.{ready};
-ghost use Rattle.enforcer.specs.Recorded.{HasSeen};
+ghost use Rattle.enforcer.specs.Recorded.{HasSeen, HoldsOwn};
 
 use book_base::Cut;
 use row_table::Caller;
@@ -16,6 +16,7 @@ pub struct Seen<P = Outside> {
     pub(crate) view: Cut,
     pub(crate) cut: Cut,
     pub ghost saw: { HasSeen reply view cut (local_with caller) },
+    pub ghost own: { HoldsOwn cut caller },
     pub ghost stands: { stance_of caller ≡ ready },
 }
 

@@ -1,4 +1,4 @@
-use Rattle.std.proofs.Common.{◌≡◌, sym, ◌∙◌}
+use Rattle.std.proofs.Common.{◌≡◌, length, sym, ap, ◌∙◌}
 use Rattle.book_base.specs.declared.call.Record.{Record}
 use Rattle.row_table.specs.Callers.{local_with}
 use Rattle.call_lines.specs.Phases.{progress_of}
@@ -6,7 +6,7 @@ use Rattle.row_gather.specs.Peeks.{HasOnlyPeeked}
 use Rattle.drv_wrapper.specs.Growth.{Grows}
 use Rattle.enforcer.specs.Judged.{record_in, cut_in}
 use Rattle.enforcer.specs.Enforced.{after_call, record_unjudged}
-use Rattle.enforcer.proofs.WholeCalls.{ok_by, err_by, ok_from, err_from, whole_call, grows_through}
+use Rattle.enforcer.proofs.WholeCalls.{ok_by, err_by, ok_from, err_from, whole_call, grows_through, ticks_through}
 use Rattle.enforcer.proofs.enforcing.enforce.Goals as goal
 
 pub returns-clause-grows : goal.returns-clause-grows
@@ -50,3 +50,26 @@ returns-clause-unjudged_progress g c =
     (local_with c.publish-published.result.caller) (local_with c.seen-seen.result.caller) (local_with u.caller) c.seen-seen.new.steps c.judge.new.steps c.apply-viewed.ensures.progress
     c.publish-published.ensures.progress c.seen-seen.ensures.progress peeks (λ i. record { reply = replies i; view = views i }) (λ i. record { reply = tells.0 i; view = tells.1 i }) tells.2)
     c.judge.ensures.unjudged_peeks c.judge.ensures.unjudged_record
+
+pub returns-clause-wide : goal.returns-clause-wide
+returns-clause-wide g c =
+    let n = c.args.rows.now.callers in
+    let view : length c.seen-seen.result.view ≡ n = ap length (c.seen-seen.ensures.record.1 ∙ c.publish-published.ensures.record.1) ∙ c.apply-viewed.ensures.wide in
+    ok_by c.judge.result (λ x. record_in x.1 ≡ record { reply = c.seen-seen.result.reply; view = c.seen-seen.result.view }) (λ x. cut_in x.1 ≡ c.seen-seen.result.cut)
+    (λ x. cut_in x.1 ≡ c.seen-seen.result.cut) (λ x. (length (record_in x.1).view ≡ n) × (length (cut_in x.1) ≡ n))
+    (λ x record_is cut_is again. (ap (λ (r : Record). length r.view) record_is ∙ view, ap length cut_is ∙ c.seen-seen.ensures.wide))
+    c.judge.ensures.record c.judge.ensures.cut c.judge.ensures.cut
+
+pub returns-clause-unjudged_wide : goal.returns-clause-unjudged_wide
+returns-clause-unjudged_wide g c =
+    let n = c.args.rows.now.callers in
+    let view : length c.seen-seen.result.view ≡ n = ap length (c.seen-seen.ensures.record.1 ∙ c.publish-published.ensures.record.1) ∙ c.apply-viewed.ensures.wide in
+    err_from c.judge.result (λ u. (u.reply ≡ c.seen-seen.result.reply) × (u.view ≡ c.seen-seen.result.view) × (u.seen ≡ c.seen-seen.result.cut))
+    (λ u. (length u.view ≡ n) × (length u.seen ≡ n))
+    (λ u tells. (ap length tells.1 ∙ view, ap length tells.2 ∙ c.seen-seen.ensures.wide))
+    c.judge.ensures.unjudged_record
+
+pub returns-clause-ticks : goal.returns-clause-ticks
+returns-clause-ticks g c =
+    ticks_through c.args.steps.now c.apply-viewed.new.steps c.publish-published.new.steps c.seen-seen.new.steps c.judge.new.steps
+    c.apply-viewed.ensures.ticks.0 c.publish-published.ensures.ticks.0 c.seen-seen.ensures.ticks.0 c.judge.ensures.ticks

@@ -17,10 +17,12 @@ scan-cut-requires-clause-begins g c =
 pub invariant_of-result : goal.invariant_of-result
 invariant_of-result g c =
     let p = c.args.published in
+    let leaves =
+    sees (shape_of g.P.Program.meaning c.args.rows.now) (who_of p.caller) (who_of c.scan-cut.new.caller) p.reply p.view c.scan-cut.result (local_with p.caller) (local_with c.scan-cut.new.caller) c.requires.rows.seat.local
+    c.scan-cut.ensures.caller.0.seat.local p.publishing c.scan-cut.ensures.scanned in
     record {
-      saw =
-          (sees (shape_of g.P.Program.meaning c.args.rows.now) (who_of p.caller) (who_of c.scan-cut.new.caller) p.reply p.view c.scan-cut.result (local_with p.caller) (local_with c.scan-cut.new.caller) c.requires.rows.seat.local
-          c.scan-cut.ensures.caller.0.seat.local p.publishing c.scan-cut.ensures.scanned).saw;
+      saw = leaves.saw;
+      own = leaves.own;
       stands = c.scan-cut.ensures.stance ∙ ap (λ (stance : Stance). stance_scanned stance M) p.stands;
     }
 
