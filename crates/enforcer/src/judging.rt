@@ -66,6 +66,16 @@ fn decide<P: Program, S: SeqObject, L: Ledger>(
     Ok((book, verdict))
 }
 
+// The caller of these rows, which makes no more calls.
+fn halted<P: Program>(rows: &Rows<P>, caller: Caller<P>) -> Caller<P>
+    requires rows { IsCallerOf P.meaning rows.now caller }
+    ensures caller { IsStill P.meaning rows.now caller result }
+    ensures local { local_with result ≡ local_with caller }
+    ensures stance { stance_of result ≡ record (stance_of caller) { live = false } }
+{
+    caller.halt()
+}
+
 /// Judges a call by the book at its seen cut: delivers the reply with a legal order of the book, where it has one,
 /// and else answers the error with that book (Castañeda and Rodríguez 2023).
 ///
@@ -115,7 +125,7 @@ pub fn judge<P: Program, S: SeqObject, L: Ledger>(
                 },
             )),
             Verdict::Illegal => Ok((
-                caller.halt(),
+                halted(rows, caller),
                 Outcome::Illegal {
                     reply,
                     view,
@@ -125,7 +135,7 @@ pub fn judge<P: Program, S: SeqObject, L: Ledger>(
             )),
         },
         Err(NoMemory) => Err(Unjudged {
-            caller: caller.halt(),
+            caller: halted(rows, caller),
             reply,
             view,
             seen,

@@ -51,12 +51,12 @@ impl<P> Seen<P> {
         ensures stance { stance_of result ≡ stance_of (caller_seen self) }
     {
         let Seen {
-            caller,
+            caller: live,
             reply: _,
             view: _,
             cut: _,
         } = self;
-        caller
+        live
     }
 
     /// The caller, halted, with its local as it is: the call isn't judged.
