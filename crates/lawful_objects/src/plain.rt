@@ -7,7 +7,7 @@ use shared_log::Entry;
 
 /// The machine that answers as a sequential object does: it replays the operations of the log, and goes on from
 /// the list that it reached at its last answer.
-#[derive(Clone, Copy, Debug)]
+#[derive(Debug, Drop)]
 pub struct Plain<S: SeqObject> {
     pub object: S,
 }
