@@ -1,0 +1,28 @@
+-- Puts and takes, and how the last call of a log is answered.
+use Rattle.std.specs.Prelude.{ℕ, ◌-◌, Bool, ◌==◌, if◌then◌else◌, List, [], ◌∷◌, length, take, get_or}
+use Rattle.shared_log.specs.declared.entry.Entry.{Entry}
+use Rattle.shared_log.specs.Entries.{entry}
+use Rattle.seq_objects.specs.Words.{code_of}
+use Rattle.lawful_objects.specs.Replays.{list_after}
+
+-- Whether an operation is a put, and whether it is a take: its code says so, whether or not an object knows it.
+abbrev pub is_put : ℕ → Bool
+is_put op = code_of op == 1
+
+abbrev pub is_take : ℕ → Bool
+is_take op = code_of op == 2
+
+-- The calls of a log before its last one, and the last one.
+abbrev pub earlier : List Entry → List Entry
+earlier log = take (length log - 1) log
+
+abbrev pub last_call : List Entry → Entry
+last_call log = get_or log (length log - 1) (entry 0 0)
+
+-- A call in a list of its own, unless it is left out.
+abbrev pub unless : Bool → Entry → List Entry
+unless left e = if left then [] else e ∷ []
+
+-- The reply to an operation at the list that some calls leave.
+abbrev pub reply_after : (List ℕ → ℕ → List ℕ × ℕ) → List ℕ → List Entry → ℕ → ℕ
+reply_after next init calls op = (next (list_after next init calls) op).1

@@ -1,0 +1,11 @@
+-- What a step of a machine makes of its list and of what waits.
+use Rattle.std.specs.Prelude.{ℕ, List, Option, Some, None}
+use Rattle.std.specs.List.{sum_by}
+
+-- How many operations wait.
+abbrev pub waits : Option ℕ → ℕ
+waits None = 0
+waits (Some op) = 1
+
+abbrev pub waiting_count : List (Option ℕ) → ℕ
+waiting_count all = sum_by waits all
