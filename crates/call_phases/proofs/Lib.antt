@@ -1,0 +1,11 @@
+pub mod Phases
+pub mod Lines
+pub mod Coming
+pub mod Ends
+pub mod Told
+pub mod Judged
+pub mod Seen
+pub mod Standing
+pub mod Spending
+pub mod Leaving
+pub mod Worked

@@ -1,0 +1,36 @@
+use Rattle.std.proofs.Common.{◌≡◌, ◌∙◌, sym, subst, ap, true}
+use Rattle.world_core.specs.Local.{Local}
+use Rattle.world_core.specs.Event.{is_unstaged}
+use Rattle.row_table.specs.declared.caller.Caller.{Caller}
+use Rattle.row_table.specs.Callers.{local_with, IsStill}
+use Rattle.drv_wrapper.specs.Growth.{Grows}
+use Rattle.enforcer.specs.States.{caller_seen}
+use Rattle.enforcer.specs.Recorded.{is_announcing}
+use Rattle.call_phases.proofs.Judged.{idle_is, peeks_grow, caller_is, stands_behind, says_judged}
+use Rattle.call_phases.proofs.judging.JudgingEnding.end.Goals as goal
+
+pub returns-in-Ok-clause-caller : goal.returns-in-Ok-clause-caller
+returns-in-Ok-clause-caller g c =
+    subst (λ (d : Caller _). IsStill g.P.Program.meaning c.args.rows.now (caller_seen c.args.seen) d)
+    (sym (caller_is c.in-Ok.caller c.in-Ok.outcome c.ended_by.result c.ended_by.ensures)) c.in-Ok.ensures.caller
+
+pub returns-in-Ok-clause-grows : goal.returns-in-Ok-clause-grows
+returns-in-Ok-clause-grows g c =
+    subst (λ (d : Caller _). Grows (local_with (caller_seen c.args.seen)) (local_with d))
+    (sym (caller_is c.in-Ok.caller c.in-Ok.outcome c.ended_by.result c.ended_by.ensures))
+    (peeks_grow _ _ _ _ c.in-Ok.ensures.peeks)
+
+pub returns-in-Ok-clause-stands : goal.returns-in-Ok-clause-stands
+returns-in-Ok-clause-stands g c =
+    let is : local_with c.in-Ok.caller ≡ _ = c.in-Ok.ensures.peeks.local in
+    stands_behind c.in-Ok.caller c.in-Ok.outcome c.ended_by.result c.ended_by.ensures
+    (idle_is (local_with c.in-Ok.caller) (ap (λ (l : Local). is_announcing l.phase) is ∙ c.args.seen.saw.announcing) (ap (λ (l : Local). is_unstaged l.staged) is ∙ c.args.seen.saw.unstaged))
+    c.in-Ok.ensures.stands
+
+pub returns-in-Err-clause-grows : goal.returns-in-Err-clause-grows
+returns-in-Err-clause-grows g c = peeks_grow _ _ _ _ c.in-Err.ensures.unjudged_peeks
+
+pub returns-in-Ok-clause-says : goal.returns-in-Ok-clause-says
+returns-in-Ok-clause-says g c =
+    says_judged (record { init = g.S.SeqObject.init c.args.self.now.sequential.now; next = g.S.SeqObject.next c.args.self.now.sequential.now }) c.args.rows.now.callers
+    c.in-Ok.caller c.in-Ok.outcome c.ended_by.result _ _ c.ended_by.ensures c.in-Ok.ensures.record c.in-Ok.ensures.cut c.in-Ok.ensures.gathered

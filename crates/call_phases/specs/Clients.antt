@@ -1,0 +1,43 @@
+-- Clients before, in and behind their work.
+use Rattle.std.specs.Prelude.{◌≡◌, ℕ, ◌+◌, ◌*◌, ◌<◌, ◌≤◌, List, [], Option, IfSome, length, vec_len, vec_capacity}
+use Rattle.book_base.specs.declared.call.Record.{Record}
+use Rattle.world_core.specs.Shape.{Meaning}
+use Rattle.world_core.specs.Local.{Local}
+use Rattle.call_lines.specs.declared.line.LineEnd.{LineEnd}
+use Rattle.row_table.specs.declared.rows.Rows.{Rows}
+use Rattle.call_phases.specs.Stands.{phases_at, GoesOnFrom}
+use Rattle.call_phases.specs.Course.{HasCome}
+use Rattle.call_phases.specs.declared.stand.Stand.{Stand}
+use Rattle.call_phases.specs.declared.stand.Stand.TheVariants.{Halted, Unjudged}
+use Rattle.call_phases.specs.declared.client.Client.{Client}
+
+-- A caller that stands there behind so many lines has spent an allotment of phases: it has made all of them, or halted within them.
+abbrev pub Spent : {P : Type 0} → ℕ → ℕ → Stand P → Type 0
+Spent allotment lines (Halted c) = 5 * lines ≤ allotment
+Spent allotment lines (Unjudged u) = 5 * lines + 5 ≤ allotment
+Spent allotment lines s = phases_at lines s ≡ allotment
+
+module _ {P T E : Type 0} where
+  -- How many phases a client has made.
+  abbrev pub phases_by : Client P T E → ℕ
+  phases_by c = phases_at (length c.sheet.lines.items) c.stand
+
+  -- So it is of a client.
+  abbrev pub HasSpent : ℕ → Client P T E → Type 0
+  HasSpent allotment c = Spent allotment (length c.sheet.lines.items) c.stand
+
+  -- A client has come this far.
+  abbrev pub IsUnderWay : (P → ℕ → ℕ → Meaning) → Rows P → (ℕ → Local → Record → List ℕ → LineEnd → Type 0) → Client P T E → Type 0
+  IsUnderWay meaning r says c = HasCome meaning r says c.sheet.who c.sheet.operations.now c.stand c.sheet.lines.items
+
+  -- There is a row, a call of the pass, of which it may make this many, and a line for each operation.
+  pub record HasRoom (r : Rows P) (room : ℕ) (c : Client P T E) : Type 0 where
+    pub rows : length c.sheet.operations.now ≤ r.cap
+    pub passes : length c.sheet.operations.now ≤ room
+    pub lines : length c.sheet.operations.now ≤ vec_capacity c.sheet.lines
+
+  -- One client is the other, further on: with the same operations, and no less room for lines.
+  pub record IsSameClient (c d : Client P T E) : Type 0 where
+    pub who : d.sheet.who ≡ c.sheet.who
+    pub operations : d.sheet.operations.now ≡ c.sheet.operations.now
+    pub lines : vec_capacity c.sheet.lines ≤ vec_capacity d.sheet.lines

@@ -1,0 +1,94 @@
+-- How a call has ended: where its caller stands, and what is said of the call.
+use Rattle.std.specs.Prelude.{◌≡◌, ℕ, List, [], ◌∷◌, ◌++◌, true, false}
+use Rattle.book_base.specs.declared.call.Record.{Record}
+use Rattle.world_core.specs.Shape.{Meaning}
+use Rattle.world_core.specs.Local.{Local, IsIdle}
+use Rattle.call_lines.specs.declared.line.LineEnd.{LineEnd}
+use Rattle.call_lines.specs.declared.line.Line.{Line}
+use Rattle.call_lines.specs.Lines.{is_error}
+use Rattle.call_lines.specs.Phases.{progress_of}
+use Rattle.call_lines.specs.Progress.{after_seeing}
+use Rattle.row_table.specs.declared.rows.Rows.{Rows}
+use Rattle.row_table.specs.declared.caller.Caller.{Caller}
+use Rattle.row_table.specs.Callers.{local_with, stance_of, IsStill}
+use Rattle.drv_wrapper.specs.Stands.{ready}
+use Rattle.drv_wrapper.specs.Growth.{Grows}
+use Rattle.enforcer.specs.declared.published_call.Published.{Published}
+use Rattle.enforcer.specs.declared.seen_call.Seen.{Seen}
+use Rattle.enforcer.specs.declared.outcome.Unjudged as unjudged
+use Rattle.enforcer.specs.declared.outcome.Outcome.{Outcome}
+use Rattle.enforcer.specs.declared.outcome.Outcome.TheVariants.{Delivered, Illegal}
+use Rattle.enforcer.specs.Judged.{end_of}
+use Rattle.enforcer.specs.States.{caller_published, reply_published, view_published, reply_seen, view_seen}
+use Rattle.call_phases.specs.declared.stand.Stand.{Stand}
+use Rattle.call_phases.specs.declared.stand.Stand.TheVariants.{Idle, Halted, Unjudged}
+use Rattle.call_phases.specs.declared.ended.Ended.{Ended}
+use Rattle.call_phases.specs.declared.ended.Ended.TheVariants.{GoesOn, Halts, WantsMemory}
+
+module _ {P : Type 0} where
+  -- The record of a call for which a cut was seen.
+  abbrev pub record_seen : Seen P → Record
+  record_seen s = record { reply = reply_seen s; view = view_seen s }
+
+  -- The record of a call that is published; and of one that was not judged.
+  abbrev pub record_published : Published P → Record
+  record_published p = record { reply = reply_published p; view = view_published p }
+
+  abbrev pub record_unjudged : unjudged.Unjudged P → Record
+  record_unjudged u = record { reply = u.reply; view = u.view }
+
+  -- The caller of a call that has ended, and its local.
+  abbrev pub caller_ended : Ended P → Caller P
+  caller_ended (GoesOn c end) = c
+  caller_ended (Halts c end) = c
+  caller_ended (WantsMemory u) = u.caller
+
+  abbrev pub local_ended : Ended P → Local
+  local_ended e = local_with (caller_ended e)
+
+  -- The caller goes on from one call to the next: it is live and idle.
+  pub record IsFree (c : Caller P) : Type 0 where
+    pub idle : IsIdle (local_with c)
+    pub stance : stance_of c ≡ ready
+
+  -- A caller goes on behind a line that isn't an error, and is halted behind one that is, and where memory was wanted.
+  abbrev pub StandsBehind : Ended P → Type 0
+  StandsBehind (GoesOn c end) = IsFree c
+  StandsBehind (Halts c end) = (stance_of c).live ≡ false
+  StandsBehind (WantsMemory u) = (stance_of u.caller).live ≡ false
+
+  abbrev pub FitsError : Ended P → Type 0
+  FitsError (GoesOn c end) = (op : ℕ) → is_error (record { op = op; end = end }) ≡ false
+  FitsError (Halts c end) = (op : ℕ) → is_error (record { op = op; end = end }) ≡ true
+  FitsError (WantsMemory u) = Unit {0}
+
+  -- This is said of the record and the seen cut of the call; where memory was wanted nothing is said, and they are handed back.
+  abbrev pub SaysOf : (Local → Record → List ℕ → LineEnd → Type 0) → Record → List ℕ → Ended P → Type 0
+  SaysOf says r cut (GoesOn c end) = says (local_with c) r cut end
+  SaysOf says r cut (Halts c end) = says (local_with c) r cut end
+  SaysOf says r cut (WantsMemory u) = (record_unjudged u ≡ r) × (u.seen ≡ cut)
+
+  -- A call that was judged has ended by its outcome: its caller goes on where the reply is delivered, and is halted at an error.
+  abbrev pub IsEndedBy : Caller P → Outcome → Ended P → Type 0
+  IsEndedBy c (Delivered reply view seen order) ended = ended ≡ GoesOn c (end_of (Delivered reply view seen order))
+  IsEndedBy c (Illegal reply view seen book) ended = ended ≡ Halts c (end_of (Illegal reply view seen book))
+
+  -- Where the caller stands behind a call that has ended, and its lines with that of the call, where it has one.
+  abbrev pub IsNoted : ℕ → List Line → Ended P → List Line → Stand P → Type 0
+  IsNoted op own (GoesOn c end) own' s = (s ≡ Idle c) × (own' ≡ own ++ record { op = op; end = end } ∷ [])
+  IsNoted op own (Halts c end) own' s = (s ≡ Halted c) × (own' ≡ own ++ record { op = op; end = end } ∷ [])
+  IsNoted op own (WantsMemory u) own' s = (s ≡ Unjudged u) × (own' ≡ own)
+
+  -- A call has ended by an ending that says this: its caller, one of these rows, saw a cut, and came no further with its calls.
+  pub record HasEnded (meaning : P → ℕ → ℕ → Meaning) (r : Rows P) (says : ℕ → Local → Record → List ℕ → LineEnd → Type 0) (p : Published P) (e : Ended P) : Type 0 where
+    pub cut : List ℕ
+    pub still : IsStill meaning r (caller_published p) (caller_ended e)
+    pub progress : progress_of (local_ended e) ≡ after_seeing cut (progress_of (local_with (caller_published p)))
+    pub grows : Grows (local_with (caller_published p)) (local_ended e)
+    pub stands : StandsBehind e
+    pub error : FitsError e
+    pub says_of : SaysOf (says r.callers) (record_published p) cut e
+
+  -- So it has ended, and its line is noted, where it has one.
+  abbrev pub Ends : (P → ℕ → ℕ → Meaning) → Rows P → (ℕ → Local → Record → List ℕ → LineEnd → Type 0) → Published P → ℕ → List Line → List Line → Stand P → Type 0
+  Ends meaning r says p op own own' s = (e : Ended P) × HasEnded meaning r says p e × IsNoted op own e own' s

@@ -1,0 +1,35 @@
+-- What a client leaves that is finished.
+use Rattle.std.specs.Prelude.{◌≡◌, ℕ, true, false, Bool, List, Option, Some, None, length}
+use Rattle.book_base.specs.declared.call.Record.{Record}
+use Rattle.world_core.specs.Local.{Local}
+use Rattle.call_lines.specs.declared.line.LineEnd.{LineEnd}
+use Rattle.call_lines.specs.declared.line.LineEnd.TheVariants.{Pending, Unchecked}
+use Rattle.call_lines.specs.declared.line.Line.{Line}
+use Rattle.drv_wrapper.specs.States.{reply_viewed, view_viewed}
+use Rattle.call_phases.specs.Ends.{HasLeft}
+use Rattle.call_phases.specs.Endings.{record_published}
+use Rattle.call_phases.specs.Clients.{Spent}
+use Rattle.call_phases.specs.declared.stand.Stand.{Stand}
+use Rattle.call_phases.specs.declared.stand.Stand.TheVariants.{Idle, Announced, Answered, Viewed, Published, Halted, Unjudged}
+
+module _ {P : Type 0} where
+  -- The end of the line of a call that its caller leaves there: pending without its record, and unchecked with it.
+  abbrev pub end_at : Stand P → Option LineEnd
+  end_at (Idle c) = None
+  end_at (Announced a) = Some Pending
+  end_at (Answered a) = Some Pending
+  end_at (Viewed v) = Some (Unchecked (record { reply = reply_viewed v; view = view_viewed v }))
+  end_at (Published p) = Some (Unchecked (record_published p))
+  end_at (Halted c) = None
+  end_at (Unjudged u) = None
+
+  -- A call was left unjudged for want of memory.
+  abbrev pub is_unjudged : Stand P → Bool
+  is_unjudged (Unjudged u) = true
+  is_unjudged _ = false
+
+  -- A client that stands there behind these lines leaves this local and its lines, whatever allotment it has spent. Nothing is said of
+  -- lines where memory was wanted.
+  abbrev pub Leaves : (ℕ → Local → Record → List ℕ → LineEnd → Type 0) → ℕ → List ℕ → Stand P → List Line → Local → List Line → Type 0
+  Leaves says n operations s before l own =
+      is_unjudged s ≡ false → (allotment : ℕ) → Spent allotment (length before) s → HasLeft says n operations allotment l own

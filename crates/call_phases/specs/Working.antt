@@ -1,0 +1,12 @@
+-- What a client leaves that judges its calls.
+use Rattle.std.specs.Prelude.{ℕ, List}
+use Rattle.world_core.specs.Local.{Local}
+use Rattle.call_lines.specs.declared.line.Line.{Line}
+use Rattle.call_lines.specs.Workers.{HasWorked}
+use Rattle.call_phases.specs.Ends.{Sequential, SaysJudged, HasLeft}
+
+-- It is what a worker leaves: so the lines of all such clients are a lawful report.
+abbrev pub JudgingClientsHaveWorked : Type 0
+JudgingClientsHaveWorked =
+    (object : Sequential) (n : ℕ) (operations : List ℕ) (allotment : ℕ) (l : Local) (own : List Line)
+    → HasLeft (SaysJudged object) n operations allotment l own → HasWorked object.init object.next n operations allotment l own

@@ -1,0 +1,159 @@
+ghost use Rattle.std.specs.Prelude.{◌≡◌, ◌+◌, ◌*◌, ◌<◌, ◌≤◌, length, vec_capacity};
+
+use crate::asks::Asks;
+use crate::ending::Ending;
+use crate::finished::Finished;
+use crate::shared::Shared;
+use crate::sheet::Sheet;
+use crate::stand::Stand;
+use call_lines::Line;
+use drv_wrapper::{announce, view};
+use enforcer::publish;
+use row_table::{Rows, Steps};
+use std::sync::ledger::Ledger;
+use world_core::Program;
+
+/// A caller at work: where it stands, the pass by which it asks, and its sheet.
+pub struct Client<'a, P, T, E> {
+    pub stand: Stand<P>,
+    pub pass: T,
+    pub sheet: Sheet<'a, E>,
+}
+
+impl<'a, P: Program, T, E: Ending> Client<'a, P, T, E> {
+    ghost use Rattle.call_lines.specs.Phases.{HasMade};
+    ghost use Rattle.row_table.specs.Callers.{local_with};
+    ghost use Rattle.drv_wrapper.specs.Stands.{IsSame};
+    ghost use Rattle.call_phases.specs.Stands.{caller_at, GoesOnFrom};
+    ghost use Rattle.call_phases.specs.Finishing.{is_unjudged, Leaves};
+    ghost use Rattle.call_phases.specs.Course.{HasAskedFor};
+    ghost use Rattle.call_phases.specs.Clients.{phases_by, HasSpent, IsUnderWay, HasRoom, IsSameClient};
+
+    /// Makes the next phase of the caller: announces its next operation, asks, takes the view, publishes, or ends
+    /// the call.
+    ///
+    /// The caller isn't halted, and has a phase left: five for each operation.
+    pub fn advance<A: Asks<Program = P, Pass = T>, L: Ledger>(
+        self,
+        shared: &Shared<A, P>,
+        steps: &mut Steps<L>,
+    ) -> Client<'a, P, T, E>
+        requires course { IsUnderWay P.meaning shared.now.rows.now (E.says (E.object self.sheet.ending)) self }
+        requires asked { HasAskedFor (A.made self.pass) (A.told self.pass) self.stand self.sheet.lines.items }
+        requires own { A.is_own shared.now.asks.now self.pass self.sheet.who }
+        requires room { HasRoom shared.now.rows.now (A.room self.pass) self }
+        requires goes { GoesOnFrom self.stand }
+        requires left { phases_by self < 5 * length self.sheet.operations.now }
+        ensures phase { phases_by result ≡ phases_by self.entry + 1 }
+        ensures course { IsUnderWay P.meaning shared.now.rows.now (E.says (E.object result.sheet.ending)) result }
+        ensures asked { HasAskedFor (A.made result.pass) (A.told result.pass) result.stand result.sheet.lines.items }
+        ensures own { A.is_own shared.now.asks.now result.pass result.sheet.who }
+        ensures room { HasRoom shared.now.rows.now (A.room result.pass) result }
+        ensures same { IsSameClient self.entry result }
+        ensures object { E.object result.sheet.ending ≡ E.object self.entry.sheet.ending }
+    {
+        let Client {
+            stand,
+            mut pass,
+            mut sheet,
+        } = self;
+        let rows = shared.rows;
+        let op = sheet.next_op();
+        match stand {
+            Stand::Idle(caller) => {
+                let stand = Stand::Announced(announce(caller, rows, op, steps));
+                Client { stand, pass, sheet }
+            }
+            Stand::Announced(announced) => {
+                let stand = Stand::Answered(shared.asks.ask(announced, &mut pass));
+                Client { stand, pass, sheet }
+            }
+            Stand::Answered(answered) => {
+                let stand = Stand::Viewed(view(answered, rows, steps));
+                Client { stand, pass, sheet }
+            }
+            Stand::Viewed(viewed) => {
+                let stand = Stand::Published(publish(viewed, rows, steps));
+                Client { stand, pass, sheet }
+            }
+            Stand::Published(published) => {
+                let stand = sheet.end_call(rows, published, op, steps);
+                Client { stand, pass, sheet }
+            }
+            stand => Client { stand, pass, sheet },
+        }
+    }
+
+    /// Makes so many further phases, or, where the caller is halted before, those up to there.
+    ///
+    /// There are five phases for each operation, and they are enough.
+    pub fn run<A: Asks<Program = P, Pass = T>, L: Ledger>(
+        self,
+        shared: &Shared<A, P>,
+        count: u64,
+        steps: &mut Steps<L>,
+    ) -> Client<'a, P, T, E>
+        requires course { IsUnderWay P.meaning shared.now.rows.now (E.says (E.object self.sheet.ending)) self }
+        requires asked { HasAskedFor (A.made self.pass) (A.told self.pass) self.stand self.sheet.lines.items }
+        requires own { A.is_own shared.now.asks.now self.pass self.sheet.who }
+        requires room { HasRoom shared.now.rows.now (A.room self.pass) self }
+        requires goes { GoesOnFrom self.stand }
+        requires left { phases_by self + count ≤ 5 * length self.sheet.operations.now }
+        ensures spent { HasSpent (phases_by self.entry + count) result }
+        ensures course { IsUnderWay P.meaning shared.now.rows.now (E.says (E.object result.sheet.ending)) result }
+        ensures asked { HasAskedFor (A.made result.pass) (A.told result.pass) result.stand result.sheet.lines.items }
+        ensures own { A.is_own shared.now.asks.now result.pass result.sheet.who }
+        ensures room { HasRoom shared.now.rows.now (A.room result.pass) result }
+        ensures same { IsSameClient self.entry result }
+        ensures object { E.object result.sheet.ending ≡ E.object self.entry.sheet.ending }
+    {
+        let mut client = self;
+        for _i in 0..count {
+            if !client.stand.goes_on() {
+                return client;
+            }
+            client = client.advance(shared, steps);
+        }
+        client
+    }
+
+    /// Stops the caller where it stands, and puts the line of a call under way behind the others: pending, or
+    /// unchecked where it has its record.
+    ///
+    /// A call that wasn't judged for want of memory has no line.
+    pub fn finish(self, _rows: &Rows<P>) -> Finished<P, T, E>
+        requires course { IsUnderWay P.meaning _rows.now (E.says (E.object self.sheet.ending)) self }
+        requires room { length self.sheet.operations.now ≤ vec_capacity self.sheet.lines }
+        ensures caller { IsSame (caller_at self.entry.stand) result.caller }
+        ensures pass { result.pass ≡ self.entry.pass }
+        ensures ending { result.ending ≡ self.entry.sheet.ending }
+        ensures wants_memory { result.wants_memory ≡ is_unjudged self.entry.stand }
+        ensures made { HasMade self.entry.sheet.operations.now (phases_by self.entry) (local_with result.caller) }
+        ensures leaves { Leaves (E.says (E.object result.ending)) _rows.now.callers self.entry.sheet.operations.now self.entry.stand self.entry.sheet.lines.items (local_with result.caller) result.lines.items }
+    {
+        let Client {
+            stand,
+            pass,
+            mut sheet,
+        } = self;
+        let wants_memory = stand.is_unjudged();
+        let (caller, end) = stand.stop();
+        if let Some(end) = end {
+            let op = sheet.next_op();
+            sheet.lines.push(Line { op, end }).unwrap();
+        }
+        let Sheet {
+            who: _,
+            operations: _,
+            lines,
+            ending,
+        } = sheet;
+        Finished {
+            caller,
+            pass,
+            lines,
+            ending,
+            wants_memory,
+        }
+    }
+}

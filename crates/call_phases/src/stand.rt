@@ -1,0 +1,84 @@
+use book_base::Record;
+use call_lines::LineEnd;
+use drv_wrapper::{Announced, Answered, Viewed};
+use enforcer::{Published, Unjudged};
+use row_table::Caller;
+use world_core::Outside;
+
+/// Where a caller stands between two of its phases.
+pub enum Stand<P = Outside> {
+    /// Between two calls.
+    Idle(Caller<P>),
+    /// The call is announced.
+    Announced(Announced<P>),
+    /// The object has answered it.
+    Answered(Answered<P>),
+    /// It has its view, so its record.
+    Viewed(Viewed<P>),
+    /// The record is published.
+    Published(Published<P>),
+    /// Halted behind an error.
+    Halted(Caller<P>),
+    /// Halted, and its last call isn't judged for want of memory.
+    Unjudged(Unjudged<P>),
+}
+
+impl<P> Stand<P> {
+    ghost use Rattle.std.specs.Prelude.{◌≡◌, ◌↔◌, IsTrue};
+    ghost use Rattle.drv_wrapper.specs.Stands.{IsSame};
+    ghost use Rattle.call_phases.specs.Stands.{caller_at, GoesOnFrom};
+    ghost use Rattle.call_phases.specs.Finishing.{end_at, is_unjudged};
+
+    /// Whether the caller makes further phases: it isn't halted.
+    pub fn goes_on(&self) -> bool
+        ensures { IsTrue result ↔ GoesOnFrom self.now }
+    {
+        match self {
+            Stand::Halted(_) | Stand::Unjudged(_) => false,
+            _ => true,
+        }
+    }
+
+    /// Whether the last call wasn't judged for want of memory.
+    pub fn is_unjudged(&self) -> bool
+        ensures { result ≡ is_unjudged self.now }
+    {
+        matches!(self, Stand::Unjudged(_))
+    }
+
+    /// The caller, with its local as it is, and how the line of its call under way ends, where it leaves one. Between
+    /// two calls it stays live, and else it is halted.
+    pub fn stop(self) -> (Caller<P>, Option<LineEnd>)
+        ensures caller { IsSame (caller_at self) result.0 }
+        ensures end { result.1 ≡ end_at self }
+    {
+        match self {
+            Stand::Idle(caller) | Stand::Halted(caller) => (caller, None),
+            Stand::Announced(announced) => (announced.stop(), Some(LineEnd::Pending)),
+            Stand::Answered(answered) => (answered.stop(), Some(LineEnd::Pending)),
+            Stand::Viewed(viewed) => {
+                let (reply, view) = (viewed.reply(), viewed.view());
+                (
+                    viewed.stop(),
+                    Some(LineEnd::Unchecked(Record { reply, view })),
+                )
+            }
+            Stand::Published(published) => {
+                let (reply, view) = (published.reply(), published.view());
+                (
+                    published.stop(),
+                    Some(LineEnd::Unchecked(Record { reply, view })),
+                )
+            }
+            Stand::Unjudged(unjudged) => {
+                let Unjudged {
+                    caller,
+                    reply: _,
+                    view: _,
+                    seen: _,
+                } = unjudged;
+                (caller, None)
+            }
+        }
+    }
+}

@@ -1,0 +1,4 @@
+pub mod Names
+pub mod Deeds
+pub mod Forms
+pub mod Passes

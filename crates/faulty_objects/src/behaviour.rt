@@ -1,0 +1,57 @@
+ghost use Rattle.std.specs.Prelude.{◌≡◌, ◌≢◌, IfSome, IfNone};
+ghost use Rattle.faulty_objects.specs.declared.behaviour.Behaviour.{Behaviour};
+ghost use Rattle.faulty_objects.specs.Names.{behaviour_name};
+
+/// An object that can be run, by its name.
+#[derive(Clone, Copy, Debug, PartialEq, Eq)]
+pub enum Behaviour {
+    Lawful,
+    Tally,
+    Cell,
+    Lossy,
+    Twice,
+    Late,
+    Invent,
+    Split,
+    Onepass,
+}
+
+impl Behaviour {
+    /// The behaviour with this name.
+    #[tactic(auto, unfolding(crate::specs::Names::behaviour_name))]
+    pub fn from_name(name: &[u8]) -> Option<Behaviour>
+        ensures found { IfSome result (λ b. behaviour_name b ≡ name.now) }
+        ensures none { IfNone result ((b : Behaviour) → behaviour_name b ≢ name.now) }
+    {
+        match name {
+            b"lawful" => Some(Behaviour::Lawful),
+            b"tally" => Some(Behaviour::Tally),
+            b"cell" => Some(Behaviour::Cell),
+            b"lossy" => Some(Behaviour::Lossy),
+            b"twice" => Some(Behaviour::Twice),
+            b"late" => Some(Behaviour::Late),
+            b"invent" => Some(Behaviour::Invent),
+            b"split" => Some(Behaviour::Split),
+            b"onepass" => Some(Behaviour::Onepass),
+            _ => None,
+        }
+    }
+
+    /// The name.
+    #[tactic(auto, unfolding(crate::specs::Names::behaviour_name))]
+    pub fn name(self) -> &'static str
+        ensures { result.now ≡ behaviour_name self }
+    {
+        match self {
+            Behaviour::Lawful => "lawful",
+            Behaviour::Tally => "tally",
+            Behaviour::Cell => "cell",
+            Behaviour::Lossy => "lossy",
+            Behaviour::Twice => "twice",
+            Behaviour::Late => "late",
+            Behaviour::Invent => "invent",
+            Behaviour::Split => "split",
+            Behaviour::Onepass => "onepass",
+        }
+    }
+}

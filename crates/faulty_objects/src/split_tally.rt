@@ -1,0 +1,87 @@
+ghost use Rattle.std.specs.Prelude.{◌≡◌, ◌+◌, ◌<◌, ◌≤◌, ◌++◌, ◌∷◌, [], ℕ, List, IfOk, All, map, length};
+ghost use Rattle.std.specs.List.{range_with_len};
+ghost use Rattle.book_base.specs.declared.TheConstants.{MAX_CALLERS, MAX_CALLS};
+ghost use Rattle.lawful_objects.specs.Forms.{IsTallyReply};
+ghost use Rattle.faulty_objects.specs.Forms.{IsSplit};
+
+use crate::shared_words::{Doing, SharedWords};
+use crate::words_pass::WordsPass;
+use atomic_table::Seat;
+use book_base::{BAD, MAX_CALLERS, MAX_CALLS, NoMemory, OpWord};
+use drv_wrapper::{Announced, BlackBox};
+use seq_objects::value_reply;
+use std::alloc::Global;
+
+/// The operation word of the increment.
+const INCREMENT: OpWord = 1 << 32;
+
+/// A counter whose increment is torn: a load, and then a store of one more. So increments that overlap may be
+/// lost.
+#[derive(Drop)]
+pub struct SplitTally {
+    pub(crate) words: SharedWords,
+    ghost one: { words.table.shared.table_id.words ≡ 1 },
+}
+
+impl SplitTally {
+    ghost use Rattle.faulty_objects.specs.Passes.{deeds_of, callers_of, cap_of, caller_of_pass, made_with, cap_of_pass, pairs_in, IsSeatOf, IsFreshPass, IsSplitPass};
+
+    /// A split tally for `n` callers with `cap` calls each, and a pass for each caller, in order. The count is 0.
+    pub fn open(alloc: Global, n: u32, cap: u64) -> Result<(SplitTally, Vec<WordsPass>), NoMemory>
+        requires some_callers { 1 ≤ n }
+        requires few_callers { n ≤ MAX_CALLERS }
+        requires some_calls { 1 ≤ cap }
+        requires few_calls { cap ≤ MAX_CALLS }
+        ensures tally { IfOk result (λ r. (callers_of r.0.words ≡ n) × (cap_of r.0.words ≡ cap)) }
+        ensures callers { IfOk result (λ r. map caller_of_pass r.1.items ≡ range_with_len 0 n) }
+        ensures own { IfOk result (λ r. All (IsSplitPass r.0) r.1.items) }
+        ensures fresh { IfOk result (λ r. All (IsFreshPass cap) r.1.items) }
+    {
+        let (words, passes) = SharedWords::open(alloc, n, cap, 1)?;
+        Ok((SplitTally { words }, passes))
+    }
+
+    // The reply to an operation, with the steps that it makes.
+    fn reply(&self, seat: &mut Seat<(), Doing>, op: OpWord) -> u64
+        requires { IsSeatOf self.now.words seat.old }
+        ensures seat { IsSeatOf self.now.words seat.new }
+        ensures call { IsSplit op result (deeds_of seat.old) (deeds_of seat.new) }
+    {
+        if op != INCREMENT {
+            return BAD;
+        }
+        let found = self.words.load(seat, 0);
+        self.words.store(seat, 0, found.wrapping_add(1));
+        value_reply(found)
+    }
+
+    /// Makes one call of the pass's caller. It takes no memory.
+    pub fn make(&self, pass: &mut WordsPass, op: OpWord) -> u64
+        requires own { IsSplitPass self.now pass.old }
+        requires left { made_with pass.old < cap_of_pass pass.old }
+        ensures own { IsSplitPass self.now pass.new }
+        ensures same { (caller_of_pass pass.new ≡ caller_of_pass pass.old) × (cap_of_pass pass.new ≡ cap_of_pass pass.old) }
+        ensures pairs { pairs_in pass.new ≡ pairs_in pass.old ++ (op, result) ∷ [] }
+        ensures form { IsTallyReply op result }
+    {
+        let reply = self.reply(&mut pass.seat, op);
+        pass.pairs.push((op, reply)).unwrap();
+        reply
+    }
+}
+
+impl BlackBox for SplitTally {
+    ghost use Rattle.std.proofs.Common.{sym, ap};
+    ghost use Rattle.std.proofs.lemmas.Option.{same_Some};
+    ghost use Rattle.faulty_objects.specs.Passes.{pairs_in, IsSplitPass};
+
+    type Pass = WordsPass;
+
+    ghost is_own = { IsSplitPass };
+
+    ghost tells_each = { λ t pass pairs own told. ap (λ (l : List (ℕ × ℕ)). length l) (sym (same_Some (pairs_in pass) pairs told)) };
+
+    fn call(&self, pass: &mut WordsPass, announced: &Announced) -> u64 {
+        self.make(pass, announced.op())
+    }
+}

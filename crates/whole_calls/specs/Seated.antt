@@ -1,0 +1,43 @@
+-- Callers at a table, each with its pass of a box.
+use Rattle.std.specs.Prelude.{◌≡◌, ℕ, ◌<◌, List, Option, None, Some}
+use Rattle.world_core.specs.Shape.{Meaning}
+use Rattle.world_core.specs.Local.{fresh}
+use Rattle.row_table.specs.declared.caller.Caller.{Caller}
+use Rattle.row_table.specs.declared.rows.Rows.{Rows}
+use Rattle.row_table.specs.Callers.{who_of, local_with, stance_of, IsCallerOf}
+use Rattle.drv_wrapper.specs.Stands.{ready}
+use Rattle.shared_log.specs.declared.entry.Entry.{Entry}
+use Rattle.lawful_objects.specs.declared.scratch.Scratch.{Scratch}
+use Rattle.lawful_objects.specs.declared.log_pass.LogPass.{LogPass}
+use Rattle.lawful_objects.specs.declared.log_box.LogBox.{LogBox}
+use Rattle.lawful_objects.specs.Passes.{caller_of_pass, made_with, cap_of_pass, IsPassOf}
+
+module _ {P : Type 0} where
+  -- The caller has number i at a table.
+  pub record IsAt (meaning : P → ℕ → ℕ → Meaning) (r : Rows P) (i : ℕ) (c : Caller P) : Type 0 where
+    pub caller : IsCallerOf meaning r c
+    pub who : who_of c ≡ i
+
+  -- It has made no step.
+  pub record IsNew (c : Caller P) : Type 0 where
+    pub local : local_with c ≡ fresh
+    pub stance : stance_of c ≡ ready
+
+  -- There is a caller, with number i; and one that has made no step.
+  abbrev pub IsThere : (P → ℕ → ℕ → Meaning) → Rows P → ℕ → Option (Caller P) → Type 0
+  IsThere meaning r i None = ⊥
+  IsThere meaning r i (Some c) = IsAt meaning r i c
+
+  abbrev pub IsNewAt : (P → ℕ → ℕ → Meaning) → Rows P → ℕ → Option (Caller P) → Type 0
+  IsNewAt meaning r i None = ⊥
+  IsNewAt meaning r i (Some c) = IsAt meaning r i c × IsNew c
+
+-- The pass is that of caller i of a box.
+pub record IsFor {M : Type 0} (reply_to : M → List Entry → ℕ) (has_seen : M → List Entry → Scratch → Type 0) (b : LogBox M) (i : ℕ) (p : LogPass) : Type 0 where
+  pub own : IsPassOf reply_to has_seen b p
+  pub caller : caller_of_pass p ≡ i
+
+-- The pass has made no call, and may make some.
+pub record IsUnused (p : LogPass) : Type 0 where
+  pub made : made_with p ≡ 0
+  pub some : 0 < cap_of_pass p
