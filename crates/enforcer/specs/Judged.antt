@@ -1,5 +1,5 @@
 -- What a judgement says: of which call, and by which book.
-use Rattle.std.specs.Prelude.{◌≡◌, ℕ, Bool, true, false, List}
+use Rattle.std.specs.Prelude.{◌≡◌, ℕ, Bool, true, false, List, length}
 use Rattle.book_base.specs.declared.call.Record.{Record}
 use Rattle.book_base.specs.Book.{Page}
 use Rattle.book_base.specs.BookAt.{book_at}
@@ -25,6 +25,10 @@ record_in (Illegal reply view seen book) = record { reply = reply; view = view }
 abbrev pub cut_in : Outcome → List ℕ
 cut_in (Delivered reply view seen order) = seen
 cut_in (Illegal reply view seen book) = seen
+
+-- A view and a seen cut have an entry for each of n callers.
+abbrev pub AreWide : ℕ → List ℕ → List ℕ → Type 0
+AreWide n view seen = (length view ≡ n) × (length seen ≡ n)
 
 -- The call is an error.
 abbrev pub is_illegal : Outcome → Bool

@@ -1,4 +1,4 @@
-ghost use Rattle.std.specs.Prelude.{◌≡◌, ◌+◌, ◌<◌, ◌≤◌, false, length, IfOk, IfErr};
+ghost use Rattle.std.specs.Prelude.{◌≡◌, ◌+◌, ◌<◌, ◌≤◌, false, IfOk, IfErr};
 ghost use Rattle.world_core.specs.Local.{IsIdle};
 ghost use Rattle.call_lines.specs.Phases.{progress_of};
 ghost use Rattle.row_table.specs.Callers.{who_of, local_with, stance_of, IsCallerOf, IsStill};
@@ -6,7 +6,7 @@ ghost use Rattle.drv_wrapper.specs.Growth.{Grows};
 ghost use Rattle.drv_wrapper.specs.Stands.{ready};
 ghost use Rattle.drv_wrapper.specs.Telling.{told_after};
 ghost use Rattle.enforcer.specs.Recorded.{HoldsOwn};
-ghost use Rattle.enforcer.specs.Judged.{record_in, cut_in, stance_after, IsRightByPeeks, IsRightOf};
+ghost use Rattle.enforcer.specs.Judged.{record_in, cut_in, stance_after, AreWide, IsRightByPeeks, IsRightOf};
 ghost use Rattle.enforcer.specs.Enforced.{after_call, record_unjudged, reply_of};
 
 use crate::judging::judge;
@@ -21,8 +21,115 @@ use std::alloc::Global;
 use std::sync::ledger::Ledger;
 use world_core::{Outside, Program};
 
-/// Makes one call that checks itself: announces it, asks the object, takes the view, publishes the record, and
-/// judges it.
+/// Makes one call of an object, which checks itself: the reply comes back only where all replies that are published
+/// by then, of all callers and this one among them, are those that a sequential object gives in one order.
+///
+/// The call is announced, the object is asked, the view is taken, and the record, reply and view, is published; then
+/// the cut of what is published is seen, and the book at that cut is judged.
+///
+/// This is the call to make in place of the object's own. Two callers of a queue, one after the other, over an
+/// object `Replies` and its `RepliesPass` that are written as on the page of [`BlackBox`]:
+///
+/// ```text
+/// // What a caller found, and whether it is live afterwards.
+/// type Found = Result<(Told, bool), NoMemory>;
+///
+/// // A caller of two makes its first call, which checks itself against a queue.
+/// fn call_queue<L: Ledger>(
+///     alloc: Global,
+///     rows: &Rows,
+///     caller: Caller,
+///     op: OpWord,
+///     object: &Replies,
+///     guide: &mut Guide,
+///     steps: &mut Steps<L>,
+/// ) -> (Caller, Found)
+///     requires caller { IsCallerOf ⟦<Outside as Program>⟧.meaning rows.now caller × (rows.now.callers ≡ 2) }
+///     requires fresh { (local_with caller ≡ local.fresh) × (stance_of caller ≡ ready) }
+///     ensures caller { IsStill ⟦<Outside as Program>⟧.meaning rows.now caller result.0 }
+/// {
+///     let mut pass = RepliesPass {
+///         caller: caller.who(),
+///         made: 0,
+///         cap: 1,
+///     };
+///     match enforce(
+///         alloc, rows, caller, op, &Queue, object, &mut pass, guide, steps,
+///     ) {
+///         Ok((caller, outcome)) => {
+///             let live = caller.live();
+///             (caller, Ok((told(alloc, outcome), live)))
+///         }
+///         Err(
+///             Unjudged {
+///                 caller,
+///                 reply: _,
+///                 view: _,
+///                 seen: _,
+///             },
+///         ) => (caller, Err(NoMemory)),
+///     }
+/// }
+///
+/// // One of two callers enqueues 5, and then the other dequeues: what each found.
+/// fn enqueue_and_dequeue<L: Ledger>(
+///     alloc: Global,
+///     object: &Replies,
+///     blank: Blank,
+/// ) -> Result<(Found, Found), NoMemory>
+///     requires { (blank.name ≡ L.name) × (blank.parts ≡ L.parts) × (0 < blank.parts) }
+/// {
+///     let mut guide = Guide::new(alloc)?;
+///     let mut steps = Steps::<L>::new(blank);
+///     let (rows, mut bench) = Rows::open(alloc, Outside, 2, 4)?;
+///     let a = fresh_caller(&rows, &mut bench, 0);
+///     let (a, first) = call_queue(alloc, &rows, a, ENQ_FIVE, object, &mut guide, &mut steps);
+///     let b = fresh_caller(&rows, &mut bench, 1);
+///     let (b, second) = call_queue(alloc, &rows, b, DEQ, object, &mut guide, &mut steps);
+///     rows.back(&mut bench, a);
+///     rows.back(&mut bench, b);
+///     rows.close(alloc, bench)?;
+///     Ok((first, second))
+/// }
+/// ```
+///
+/// Where the object replies `done` and `=5`, the second outcome is `Delivered` with the order `enq 5`, `deq`. Where
+/// it replies `none` to both, the first outcome is `Illegal` already: no queue answers an `enq` so.
+///
+/// What you hand in:
+///
+/// - `rows` and `caller`: the table that all callers share, and one of its callers, live and idle, with a call left.
+///   The caller is spent, and comes back with each answer.
+/// - `op`: the operation, as a word that the sequential object reads.
+/// - `sequential`: the object that says which replies are right (`SeqObject` in `book_base`). A verdict is about
+///   this one, so all callers hand in the same.
+/// - `object` and `pass`: the object under test, and this caller's own pass of it, with a call left. One call is
+///   made with it, neither more nor fewer, whatever becomes of the judgement.
+/// - `guide`: the last order that was found, whose places the search for the next one tries first. It costs or
+///   saves time alone, and never changes a verdict, so a new one is always good.
+/// - `steps`: the counter that ticks with each word of the table that is looked at or peeked.
+///
+/// Each caller keeps one pass, one guide and one counter of its own, and makes its calls from its own thread; on one
+/// thread, as above, guide and counter may be shared. No call takes a lock or waits for another caller, and a caller
+/// that stops in the midst of its call holds up nobody.
+///
+/// What you may conclude from an answer:
+///
+/// - `Delivered`: the order is a legal one of the book at the seen cut. The book has every record that is published
+///   below the cut, with this call's record, the last of its caller's; so the order explains this reply and each one
+///   that was delivered with a seen cut within this one. A call that a view shows to have come before another does
+///   so in the order too. The caller is live and idle. The object may still be wrong: where calls overlap, a wrong
+///   reply may be a right one in the wider intervals from announcement to view, and then it isn't found.
+/// - `Illegal`: no order explains the book at the seen cut, which the outcome carries. It is evidence against the
+///   object that needs no trust in this run: written as text, `selfcheck verify` answers the same to anyone. No run
+///   whose object calls are linearizable has such an outcome. The caller is halted.
+/// - [`Unjudged`]: memory was refused while the book was gathered or judged. It says nothing about the object. The
+///   reply is in the answer, unchecked, the record stays published, so that the judgements of the other callers
+///   hold it, and the caller is halted.
+///
+/// An error is final: every judgement at a cut that contains an illegal one is an error too
+/// ([`errors_are_final`](crate::laws::errors_are_final)). Callers whose calls begin afterwards are all halted, each
+/// at its next call (Castañeda and Rodríguez 2023).
 pub fn enforce<S: SeqObject, B: BlackBox, L: Ledger>(
     alloc: Global,
     rows: &Rows,
@@ -45,7 +152,7 @@ pub fn enforce<S: SeqObject, B: BlackBox, L: Ledger>(
     ensures idle { IfOk result (λ r. IsIdle (local_with r.0)) }
     ensures stands { IfOk result (λ r. stance_of r.0 ≡ stance_after r.1) }
     ensures progress { IfOk result (λ r. progress_of (local_with r.0) ≡ after_call op (record_in r.1) (cut_in r.1) (progress_of (local_with caller))) }
-    ensures wide { IfOk result (λ r. (length (record_in r.1).view ≡ rows.now.callers) × (length (cut_in r.1) ≡ rows.now.callers)) }
+    ensures wide { IfOk result (λ r. AreWide rows.now.callers (record_in r.1).view (cut_in r.1)) }
     ensures own { IfOk result (λ r. HoldsOwn (cut_in r.1) r.0) }
     ensures grows { IfOk result (λ r. Grows (local_with caller) (local_with r.0)) }
     ensures gathered { IfOk result (λ r. IsRightByPeeks (S.init sequential.now) (S.next sequential.now) rows.now.callers (local_with r.0) r.1) }
@@ -53,7 +160,7 @@ pub fn enforce<S: SeqObject, B: BlackBox, L: Ledger>(
     ensures unjudged_caller { IfErr result (λ u. IsStill ⟦<Outside as Program>⟧.meaning rows.now caller u.caller) }
     ensures unjudged_stands { IfErr result (λ u. stance_of u.caller ≡ record ready { live = false }) }
     ensures unjudged_progress { IfErr result (λ u. progress_of (local_with u.caller) ≡ after_call op (record_unjudged u) u.seen (progress_of (local_with caller))) }
-    ensures unjudged_wide { IfErr result (λ u. (length u.view ≡ rows.now.callers) × (length u.seen ≡ rows.now.callers)) }
+    ensures unjudged_wide { IfErr result (λ u. AreWide rows.now.callers u.view u.seen) }
     ensures unjudged_own { IfErr result (λ u. HoldsOwn u.seen u.caller) }
     ensures unjudged_grows { IfErr result (λ u. Grows (local_with caller) (local_with u.caller)) }
     ensures pass { B.is_own object.now pass.new }

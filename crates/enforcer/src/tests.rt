@@ -1,9 +1,9 @@
-ghost use Rattle.std.specs.Prelude.{◌≡◌, ◌≢◌, ℕ, ◌<◌, Some, None, length};
+ghost use Rattle.std.specs.Prelude.{◌≡◌, ◌≢◌, ℕ, ◌<◌, Some, None};
 ghost use Rattle.std.proofs.Common.{rules};
 ghost use Rattle.world_core.specs.Local as local;
 ghost use Rattle.row_table.specs.Callers.{who_of, local_with, stance_of, on_bench, stance_on, IsCallerOf, IsBenchOf, IsStill};
 ghost use Rattle.drv_wrapper.specs.Stands.{ready};
-ghost use Rattle.enforcer.specs.Judged.{record_in, cut_in};
+ghost use Rattle.enforcer.specs.Judged.{record_in, cut_in, AreWide};
 
 use crate::{Outcome, Unjudged, enforce};
 use book_base::{NoMemory, OpWord, Place};
@@ -91,7 +91,7 @@ type Told = (bool, u64, (u64, u64), (u64, u64), Vec<Place>);
 
 // Reads an outcome of two callers.
 fn told(alloc: Global, outcome: Outcome) -> Told
-    requires { (length (record_in outcome).view ≡ 2) × (length (cut_in outcome) ≡ 2) }
+    requires { AreWide 2 (record_in outcome).view (cut_in outcome) }
 {
     match outcome {
         Outcome::Delivered {
