@@ -1,15 +1,15 @@
 -- A client comes on by each phase of its caller.
-use Rattle.std.proofs.Common.{◌≡◌, ◌∙◌, sym, subst, ap, refl, ℕ, ◌+◌, ◌*◌, ◌<◌, List, [], ◌∷◌, ◌++◌, true, false, length, slice_index, arith}
+use Rattle.std.proofs.Common.{◌≡◌, ◌∙◌, sym, ap, refl, ℕ, ◌+◌, ◌*◌, ◌<◌, List, [], ◌∷◌, ◌++◌, length, slice_index, arith}
 use Rattle.std.proofs.lemmas.List.{append-nil}
 use Rattle.book_base.specs.declared.call.Record.{Record}
 use Rattle.world_core.specs.Shape.{Meaning}
 use Rattle.world_core.specs.Local.{Local}
-use Rattle.world_core.specs.Calls.{Is_announced, Has_record, Has_seen, Made, calls_in}
+use Rattle.world_core.specs.Calls.{Is_announced, Has_record, Has_seen, Made}
 use Rattle.call_lines.specs.declared.line.LineEnd.{LineEnd}
 use Rattle.call_lines.specs.declared.line.Line.{Line}
 use Rattle.call_lines.specs.Phases.{Progress, progress_of}
 use Rattle.call_lines.specs.Progress.{after_announcing, after_viewing, after_publishing, after_seeing, with_last, with_seen}
-use Rattle.report_laws.proofs.Stepping.{viewing_is_a_phase, seeing_is_a_phase}
+use Rattle.report_laws.proofs.Stepping.{viewing_is_a_phase}
 use Rattle.row_table.specs.declared.caller.Caller.{Caller}
 use Rattle.row_table.specs.declared.rows.Rows.{Rows}
 use Rattle.row_table.specs.Callers.{local_with, IsStill}
@@ -23,7 +23,6 @@ use Rattle.enforcer.specs.declared.published_call.Published.{Published}
 use Rattle.enforcer.specs.States.{caller_published, reply_published, view_published}
 use Rattle.call_phases.specs.declared.stand.Stand.{Stand}
 use Rattle.call_phases.specs.declared.stand.Stand.TheVariants as at
-use Rattle.call_phases.specs.Stands.{caller_at, local_at_stand, under_way}
 use Rattle.call_phases.specs.Course.{HasCome}
 use Rattle.call_phases.proofs.Phases.{the_last_call_goes_on, announcing_is_a_phase, asking_is_a_phase, publishing_is_a_phase, progress_along}
 use Rattle.call_phases.proofs.Lines.{lines_stay}

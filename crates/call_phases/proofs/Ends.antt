@@ -1,20 +1,19 @@
 -- A client comes on by the end of a call; and a caller that is idle has a row left.
-use Rattle.std.proofs.Common.{◌≡◌, ◌∙◌, sym, subst, ap, refl, ℕ, ◌+◌, ◌*◌, ◌<◌, ◌≤◌, List, [], ◌∷◌, ◌++◌, true, false, length, slice_index, arith}
+use Rattle.std.proofs.Common.{◌≡◌, ◌∙◌, sym, subst, ap, refl, ℕ, ◌+◌, ◌*◌, List, [], ◌∷◌, ◌++◌, length, slice_index, arith}
 use Rattle.std.proofs.lemmas.List.{append-nil, length-map, length_push}
 use Rattle.std.proofs.lemmas.List.FromFn.{length-map-range_with_len}
 use Rattle.book_base.specs.declared.call.Record.{Record}
 use Rattle.world_core.specs.Shape.{Meaning}
 use Rattle.world_core.specs.Local.{Local}
-use Rattle.world_core.specs.Calls.{Has_record, Has_seen, Made, call_in, calls_in}
+use Rattle.world_core.specs.Calls.{Has_seen, Made, call_in, calls_in}
 use Rattle.call_lines.specs.declared.line.LineEnd.{LineEnd}
 use Rattle.call_lines.specs.declared.line.Line.{Line}
-use Rattle.call_lines.specs.Phases.{Progress, progress_of}
+use Rattle.call_lines.specs.Phases.{progress_of}
 use Rattle.report_laws.proofs.Stepping.{seeing_is_a_phase}
 use Rattle.report_laws.proofs.Telling.{as_many_calls}
 use Rattle.row_table.specs.declared.caller.Caller.{Caller}
 use Rattle.row_table.specs.declared.rows.Rows.{Rows}
 use Rattle.row_table.specs.Callers.{shape_of, who_of, local_with}
-use Rattle.drv_wrapper.specs.Growth.{Grows}
 use Rattle.drv_wrapper.proofs.Locals.{local_has_phase}
 use Rattle.enforcer.specs.declared.published_call.Published.{Published}
 use Rattle.enforcer.specs.States.{caller_published}
@@ -22,9 +21,9 @@ use Rattle.call_phases.specs.declared.stand.Stand.{Stand}
 use Rattle.call_phases.specs.declared.stand.Stand.TheVariants as at
 use Rattle.call_phases.specs.declared.ended.Ended.{Ended}
 use Rattle.call_phases.specs.declared.ended.Ended.TheVariants.{GoesOn, Halts, WantsMemory}
-use Rattle.call_phases.specs.Endings.{record_published, record_unjudged, local_ended, caller_ended, HasEnded, IsNoted, Ends}
+use Rattle.call_phases.specs.Endings.{record_published, record_unjudged, local_ended, HasEnded, IsNoted}
 use Rattle.call_phases.specs.Stands.{phases_at}
-use Rattle.call_phases.specs.Course.{HasCome, EndsInError}
+use Rattle.call_phases.specs.Course.{HasCome}
 use Rattle.call_phases.proofs.Phases.{progress_along}
 use Rattle.call_phases.proofs.Lines.{lines_stay, one_more_line, no_more_errors}
 use Rattle.call_phases.proofs.Coming.{Stays, seen_calls}

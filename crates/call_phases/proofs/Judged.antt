@@ -1,5 +1,5 @@
 -- What a judgement's outcome says of the end of its call.
-use Rattle.std.proofs.Common.{◌≡◌, refl, sym, subst, ap, ℕ, true, false, List, [], ◌∷◌}
+use Rattle.std.proofs.Common.{◌≡◌, refl, sym, subst, ap, ℕ, true, List, [], ◌∷◌}
 use Rattle.std.proofs.lemmas.List.{append-nil}
 use Rattle.book_base.specs.declared.call.Record.{Record}
 use Rattle.world_core.specs.Local.{Local, Phase, Announcing, Asking, Viewing, Publishing, Judging, Staged, IsIdle}

@@ -1,5 +1,5 @@
 -- The phases that leave a caller's marks but for one more at the end, and those that leave its calls.
-use Rattle.std.proofs.Common.{◌≡◌, ◌∙◌, sym, subst, ap, ℕ, ◌+◌, ◌*◌, ◌<◌, List, [], ◌∷◌, ◌++◌, refl, take, length, arith}
+use Rattle.std.proofs.Common.{◌≡◌, subst, ap, ℕ, List, [], ◌∷◌, ◌++◌, refl, arith}
 use Rattle.std.proofs.lemmas.Grind.{common_steps}
 use Rattle.world_core.specs.Calls.{Reached, Made}
 use Rattle.call_lines.specs.Progress.{with_last}

@@ -1,5 +1,5 @@
 -- An allotment of phases is spent as a client comes on.
-use Rattle.std.proofs.Common.{◌≡◌, ◌∙◌, ℕ, ◌+◌, ◌*◌, ◌≤◌, arith}
+use Rattle.std.proofs.Common.{◌≡◌, ℕ, ◌≤◌, arith}
 use Rattle.call_phases.specs.declared.stand.Stand.{Stand}
 use Rattle.call_phases.specs.declared.stand.Stand.TheVariants.{Idle, Announced, Answered, Viewed, Published, Halted, Unjudged}
 use Rattle.call_phases.specs.Stands.{phases_at, GoesOnFrom}

@@ -1,5 +1,5 @@
 -- What holds of a client that stands somewhere, at the stand that this is.
-use Rattle.std.proofs.Common.{◌≡◌, subst, ℕ, ◌<◌, List}
+use Rattle.std.proofs.Common.{◌≡◌, subst, ℕ, List}
 use Rattle.std.specs.Prelude.{Option}
 use Rattle.book_base.specs.declared.call.Record.{Record}
 use Rattle.world_core.specs.Shape.{Meaning}

@@ -1,13 +1,13 @@
 -- What is told of a client's calls, phase by phase.
 use Rattle.std.proofs.Common.{◌≡◌, ◌∙◌, sym, subst, ap, refl, ℕ, ◌+◌, ◌*◌, List, [], ◌∷◌, ◌++◌, length, slice_index, arith}
-use Rattle.std.specs.Prelude.{Option, Some, None, IfSome, option_map}
+use Rattle.std.specs.Prelude.{Option, Some, None, IfSome}
 use Rattle.book_base.specs.declared.call.Record.{Record}
 use Rattle.world_core.specs.Shape.{Meaning}
 use Rattle.world_core.specs.Local.{Local}
-use Rattle.world_core.specs.Calls.{Made, calls_in}
+use Rattle.world_core.specs.Calls.{calls_in}
 use Rattle.call_lines.specs.declared.line.LineEnd.{LineEnd}
 use Rattle.call_lines.specs.declared.line.Line.{Line}
-use Rattle.call_lines.specs.Phases.{Progress, IsProgressAfter, IsTold, progress_of, asked}
+use Rattle.call_lines.specs.Phases.{Progress, IsTold, progress_of, asked}
 use Rattle.call_lines.specs.Progress.{after_announcing, after_viewing, after_publishing, after_seeing}
 use Rattle.report_laws.proofs.Telling.{told_as_announced, told_as_asked, told_as_viewed, told_as_published, told_as_seen}
 use Rattle.row_table.specs.declared.caller.Caller.{Caller}
@@ -25,7 +25,7 @@ use Rattle.call_phases.specs.declared.stand.Stand.TheVariants as at
 use Rattle.call_phases.specs.declared.ended.Ended.{Ended}
 use Rattle.call_phases.specs.declared.ended.Ended.TheVariants.{GoesOn, Halts, WantsMemory}
 use Rattle.call_phases.specs.Endings.{local_ended, HasEnded, IsNoted}
-use Rattle.call_phases.specs.Stands.{phases_at, local_at_stand}
+use Rattle.call_phases.specs.Stands.{phases_at}
 use Rattle.call_phases.specs.Course.{HasCome, HasTold, HasAskedFor}
 use Rattle.call_phases.proofs.Phases.{progress_along}
 

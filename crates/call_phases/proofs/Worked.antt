@@ -1,8 +1,7 @@
 -- What a judging client leaves is what a worker leaves.
-use Rattle.std.proofs.Common.{◌≡◌, ◌∙◌, ap, ap₂, refl, ℕ, List, [], ◌∷◌, map}
+use Rattle.std.proofs.Common.{◌≡◌, ap, ap₂, refl, ℕ, List, [], ◌∷◌, map}
 use Rattle.std.specs.List.{All}
 use Rattle.std.proofs.lemmas.List.Elements.{All-nil, All-cons}
-use Rattle.book_base.specs.declared.call.Record.{Record}
 use Rattle.world_core.specs.Local.{Local}
 use Rattle.world_core.specs.Calls.{Reached, Is_announced, Has_record, Has_seen, Made, calls_in}
 use Rattle.call_lines.specs.declared.line.LineEnd.{LineEnd}
@@ -10,7 +9,7 @@ use Rattle.call_lines.specs.declared.line.LineEnd.TheVariants.{Pending, Unchecke
 use Rattle.call_lines.specs.declared.line.Line.{Line}
 use Rattle.call_lines.specs.Lines.{made_of, reached_of}
 use Rattle.call_lines.specs.Workers.{IsJudgedBy}
-use Rattle.call_phases.specs.Ends.{Sequential, SaysJudged, EndsAs, IsLineOf, AreLinesOfCalls}
+use Rattle.call_phases.specs.Ends.{Sequential, SaysJudged, EndsAs, AreLinesOfCalls}
 use Rattle.call_phases.specs.Working.{JudgingClientsHaveWorked}
 
 module _ (object : Sequential) (n : ℕ) (l : Local) where

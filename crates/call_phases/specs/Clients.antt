@@ -1,11 +1,11 @@
 -- Clients before, in and behind their work.
-use Rattle.std.specs.Prelude.{◌≡◌, ℕ, ◌+◌, ◌*◌, ◌<◌, ◌≤◌, List, [], Option, IfSome, length, vec_len, vec_capacity}
+use Rattle.std.specs.Prelude.{◌≡◌, ℕ, ◌+◌, ◌*◌, ◌≤◌, List, length, vec_capacity}
 use Rattle.book_base.specs.declared.call.Record.{Record}
 use Rattle.world_core.specs.Shape.{Meaning}
 use Rattle.world_core.specs.Local.{Local}
 use Rattle.call_lines.specs.declared.line.LineEnd.{LineEnd}
 use Rattle.row_table.specs.declared.rows.Rows.{Rows}
-use Rattle.call_phases.specs.Stands.{phases_at, GoesOnFrom}
+use Rattle.call_phases.specs.Stands.{phases_at}
 use Rattle.call_phases.specs.Course.{HasCome}
 use Rattle.call_phases.specs.declared.stand.Stand.{Stand}
 use Rattle.call_phases.specs.declared.stand.Stand.TheVariants.{Halted, Unjudged}

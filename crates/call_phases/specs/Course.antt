@@ -1,5 +1,5 @@
 -- How far a client has come with its operations: its caller, its lines, and the pass by which it asks.
-use Rattle.std.specs.Prelude.{◌≡◌, ℕ, ◌+◌, true, false, List, [], ◌∷◌, ◌++◌, Option, IfSome, length, slice_index}
+use Rattle.std.specs.Prelude.{◌≡◌, ℕ, true, false, List, [], ◌∷◌, ◌++◌, Option, IfSome, length, slice_index}
 use Rattle.book_base.specs.declared.call.Record.{Record}
 use Rattle.world_core.specs.Shape.{Meaning}
 use Rattle.world_core.specs.Local.{Local}

@@ -1,6 +1,5 @@
 -- Where a caller stands between two phases.
-use Rattle.std.specs.Prelude.{◌≡◌, ℕ, ◌+◌, ◌*◌, true, false, List, [], ◌∷◌, length}
-use Rattle.book_base.specs.declared.call.Record.{Record}
+use Rattle.std.specs.Prelude.{◌≡◌, ℕ, ◌+◌, ◌*◌, false, List, [], ◌∷◌, length}
 use Rattle.world_core.specs.Shape.{Meaning}
 use Rattle.world_core.specs.Local.{Local}
 use Rattle.world_core.specs.Calls.{Is_announced, Has_record, Has_seen, Made}
@@ -8,7 +7,7 @@ use Rattle.row_table.specs.declared.caller.Caller.{Caller}
 use Rattle.row_table.specs.declared.rows.Rows.{Rows}
 use Rattle.row_table.specs.Callers.{local_with, stance_of}
 use Rattle.drv_wrapper.specs.Asking.{MayGet}
-use Rattle.drv_wrapper.specs.States.{caller_announced, op_announced, caller_answered, op_answered, reply_answered, caller_viewed, op_viewed, reply_viewed, view_viewed}
+use Rattle.drv_wrapper.specs.States.{caller_announced, op_announced, caller_answered, op_answered, reply_answered, caller_viewed, reply_viewed, view_viewed}
 use Rattle.enforcer.specs.States.{caller_published, reply_published, view_published}
 use Rattle.call_phases.specs.Endings.{IsFree, record_unjudged}
 use Rattle.call_phases.specs.declared.stand.Stand.{Stand}

@@ -1,5 +1,5 @@
 -- What the ends of lines say stays so while their caller goes on.
-use Rattle.std.specs.Prelude.{◌≡◌, ℕ, List}
+use Rattle.std.specs.Prelude.{ℕ, List}
 use Rattle.book_base.specs.declared.call.Record.{Record}
 use Rattle.world_core.specs.Local.{Local}
 use Rattle.call_lines.specs.declared.line.LineEnd.{LineEnd}

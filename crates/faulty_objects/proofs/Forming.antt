@@ -1,12 +1,13 @@
 -- Calls one after the other, and the forms of their replies.
-use Rattle.std.proofs.Common.{◌≡◌, ℕ, ◌+◌, ◌%◌, ◌^◌, List, [], ◌∷◌, ◌++◌, refl, sym, ap, ◌∙◌, subst}
+use Rattle.std.proofs.Common.{◌≡◌, ◌≢◌, ℕ, suc, ◌+◌, ◌-◌, ◌%◌, ◌^◌, ◌<◌, ◌≤◌, ◌⊎◌, inl, inr, eqb, true, false, min, List, [], ◌∷◌, ◌++◌, refl, sym, ap, ◌∙◌, subst, arith}
 use Rattle.std.specs.List.{All}
 use Rattle.std.proofs.lemmas.List.{append_assoc}
 use Rattle.std.proofs.lemmas.List.Elements.{All-nil, All-cons}
-use Rattle.seq_objects.specs.Replies.{reply_value}
+use Rattle.std.proofs.lemmas.Bool.Decides.{eqb_tells}
+use Rattle.seq_objects.specs.Replies.{reply_done, reply_none, reply_value}
 use Rattle.lawful_objects.specs.Forms.{increment, IsTallyReply}
-use Rattle.faulty_objects.specs.Deeds.{Deed, Stored, Loaded, AreCalls}
-use Rattle.faulty_objects.specs.Forms.{IsSplit, SplitsAreFormed}
+use Rattle.faulty_objects.specs.Deeds.{Deed, Added, Stored, Loaded, Swapped, AreCalls}
+use Rattle.faulty_objects.specs.Forms.{IsSplit, SplitsAreFormed, dequeue, item_index, empty_places, IsEnqueued, IsDequeued, IsOnePass, IsQueueReply, OnePassesAreFormed}
 
 -- one more call at the end
 pub AreCalls-push : (call : ℕ → ℕ → List Deed → List Deed → Type 0) (pairs : List (ℕ × ℕ)) (op reply : ℕ) (before between after : List Deed)
@@ -47,3 +48,87 @@ split_form op reply before after call =
 
 pub splits_are_formed : SplitsAreFormed
 splits_are_formed = formed IsSplit IsTallyReply split_form
+
+-- the form of a one-pass queue's reply
+took : (places reply : ℕ) (before after : List Deed) (call : IsDequeued places reply before after) → ((eqb call.found 0 ≡ true) × (call.found ≡ 0)) ⊎ ((eqb call.found 0 ≡ false) × (call.found ≢ 0))
+    → (reply ≡ reply_none) ⊎ ((value : ℕ) × (reply ≡ reply_value value))
+took places reply before after call (inl h) = inl (call.all_empty h.1).2
+took places reply before after call (inr h) = inr (call.found - 1, (call.item h.1).2)
+
+pub one_pass_form : (places op reply : ℕ) (before after : List Deed) → IsOnePass places op reply before after → IsQueueReply op reply
+one_pass_form places op reply before after call =
+    record {
+      puts = λ value low is. (call.puts value low is).1;
+      takes = λ is. let t = call.takes is in took places reply before after t (eqb_tells t.found 0);
+      other = λ no_put no_take. (call.other no_put no_take).1;
+    }
+
+pub one_passes_are_formed : OnePassesAreFormed
+one_passes_are_formed places = formed (IsOnePass places) IsQueueReply (one_pass_form places)
+
+-- an enqueue of what its word asks for
+pub enqueued_is_made : (places op value : ℕ) (before after : List Deed) → 2 ^ 32 ≤ op → op ≢ dequeue → op ≤ 2 ^ 33 → value ≡ op - 2 ^ 32 → IsEnqueued places value before after → IsOnePass places op reply_done before after
+enqueued_is_made places op value before after from no_take to is call =
+    record {
+      puts = λ v low same. let value_is : value ≡ v = omega arith in (subst (λ (k : ℕ). IsEnqueued places k before after) value_is call, refl);
+      takes = λ same. absurd (no_take same);
+      other = λ no_put no_take'. absurd (no_put (op - 2 ^ 32) (omega arith) (omega arith));
+    }
+
+pub dequeued_is_made : (places op reply : ℕ) (before after : List Deed) → op ≡ dequeue → IsDequeued places reply before after → IsOnePass places op reply before after
+dequeued_is_made places op reply before after is call =
+    record {
+      puts = λ v low same. absurd (omega arith);
+      takes = λ _. call;
+      other = λ no_put no_take. absurd (no_take is);
+    }
+
+-- a place that was found empty, and one that had an item
+pub place_passed : (count place : ℕ) (before begun between after : List Deed) (counter found : ℕ) → begun ≡ before ++ Loaded 0 counter ∷ [] → between ≡ begun ++ empty_places count → place ≡ item_index count
+    → after ≡ between ++ Swapped place 0 found ∷ [] → found ≡ 0 → after ≡ begun ++ empty_places (count + 1)
+place_passed count place before begun between after counter found loaded so_far at swapped none =
+    let up : suc count ≡ count + 1 = omega arith in
+    swapped
+    ∙ (λ i. so_far i ++ Swapped (at i) 0 (none i) ∷ [])
+    ∙ append_assoc begun (empty_places count) (Swapped (item_index count) 0 0 ∷ [])
+    ∙ ap (λ (k : ℕ). begun ++ empty_places k) up
+
+pub all_passed : (places counter count : ℕ) (before begun after : List Deed) → begun ≡ before ++ Loaded 0 counter ∷ [] → after ≡ begun ++ empty_places count → count ≡ min counter places → IsDequeued places reply_none before after
+all_passed places counter count before begun after loaded so_far all =
+    record {
+      counter = counter;
+      count = count;
+      found = 0;
+      within = omega arith;
+      all_empty = λ _. (all, so_far ∙ ap (λ (d : List Deed). d ++ empty_places count) loaded ∙ append_assoc before (Loaded 0 counter ∷ []) (empty_places count), refl);
+      item = λ some. absurd (some refl);
+    }
+
+pub item_found : (places counter count place found reply : ℕ) (before begun between after : List Deed) → begun ≡ before ++ Loaded 0 counter ∷ [] → between ≡ begun ++ empty_places count → place ≡ item_index count
+    → after ≡ between ++ Swapped place 0 found ∷ [] → found ≢ 0 → count < min counter places → reply ≡ reply_value (found - 1) → IsDequeued places reply before after
+item_found places counter count place found reply before begun between after loaded so_far at swapped some low replied =
+    record {
+      counter = counter;
+      count = count;
+      found = found;
+      within = omega arith;
+      all_empty = λ none. absurd (some none);
+      item = λ _. (
+        low,
+        swapped
+            ∙ (λ i. (so_far ∙ ap (λ (d : List Deed). d ++ empty_places count) loaded) i ++ Swapped (at i) 0 found ∷ [])
+            ∙ append_assoc (before ++ Loaded 0 counter ∷ []) (empty_places count) (Swapped (item_index count) 0 found ∷ [])
+            ∙ append_assoc before (Loaded 0 counter ∷ []) (empty_places count ++ Swapped (item_index count) 0 found ∷ []),
+        replied,
+      );
+    }
+
+-- an addition to the counter, and then a store, or none where there is no place
+pub enqueued : (places place index word value : ℕ) (before between after : List Deed) → place < places → between ≡ before ++ Added 0 1 place ∷ [] → index ≡ item_index place → word ≡ value + 1 → after ≡ between ++ Stored index word ∷ []
+    → IsEnqueued places value before after
+enqueued places place index word value before between after low added at is stored =
+    record {
+      place = place;
+      stored = λ _. stored ∙ (λ i. added i ++ Stored (at i) (is i) ∷ []) ∙ append_assoc before (Added 0 1 place ∷ []) (Stored (item_index place) (value + 1) ∷ []);
+      beyond = λ past. absurd (omega arith);
+    }

@@ -1,9 +1,9 @@
 -- What a call of each object does, and which form its reply has.
-use Rattle.std.specs.Prelude.{◌≡◌, ◌≢◌, ℕ, ◌+◌, ◌%◌, ◌^◌, List, [], ◌∷◌, ◌++◌, All}
+use Rattle.std.specs.Prelude.{◌≡◌, ◌≢◌, ℕ, zero, suc, ◌+◌, ◌-◌, ◌%◌, ◌^◌, ◌<◌, ◌≤◌, ◌⊎◌, min, List, [], ◌∷◌, ◌++◌, All}
 use Rattle.book_base.specs.declared.TheConstants.{BAD}
-use Rattle.seq_objects.specs.Replies.{reply_value}
-use Rattle.lawful_objects.specs.Forms.{increment, IsTallyReply}
-use Rattle.faulty_objects.specs.Deeds.{Deed, Stored, Loaded, AreCalls}
+use Rattle.seq_objects.specs.Replies.{reply_done, reply_none, reply_value}
+use Rattle.lawful_objects.specs.Forms.{operation, increment, IsTallyReply}
+use Rattle.faulty_objects.specs.Deeds.{Deed, Added, Stored, Loaded, Swapped, AreCalls}
 
 -- A call of a split tally: an increment loads the word, and then stores one more than it found, in two steps; its reply is the word
 -- found. All else makes no step, and the reply is bad.
@@ -14,3 +14,55 @@ pub record IsSplit (op reply : ℕ) (before after : List Deed) : Type 0 where
 -- The pairs of a split tally's calls have the form of a tally's: a value exactly to the increment, and else bad.
 abbrev pub SplitsAreFormed : Type 0
 SplitsAreFormed = (pairs : List (ℕ × ℕ)) (before after : List Deed) → AreCalls IsSplit pairs before after → All (λ pair. IsTallyReply pair.0 pair.1) pairs
+
+-- The queue's enqueue of a value, and its dequeue.
+abbrev pub enqueue : ℕ → ℕ
+enqueue value = operation 1 value
+
+abbrev pub dequeue : ℕ
+dequeue = operation 2 0
+
+-- The operation is no enqueue.
+abbrev pub IsNoEnqueue : ℕ → Type 0
+IsNoEnqueue op = (value : ℕ) → value < 2 ^ 32 → op ≢ enqueue value
+
+-- The word of an item place stands behind the counter.
+abbrev pub item_index : ℕ → ℕ
+item_index place = 1 + place
+
+-- The first so many places are gone over once, from the first, and each is found empty.
+abbrev pub empty_places : ℕ → List Deed
+empty_places zero = []
+empty_places (suc count) = empty_places count ++ Swapped (item_index count) 0 0 ∷ []
+
+-- An enqueue takes a place by one addition to the counter, and stores one more than its value there, if there are so many places.
+pub record IsEnqueued (places value : ℕ) (before after : List Deed) : Type 0 where
+  pub place : ℕ
+  pub stored : place < places → after ≡ before ++ Added 0 1 place ∷ Stored (item_index place) (value + 1) ∷ []
+  pub beyond : places ≤ place → after ≡ before ++ Added 0 1 place ∷ []
+
+-- A dequeue loads the counter once, and goes over the places below it: all are empty, and there is none; or the first one that isn't
+-- empty gives one less than its word.
+pub record IsDequeued (places reply : ℕ) (before after : List Deed) : Type 0 where
+  pub counter : ℕ
+  pub count : ℕ
+  pub found : ℕ
+  pub within : count ≤ min counter places
+  pub all_empty : found ≡ 0 → (count ≡ min counter places) × (after ≡ before ++ Loaded 0 counter ∷ empty_places count) × (reply ≡ reply_none)
+  pub item : found ≢ 0 → (count < min counter places) × (after ≡ before ++ Loaded 0 counter ∷ (empty_places count ++ Swapped (item_index count) 0 found ∷ [])) × (reply ≡ reply_value (found - 1))
+
+-- A call of a one-pass queue with so many places.
+pub record IsOnePass (places op reply : ℕ) (before after : List Deed) : Type 0 where
+  pub puts : (value : ℕ) → value < 2 ^ 32 → op ≡ enqueue value → IsEnqueued places value before after × (reply ≡ reply_done)
+  pub takes : op ≡ dequeue → IsDequeued places reply before after
+  pub other : IsNoEnqueue op → op ≢ dequeue → (after ≡ before) × (reply ≡ BAD)
+
+-- The form of its reply: done exactly to an enqueue, a value or none exactly to the dequeue, and else bad.
+pub record IsQueueReply (op reply : ℕ) : Type 0 where
+  pub puts : (value : ℕ) → value < 2 ^ 32 → op ≡ enqueue value → reply ≡ reply_done
+  pub takes : op ≡ dequeue → (reply ≡ reply_none) ⊎ ((value : ℕ) × (reply ≡ reply_value value))
+  pub other : IsNoEnqueue op → op ≢ dequeue → reply ≡ BAD
+
+-- The pairs of its calls have this form.
+abbrev pub OnePassesAreFormed : Type 0
+OnePassesAreFormed = (places : ℕ) (pairs : List (ℕ × ℕ)) (before after : List Deed) → AreCalls (IsOnePass places) pairs before after → All (λ pair. IsQueueReply pair.0 pair.1) pairs

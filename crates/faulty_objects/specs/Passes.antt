@@ -1,11 +1,12 @@
 -- Whose a pass is, and what it tells.
-use Rattle.std.specs.Prelude.{◌≡◌, ℕ, ◌<◌, ◌≤◌, List, [], length, vec_capacity}
+use Rattle.std.specs.Prelude.{◌≡◌, ℕ, ◌*◌, ◌<◌, ◌≤◌, List, [], length, vec_capacity}
 use Rattle.atomic_table.specs.declared.shared.Seat.{Seat}
 use Rattle.faulty_objects.specs.declared.shared_words.SharedWords.{SharedWords}
 use Rattle.faulty_objects.specs.declared.words_pass.WordsPass.{WordsPass}
 use Rattle.faulty_objects.specs.declared.split_tally.SplitTally.{SplitTally}
+use Rattle.faulty_objects.specs.declared.one_pass.OnePass.{OnePass}
 use Rattle.faulty_objects.specs.Deeds.{Deed, AreCalls}
-use Rattle.faulty_objects.specs.Forms.{IsSplit}
+use Rattle.faulty_objects.specs.Forms.{IsSplit, IsOnePass}
 
 -- The steps that were made with a seat.
 abbrev pub deeds_of : Seat (Unit {0}) (List Deed) → List Deed
@@ -65,3 +66,7 @@ pub record IsFreshPass (calls : ℕ) (p : WordsPass) : Type 0 where
 -- The pass is one of this split tally.
 abbrev pub IsSplitPass : SplitTally → WordsPass → Type 0
 IsSplitPass t p = IsPassOf (λ _. IsSplit) t.words p
+
+-- The pass is one of this one-pass queue, which has a place for each call.
+abbrev pub IsQueuePass : OnePass → WordsPass → Type 0
+IsQueuePass q p = IsPassOf (λ _. IsOnePass (q.words.callers * q.words.cap)) q.words p

@@ -1,4 +1,4 @@
-use Rattle.std.proofs.Common.{◌≡◌, ◌<◌, ◌∙◌, arith}
+use Rattle.std.proofs.Common.{◌∙◌, arith}
 use Rattle.world_core.specs.Local.{fresh}
 use Rattle.whole_calls.proofs.tests.open_rows.Goals as goal
 

@@ -1,14 +1,14 @@
-use Rattle.std.proofs.Common.{◌≡◌, ◌∙◌, sym, subst, ap, ℕ, ◌+◌, ◌*◌, ◌<◌, List, length, slice_index, arith}
+use Rattle.std.proofs.Common.{◌≡◌, sym, subst, ap, ℕ, ◌+◌, ◌*◌, ◌<◌, List, length, arith}
 use Rattle.call_phases.specs.Ends.{Sequential}
 use Rattle.call_phases.specs.Endings.{HasEnded, IsNoted}
 use Rattle.call_phases.specs.declared.stand.Stand.{Stand}
 use Rattle.call_phases.specs.declared.stand.Stand.TheVariants as at
-use Rattle.call_phases.specs.Stands.{phases_at, GoesOnFrom}
+use Rattle.call_phases.specs.Stands.{phases_at}
 use Rattle.call_phases.specs.Course.{HasCome}
 use Rattle.call_phases.proofs.Standing.{come_at, asked_at}
 use Rattle.call_phases.proofs.Coming.{announced_come, answered_come, viewed_come, published_come}
 use Rattle.call_phases.proofs.Ends.{idle_announced, ended_come, phases_noted}
-use Rattle.call_phases.proofs.Told.{announced_asked, answered_asked, viewed_asked, published_asked, ended_asked}
+use Rattle.call_phases.proofs.Told.{announced_asked, answered_asked, viewed_asked, ended_asked}
 use Rattle.call_phases.proofs.client.Client.advance.Goals as goal
 
 pub announce-requires-clause-left : goal.announce-requires-clause-left

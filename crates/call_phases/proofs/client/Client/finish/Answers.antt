@@ -1,8 +1,7 @@
-use Rattle.std.proofs.Common.{◌≡◌, ◌∙◌, sym, subst, ap, ℕ, Bool, ◌+◌, ◌<◌, ◌≤◌, List, [], ◌∷◌, ◌++◌, Some, None, length, slice_index, vec_len, vec_capacity, if◌then◌else◌, arith}
+use Rattle.std.proofs.Common.{◌≡◌, ◌∙◌, sym, subst, ap, ℕ, Bool, ◌<◌, List, [], ◌∷◌, ◌++◌, Some, None, length, slice_index, if◌then◌else◌, arith}
 use Rattle.std.specs.Result.{is_ok}
 use Rattle.world_core.specs.Local.{Local}
 use Rattle.call_lines.specs.declared.line.Line.{Line}
-use Rattle.call_lines.specs.declared.line.LineEnd.{LineEnd}
 use Rattle.row_table.specs.Callers.{local_with}
 use Rattle.call_phases.specs.declared.sheet.Sheet.{Sheet}
 use Rattle.call_phases.specs.Ends.{HasLeft}

@@ -1,4 +1,4 @@
-use Rattle.std.proofs.Common.{◌≡◌, ◌+◌, ◌≤◌}
+use Rattle.std.proofs.Common.{◌≡◌, ◌+◌}
 use Rattle.call_phases.specs.Course.{HasAskedFor}
 use Rattle.call_phases.specs.Clients.{phases_by, HasSpent, IsUnderWay, HasRoom, IsSameClient}
 use Rattle.call_phases.proofs.client.Client.run.Given as goal

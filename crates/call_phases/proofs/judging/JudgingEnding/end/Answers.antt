@@ -1,4 +1,4 @@
-use Rattle.std.proofs.Common.{◌≡◌, ◌∙◌, sym, subst, ap, true}
+use Rattle.std.proofs.Common.{◌≡◌, ◌∙◌, sym, subst, ap}
 use Rattle.world_core.specs.Local.{Local}
 use Rattle.world_core.specs.Event.{is_unstaged}
 use Rattle.row_table.specs.declared.caller.Caller.{Caller}

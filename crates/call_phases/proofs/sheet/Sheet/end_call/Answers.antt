@@ -1,4 +1,3 @@
-use Rattle.std.proofs.Common.{◌≡◌, ◌∙◌, sym, subst, ap}
 use Rattle.call_phases.proofs.Seen.{has_ended}
 use Rattle.call_phases.proofs.sheet.Sheet.end_call.Goals as goal
 
