@@ -6,6 +6,8 @@ pub mod laws;
 mod one_pass;
 mod shared_words;
 mod split_tally;
+#[cfg(test)]
+mod tests;
 mod words_pass;
 
 pub use behaviour::Behaviour;

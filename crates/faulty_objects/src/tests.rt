@@ -1,0 +1,73 @@
+ghost use Rattle.std.specs.Prelude.{All};
+ghost use Rattle.faulty_objects.specs.Passes.{IsSplitPass, IsQueuePass};
+
+use crate::{Behaviour, OnePass, SplitTally, WordsPass};
+use book_base::OpWord;
+use drv_wrapper::ObjectPass;
+use std::test::Fail;
+
+const INCREMENT: OpWord = 4294967296;
+
+const ENQUEUE_1: OpWord = 4294967297;
+
+const ENQUEUE_2: OpWord = 4294967298;
+
+const DEQUEUE: OpWord = 8589934592;
+
+// One call of a torn tally, by a caller that has one left.
+fn count(tally: &SplitTally, passes: &mut Vec<WordsPass>, i: usize, op: OpWord) -> Option<u64>
+    requires { All (IsSplitPass tally.now) passes.old.items }
+    ensures { All (IsSplitPass tally.now) passes.new.items }
+{
+    if i >= passes.len() || passes[i].made() >= passes[i].cap() {
+        return None;
+    }
+    Some(tally.make(&mut passes[i], op))
+}
+
+// One call of a one-pass queue, by a caller that has one left.
+fn ask(queue: &OnePass, passes: &mut Vec<WordsPass>, i: usize, op: OpWord) -> Option<u64>
+    requires { All (IsQueuePass queue.now) passes.old.items }
+    ensures { All (IsQueuePass queue.now) passes.new.items }
+{
+    if i >= passes.len() || passes[i].made() >= passes[i].cap() {
+        return None;
+    }
+    Some(queue.make(&mut passes[i], op))
+}
+
+#[test]
+fn a_torn_tally_counts_for_one_caller(rt: HostRuntime) -> Result<(), Fail> {
+    let (tally, mut passes) = SplitTally::open(rt.alloc(), 1, 3)?;
+    let replies = (
+        count(&tally, &mut passes, 0, INCREMENT),
+        count(&tally, &mut passes, 0, INCREMENT),
+        count(&tally, &mut passes, 0, DEQUEUE),
+    );
+    assert_eq!(rt;
+        replies,
+        (Some(8589934592), Some(8589934593), Some(17179869184))
+    );
+    Ok(())
+}
+
+#[test]
+fn a_one_pass_queue_serves_one_caller(rt: HostRuntime) -> Result<(), Fail> {
+    let (queue, mut passes) = OnePass::open(rt.alloc(), 1, 5)?;
+    let first = ask(&queue, &mut passes, 0, ENQUEUE_1);
+    let second = ask(&queue, &mut passes, 0, ENQUEUE_2);
+    assert_eq!(rt; (first, second), (Some(0), Some(0)));
+    let third = ask(&queue, &mut passes, 0, DEQUEUE);
+    let fourth = ask(&queue, &mut passes, 0, DEQUEUE);
+    assert_eq!(rt; (third, fourth), (Some(8589934593), Some(8589934594)));
+    let fifth = ask(&queue, &mut passes, 0, DEQUEUE);
+    assert_eq!(rt; fifth, Some(4294967296));
+    Ok(())
+}
+
+#[test]
+fn behaviours_have_names(rt: HostRuntime) {
+    assert!(rt; matches!(Behaviour::from_name(b"onepass"), Some(Behaviour::Onepass)));
+    assert!(rt; matches!(Behaviour::from_name(b"lawful"), Some(Behaviour::Lawful)));
+    assert!(rt; Behaviour::from_name(b"best").is_none());
+}
