@@ -81,7 +81,7 @@ entry_may_refuse book call (Some r) fault is due (inr first) = may_refuse book c
 
 -- ---- one view
 
-pairs_above : (b b' : ℕ) (cut : List ℕ) (c : ℕ) (rest : List (List ℕ)) → b < b' → b' + length cut ≤ 2 ^ 64 → pair_words b' cut ≡ pair_word b c ∷ rest → ⊥
+pub pairs_above : (b b' : ℕ) (cut : List ℕ) (c : ℕ) (rest : List (List ℕ)) → b < b' → b' + length cut ≤ 2 ^ 64 → pair_words b' cut ≡ pair_word b c ∷ rest → ⊥
 pairs_above b b' [] c rest lt few e = absurd cc
 pairs_above b b' (zero ∷ cut) c rest lt few e = pairs_above b (b' + 1) cut c rest (omega arith) (omega arith) e
 pairs_above b b' (suc d ∷ cut) c rest lt few e =
@@ -90,7 +90,7 @@ pairs_above b b' (suc d ∷ cut) c rest lt few e =
     let same : b' ≡ b = same_number b' b (omega arith) (omega arith) parts.0 in
     omega arith
 
-pairs_once : (b : ℕ) (xs ys : List ℕ) → length xs ≡ length ys → b + length xs ≤ 2 ^ 64 → AreNumbers xs → AreNumbers ys → pair_words b xs ≡ pair_words b ys → xs ≡ ys
+pub pairs_once : (b : ℕ) (xs ys : List ℕ) → length xs ≡ length ys → b + length xs ≤ 2 ^ 64 → AreNumbers xs → AreNumbers ys → pair_words b xs ≡ pair_words b ys → xs ≡ ys
 pairs_once b [] [] same few h k e = refl
 pairs_once b [] (y ∷ ys) same few h k e = absurd (omega arith)
 pairs_once b (x ∷ xs) [] same few h k e = absurd (omega arith)
@@ -109,6 +109,25 @@ pub cut_once : (version : Version) (n : ℕ) (xs ys : List ℕ) → n < 2 ^ 64 �
 cut_once First n xs ys small x y h k e = same_numbers xs ys h k e
 cut_once Second n xs ys small x y h k e = pairs_once 0 xs ys (omega arith) (omega arith) h k e
 
+-- a test of views has its turn behind the tests of the line by itself
+pub test_turn : (fault : BookFault) (name : What) → view_test fault ≡ Some name → turn_of name ≡ refusal.turn_of fault + 10
+test_turn tests.TooManyCalls name e = absurd cc
+test_turn tests.NoSuchCall name e = absurd cc
+test_turn (tests.ViewOutside j) name e = let same : what.ViewOutside ≡ name = cc in sym (ap turn_of same)
+test_turn (tests.ViewLacksOwn count) name e = let same : what.ViewLacksOwn ≡ name = cc in sym (ap turn_of same)
+test_turn (tests.ViewHasLater count) name e = let same : what.ViewHasLater ≡ name = cc in sym (ap turn_of same)
+test_turn (tests.ViewsCross other) name e = let same : what.ViewsCross ≡ name = cc in sym (ap turn_of same)
+test_turn tests.NoMemory name e = absurd cc
+
+pub test_late : (fault : BookFault) (name : What) → view_test fault ≡ Some name → 10 < turn_of name
+test_late tests.TooManyCalls name e = absurd cc
+test_late tests.NoSuchCall name e = absurd cc
+test_late (tests.ViewOutside j) name e = let turn = test_turn (tests.ViewOutside j) name e in omega arith
+test_late (tests.ViewLacksOwn count) name e = let turn = test_turn (tests.ViewLacksOwn count) name e in omega arith
+test_late (tests.ViewHasLater count) name e = let turn = test_turn (tests.ViewHasLater count) name e in omega arith
+test_late (tests.ViewsCross other) name e = let turn = test_turn (tests.ViewsCross other) name e in omega arith
+test_late tests.NoMemory name e = absurd cc
+
 module _ (version : Version) (operations : Operations) (book : List Page) (call : Call) (words : List (List ℕ)) (one : OneOperation operations) (small : length book < 2 ^ 64) where
   pub one_view : (v w : List ℕ) → HasView version operations (length book) call words v → HasView version operations (length book) call words w → v ≡ w
   one_view v w h k =
@@ -116,24 +135,6 @@ module _ (version : Version) (operations : Operations) (book : List Page) (call 
       cut_once version (length book) v w small h.wide k.wide h.numbers k.numbers (same_first _ _ _ _ behind).1
 
   -- ---- first tests
-
-  test_turn : (fault : BookFault) (name : What) → view_test fault ≡ Some name → turn_of name ≡ refusal.turn_of fault + 10
-  test_turn tests.TooManyCalls name e = absurd cc
-  test_turn tests.NoSuchCall name e = absurd cc
-  test_turn (tests.ViewOutside j) name e = let same : what.ViewOutside ≡ name = cc in sym (ap turn_of same)
-  test_turn (tests.ViewLacksOwn count) name e = let same : what.ViewLacksOwn ≡ name = cc in sym (ap turn_of same)
-  test_turn (tests.ViewHasLater count) name e = let same : what.ViewHasLater ≡ name = cc in sym (ap turn_of same)
-  test_turn (tests.ViewsCross other) name e = let same : what.ViewsCross ≡ name = cc in sym (ap turn_of same)
-  test_turn tests.NoMemory name e = absurd cc
-
-  test_late : (fault : BookFault) (name : What) → view_test fault ≡ Some name → 10 < turn_of name
-  test_late tests.TooManyCalls name e = absurd cc
-  test_late tests.NoSuchCall name e = absurd cc
-  test_late (tests.ViewOutside j) name e = let turn = test_turn (tests.ViewOutside j) name e in omega arith
-  test_late (tests.ViewLacksOwn count) name e = let turn = test_turn (tests.ViewLacksOwn count) name e in omega arith
-  test_late (tests.ViewHasLater count) name e = let turn = test_turn (tests.ViewHasLater count) name e in omega arith
-  test_late (tests.ViewsCross other) name e = let turn = test_turn (tests.ViewsCross other) name e in omega arith
-  test_late tests.NoMemory name e = absurd cc
 
   abbrev Entry : What → Type 0
   Entry name = EntryFails version operations (length book) (is_gap book call) call words name

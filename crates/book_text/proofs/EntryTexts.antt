@@ -63,7 +63,7 @@ module _ (version : Version) (operations : Operations) (n : ℕ) (gap : Bool) (c
 
 -- ---- a written view is a view
 
-pairs_not_bad : (n : ℕ) (cut : List ℕ) (b least : ℕ) → least ≤ b → b + length cut ≤ n → n ≤ 2 ^ 64 → AreNumbers cut → HasBadPair n least (pair_words b cut) → ⊥
+pub pairs_not_bad : (n : ℕ) (cut : List ℕ) (b least : ℕ) → least ≤ b → b + length cut ≤ n → n ≤ 2 ^ 64 → AreNumbers cut → HasBadPair n least (pair_words b cut) → ⊥
 pairs_not_bad n [] b least le few small numbers h = h
 pairs_not_bad n (zero ∷ cut) b least le few small numbers h = pairs_not_bad n cut (b + 1) least (omega arith) (omega arith) small numbers.1 h
 pairs_not_bad n (suc c ∷ cut) b least le few small numbers (colon, inl none) = none b (suc c) (record { caller = omega arith; some = omega arith; small = numbers.0; text = refl })
@@ -75,7 +75,7 @@ pairs_not_bad n (suc c ∷ cut) b least le few small numbers (colon, inr low) =
       | inr bad ↦ pairs_not_bad n cut (b + 1) (b + 1) (omega arith) (omega arith) small numbers.1 (subst (λ (j : ℕ). HasBadPair n (j + 1) (pair_words (b + 1) cut)) (sym same) bad)
     ]
 
-pairs_not_words : (b : ℕ) (cut : List ℕ) → b + length cut ≤ 2 ^ 64 → HasWordBehindPairs (pair_words b cut) → ⊥
+pub pairs_not_words : (b : ℕ) (cut : List ℕ) → b + length cut ≤ 2 ^ 64 → HasWordBehindPairs (pair_words b cut) → ⊥
 pairs_not_words b [] few h = h
 pairs_not_words b (zero ∷ cut) few h = pairs_not_words (b + 1) cut (omega arith) h
 pairs_not_words b (suc c ∷ cut) few (inl none) = let colon = ap is_some (pair_parts b (suc c) (omega arith)) in absurd (cc (colon, none))

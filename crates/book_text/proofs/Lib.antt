@@ -4,7 +4,9 @@ pub mod CallTexts
 pub mod Lifts
 pub mod SharpBooks
 pub mod Readings
+pub mod Endings
 pub mod Pages
 pub mod WrittenTexts
 pub mod ReadTexts
 pub mod FaultTexts
+pub mod Leavings

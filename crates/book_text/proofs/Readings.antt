@@ -1,17 +1,32 @@
 -- Bytes are read as one book, or have one first fault.
-use Rattle.std.proofs.Common.{◌≡◌, ℕ, ◌⊎◌, List, Result, Ok, Err, refl, ap, inl, inr}
+use Rattle.std.proofs.Common.{◌≡◌, ℕ, ◌⊎◌, List, [], Result, Ok, Err, refl, ap, inl, inr}
 use Rattle.std.specs.Prelude.{IfOk, IfErr, MatchResult}
 use Rattle.book_base.specs.declared.fault.TextFault.{TextFault}
+use Rattle.book_base.specs.declared.fault.What.TheVariants.{End}
 use Rattle.book_base.specs.declared.fault.ReadFault.{ReadFault}
 use Rattle.book_base.specs.declared.fault.ReadFault.TheVariants.{Text, NoMemory}
 use Rattle.book_base.specs.Book.{Page}
 use Rattle.seq_objects.specs.declared.kind.Kind.{Kind}
 use Rattle.text_fields.specs.declared.version.Version.{Version}
-use Rattle.text_fields.specs.Faults.{StopsFor}
+use Rattle.text_fields.specs.Lines.{Unread}
+use Rattle.text_fields.specs.Faults.{GoesTo, IsFirstFault, StopsFor}
 use Rattle.text_fields.specs.Head.{TitleDue}
 use Rattle.text_fields.proofs.Sharp as sharp
-use Rattle.book_text.specs.BookRules.{InHead, AtEnd, book_rules, whole_text, IsBookText, IsNoBookText, IsFirstBookFault}
+use Rattle.book_text.specs.BookRules.{InHead, InCalls, AtEnd, BookFails, book_rules, whole_text, IsBookText, IsNoBookText, IsFirstBookFault}
+use Rattle.book_text.specs.Ending.{IsEnded, IsNoEnd}
+use Rattle.book_text.proofs.Endings.{goes_end, stops_end}
 use Rattle.book_text.proofs.SharpBooks.{book_sharp}
+
+-- ---- the end
+
+pub book_ends : (version : Version) (kind : Kind) (book : List Page) (text left : Unread) → IsEnded text left → GoesTo (book_rules version) (InCalls kind book []) text (AtEnd kind book) left
+book_ends version kind book text left h = goes_end (book_rules version) (InCalls kind book []) (AtEnd kind book) (refl, refl) text left h
+
+pub book_no_end : (version : Version) (kind : Kind) (book : List Page) (text : Unread) (fault : TextFault) → IsNoEnd text fault → IsFirstFault (book_rules version) (InCalls kind book []) text fault
+book_no_end version kind book text fault h =
+    stops_end (book_rules version) (InCalls kind book []) (AtEnd kind book) (refl, refl) text fault refl refl (λ words unlike. sharp.only_test (BookFails version (InCalls kind book []) words) End (refl, unlike) (λ other k. k.0)) h
+
+-- ---- one reading, or one fault
 
 same_end : (k l : Kind) (a b : List Page) → AtEnd k a ≡ AtEnd l b → (k ≡ l) × (a ≡ b)
 same_end k l a b e = (cc, cc)

@@ -30,7 +30,7 @@ use Rattle.book_text.specs.BookRules.{BookDue, InHead, InCalls, AtEnd, behind_he
 use Rattle.book_text.proofs.EntryTexts.{OneOperation, same_behind, behind_place, one_behind, passes_place, passes_op, passes_gap, passes_reply, passes_view}
 use Rattle.book_text.proofs.CallTexts.{cut_once, one_view}
 
-solid_pairs : (b : ℕ) (cut : List ℕ) → b + length cut ≤ 2 ^ 64 → AreNumbers cut → AllByRecursion IsSolid (pair_words b cut)
+pub solid_pairs : (b : ℕ) (cut : List ℕ) → b + length cut ≤ 2 ^ 64 → AreNumbers cut → AllByRecursion IsSolid (pair_words b cut)
 solid_pairs b [] few h = tt
 solid_pairs b (zero ∷ cut) few h = solid_pairs (b + 1) cut (omega arith) h.1
 solid_pairs b (suc c ∷ cut) few h =
@@ -43,7 +43,7 @@ solid_pairs b (suc c ∷ cut) few h =
       solid_pairs (b + 1) cut (omega arith) h.1,
     )
 
-solid_cut : (version : Version) (cut : List ℕ) → length cut ≤ 2 ^ 64 → AreNumbers cut → AllByRecursion IsSolid (cut_words version cut)
+pub solid_cut : (version : Version) (cut : List ℕ) → length cut ≤ 2 ^ 64 → AreNumbers cut → AllByRecursion IsSolid (cut_words version cut)
 solid_cut First cut few h = solid_numbers cut h
 solid_cut Second cut few h = solid_pairs 0 cut (omega arith) h
 

@@ -150,7 +150,7 @@ fn record_entry(book: &mut Book, call: Call, entry: Entry) -> Result<(), BookFau
 }
 
 /// What a text is refused with where the book refused the view in this line.
-fn refusal(line: u64, fault: BookFault) -> ReadFault
+pub fn refusal(line: u64, fault: BookFault) -> ReadFault
     requires { MayRefuse fault }
     ensures text { IfSome (view_test fault) (λ what.
         result ≡ ReadFault.Text (record { line = line; what = what })) }

@@ -50,7 +50,7 @@ pub(crate) fn read_entry<T: OpText>(
 }
 
 /// Takes the caller and the number of this call.
-fn take_place(words: &mut Words, call: Call) -> Option<()>
+pub fn take_place(words: &mut Words, call: Call) -> Option<()>
     ensures found { IfSome result (λ _. words.old ≡ place_words call ++ words.new) }
     ensures none { IfNone result ((behind : List (List ℕ))
         → words.old ≢ place_words call ++ behind) }
@@ -69,7 +69,7 @@ fn take_due(words: &mut Words, due: u64) -> Option<()>
 }
 
 /// Takes the words of an operation.
-fn take_operation<T: OpText>(operations: &T, words: &mut Words) -> Option<OpWord>
+pub fn take_operation<T: OpText>(operations: &T, words: &mut Words) -> Option<OpWord>
     ensures found { IfSome result (λ op.
         BeginWith (T.operations operations.now) words.old op words.new) }
     ensures none { IfNone result (BeginWithNone (T.operations operations.now) words.old) }

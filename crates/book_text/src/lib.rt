@@ -2,18 +2,22 @@
 #![tactic(auto)]
 
 mod calls;
+mod ending;
 mod entry;
 mod laws;
 mod reader;
 mod view;
 
-pub use calls::read_calls;
+pub use calls::{read_calls, refusal};
+pub use ending::read_end;
+pub use entry::{take_operation, take_place};
 pub use laws::{
     a_text_is_its_books_lines, first_faults_leave_texts, no_fault_of_a_text, one_book_per_text,
     one_first_fault,
 };
 pub use reader::{read_book, read_book1};
 pub use text_fields::{Head, Lines, OpText, Words, number, read_head, read_head1};
+pub use view::take_word;
 
 #[cfg(test)]
 mod tests;

@@ -1,21 +1,20 @@
 //! Whole texts of books.
 
-ghost use Rattle.std.specs.Prelude.{◌≡◌, ◌↔◌, ◌⊎◌, ℕ, [], List, IsTrue, IfOk, IfErr, MatchResult};
+ghost use Rattle.std.specs.Prelude.{◌≡◌, ◌⊎◌, List, IfOk, IfErr, MatchResult};
 ghost use Rattle.book_base.specs.declared.fault.TextFault.{TextFault};
 ghost use Rattle.book_base.specs.Book.{Page};
 ghost use Rattle.seq_objects.specs.declared.kind.Kind.{Kind};
-ghost use Rattle.text_fields.specs.declared.version.Version.{Version};
 ghost use Rattle.text_fields.specs.declared.version.Version.TheVariants.{First, Second};
-ghost use Rattle.text_fields.specs.Faults.{GoesTo, IsFirstFault, StopsFor};
+ghost use Rattle.text_fields.specs.Faults.{StopsFor};
 ghost use Rattle.text_fields.specs.Head.{TitleDue};
-ghost use Rattle.book_text.specs.Grammar.{end_words};
-ghost use Rattle.book_text.specs.BookRules.{InHead, InCalls, AtEnd, book_rules, whole_text, IsBookText, IsNoBookText, IsFirstBookFault};
+ghost use Rattle.book_text.specs.BookRules.{InHead, book_rules, whole_text, IsBookText, IsNoBookText, IsFirstBookFault};
 
 use crate::calls::read_calls_of;
-use book_base::{Book, ReadFault, TextFault, What};
+use crate::ending::read_end;
+use book_base::{Book, ReadFault};
 use seq_objects::Kind;
 use std::alloc::Global;
-use text_fields::{KindWords, Lines, Version, Words, read_head_of};
+use text_fields::{KindWords, Lines, Version, read_head_of};
 
 /// The book that the bytes are the text of, in version 2, and the kind of its object.
 ///
@@ -78,38 +77,4 @@ pub(crate) fn read_version(
     let book = read_calls_of(version, alloc, &mut lines, &head.calls, &operations)?;
     read_end(&mut lines)?;
     Ok((head.kind, book))
-}
-
-/// The end of a text, and nothing behind it.
-fn read_end(lines: &mut Lines) -> Result<(), TextFault>
-    ensures found { IfOk result (λ _. (version : Version) (kind : Kind) (book : List Page) → GoesTo
-        (book_rules version) (InCalls kind book []) lines.old (AtEnd kind book) lines.new) }
-    ensures whole { IfOk result (λ _. lines.new.bytes ≡ []) }
-    ensures refused { IfErr result (λ fault.
-        (version : Version) (kind : Kind) (book : List Page) → IsFirstFault
-        (book_rules version) (InCalls kind book []) lines.old fault) }
-{
-    let line = lines.number();
-    let mut words = Words::new(lines.line()?);
-    if !is_end(&mut words) {
-        return Err(TextFault {
-            line,
-            what: What::End,
-        });
-    }
-    if lines.at_end() {
-        Ok(())
-    } else {
-        Err(TextFault {
-            line: lines.number(),
-            what: What::Rest,
-        })
-    }
-}
-
-/// Whether the words are those of a text's last line.
-fn is_end(words: &mut Words) -> bool
-    ensures { IsTrue result ↔ (words.old ≡ end_words) }
-{
-    words.next() == Some(b"end".as_slice()) && words.next().is_none()
 }

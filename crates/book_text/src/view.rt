@@ -48,7 +48,7 @@ fn second_view(words: &mut Words, n: u32) -> Option<Cut>
 }
 
 /// Takes the next word, which is to be this.
-fn take_word(words: &mut Words, wanted: &[u8]) -> Option<()>
+pub fn take_word(words: &mut Words, wanted: &[u8]) -> Option<()>
     ensures found { IfSome result (λ _. words.old ≡ wanted.now ∷ words.new) }
     ensures none { IfNone result ((behind : List (List ℕ)) → words.old ≢ wanted.now ∷ behind) }
 {

@@ -14,7 +14,7 @@ use book_base::{Call, Cut, NoMemory, OpWord};
 use seq_objects::{Kind, put_number};
 
 /// Appends a number behind a space.
-pub(crate) fn put_spaced(out: &mut Vec<u8>, n: u64) -> Result<(), NoMemory>
+pub fn put_spaced(out: &mut Vec<u8>, n: u64) -> Result<(), NoMemory>
     ensures { OnOk result (out.new.items ≡ out.old.items ++ 32 ∷ decimal n) }
 {
     out.push(b' ')?;
@@ -22,7 +22,7 @@ pub(crate) fn put_spaced(out: &mut Vec<u8>, n: u64) -> Result<(), NoMemory>
 }
 
 /// Appends the line of the title.
-pub(crate) fn put_title(out: &mut Vec<u8>, title: &[u8]) -> Result<(), NoMemory>
+pub fn put_title(out: &mut Vec<u8>, title: &[u8]) -> Result<(), NoMemory>
     ensures { OnOk result (out.new.items ≡ out.old.items
         ++ line_text (title_words Second title.now)) }
 {
@@ -52,7 +52,7 @@ fn put_callers(out: &mut Vec<u8>, n: u32) -> Result<(), NoMemory>
 }
 
 /// Appends each count of a cut behind a space.
-fn put_counts(out: &mut Vec<u8>, cut: &Cut) -> Result<(), NoMemory>
+pub fn put_counts(out: &mut Vec<u8>, cut: &Cut) -> Result<(), NoMemory>
     ensures { OnOk result (out.new.items ≡ out.old.items ++ spaced (map decimal cut.now)) }
 {
     for i in 0..cut.n() {
@@ -73,12 +73,7 @@ fn put_calls_line(out: &mut Vec<u8>, calls: &Cut) -> Result<(), NoMemory>
 
 /// Appends the head of a text: its title, a word such as `book`, the kind of its object, and the
 /// number of calls of each caller.
-pub(crate) fn put_head(
-    out: &mut Vec<u8>,
-    title: &[u8],
-    kind: Kind,
-    calls: &Cut,
-) -> Result<(), NoMemory>
+pub fn put_head(out: &mut Vec<u8>, title: &[u8], kind: Kind, calls: &Cut) -> Result<(), NoMemory>
     ensures { OnOk result (out.new.items ≡ out.old.items
         ++ text_of (head_lines Second title.now kind calls.now)) }
 {
@@ -89,7 +84,7 @@ pub(crate) fn put_head(
 }
 
 /// Appends the pairs of a cut, each behind a space.
-pub(crate) fn put_pairs(out: &mut Vec<u8>, cut: &Cut) -> Result<(), NoMemory>
+pub fn put_pairs(out: &mut Vec<u8>, cut: &Cut) -> Result<(), NoMemory>
     ensures { OnOk result (out.new.items ≡ out.old.items ++ spaced (pair_words 0 cut.now)) }
 {
     for j in 0..cut.n() {
@@ -111,7 +106,7 @@ fn put_pair(out: &mut Vec<u8>, j: u32, count: u64) -> Result<(), NoMemory>
 }
 
 /// Appends the caller and the number of a call, each behind a space.
-pub(crate) fn put_place(out: &mut Vec<u8>, call: Call) -> Result<(), NoMemory>
+pub fn put_place(out: &mut Vec<u8>, call: Call) -> Result<(), NoMemory>
     ensures { OnOk result (out.new.items ≡ out.old.items ++ spaced (place_words call)) }
 {
     put_spaced(out, u64::from(call.caller))?;
@@ -119,7 +114,7 @@ pub(crate) fn put_place(out: &mut Vec<u8>, call: Call) -> Result<(), NoMemory>
 }
 
 /// Appends the words of an operation, each behind a space.
-pub(crate) fn put_operation(out: &mut Vec<u8>, kind: Kind, op: OpWord) -> Result<(), NoMemory>
+pub fn put_operation(out: &mut Vec<u8>, kind: Kind, op: OpWord) -> Result<(), NoMemory>
     ensures { OnOk result (out.new.items ≡ out.old.items ++ spaced (operation_words kind op)) }
 {
     out.push(b' ')?;

@@ -2,7 +2,7 @@
 #![tactic(auto)]
 
 mod book;
-mod fields;
+pub mod fields;
 mod laws;
 mod sketch_text;
 

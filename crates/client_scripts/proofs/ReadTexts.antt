@@ -1,5 +1,5 @@
 -- What is read as a script is what is written of it.
-use Rattle.std.proofs.Common.{◌≡◌, ℕ, zero, suc, ◌+◌, ◌-◌, ◌<◌, ◌≤◌, ◌^◌, true, List, [], ◌∷◌, ◌++◌, length, set, Option, Some, refl, sym, ap, subst, ◌∙◌, append_assoc, arith, inl, inr}
+use Rattle.std.proofs.Common.{◌≡◌, ℕ, zero, suc, ◌+◌, ◌-◌, ◌<◌, ◌≤◌, ◌^◌, List, [], ◌∷◌, ◌++◌, length, set, Option, Some, refl, sym, ap, subst, ◌∙◌, append_assoc, arith, inl, inr}
 use Rattle.std.specs.Prelude.{codes}
 use Rattle.std.specs.List.{AllByRecursion, concat}
 use Rattle.std.proofs.lemmas.List.{append-nil, length-append, length-map}
@@ -7,38 +7,22 @@ use Rattle.book_base.specs.declared.call.Call.{Call}
 use Rattle.seq_objects.specs.declared.kind.Kind.{Kind}
 use Rattle.text_fields.specs.declared.version.Version.{Version}
 use Rattle.text_fields.specs.declared.version.Version.TheVariants.{First, Second}
-use Rattle.text_fields.specs.Version.{has_kind, most_calls, word_limit}
+use Rattle.text_fields.specs.Version.{most_calls, word_limit}
 use Rattle.text_fields.specs.Lines.{text_of}
 use Rattle.text_fields.specs.Counts.{AreAtMost}
-use Rattle.text_fields.specs.Head.{TitleDue, ObjectDue, CallersDue, CountsDue, AreCallers, AreCalls, head_lines, title_words, object_words, callers_words, calls_words}
-use Rattle.text_fields.specs.Faults.{AllPass}
+use Rattle.text_fields.specs.Head.{HeadDue, TitleDue, HeadPasses, head_lines}
+use Rattle.text_fields.proofs.Leading.{Leads, has_line, moved, head_read}
 use Rattle.book_text.specs.CallLines.{calls_from, all_calls}
 use Rattle.book_text.specs.Grammar.{end_words}
 use Rattle.client_scripts.specs.Plans.{Plan, sizes, AreStops, IsPlan}
 use Rattle.client_scripts.specs.Grammar.{by_number, call_line, call_words, caller_lines, stop_words, stop_line, turns_words, script_lines, IsWrittenText}
-use Rattle.client_scripts.specs.ScriptRules.{Begun, begin, with_operation, with_operations, with_stop, grouped, plan_with, ScriptDue, InHead, InBody, Turned, AtEnd, behind_head, IsCallLine, ScriptPasses, IsScriptText}
+use Rattle.client_scripts.specs.ScriptRules.{Begun, begin, with_operation, with_operations, with_stop, grouped, plan_with, ScriptDue, InHead, InBody, Turned, AtEnd, behind_head, IsCallLine, ScriptPasses, script_rules, IsScriptText}
 use Rattle.client_scripts.proofs.Groups.{grouped-concat, gap, set_behind, lines_behind_gap, no_lines, length-gap, AreStops-none, AreStops-set}
 use Rattle.client_scripts.proofs.WrittenTexts.{behind_calls}
 
 module _ (version : Version) (plan : Plan) where
-  abbrev Leads : ScriptDue → List (List (List ℕ)) → Type 0
-  Leads due lines = AllPass (ScriptPasses version) due lines (AtEnd plan)
-
-  -- where the end isn't reached, a line stands
-  record HasLine (due : ScriptDue) (lines : List (List (List ℕ))) : Type 0 where
-    pub words : List (List ℕ)
-    pub others : List (List (List ℕ))
-    pub next : ScriptDue
-    pub text : lines ≡ words ∷ others
-    pub right : ScriptPasses version due words next
-    pub leads : Leads next others
-
-  has_line : (due : ScriptDue) (lines : List (List (List ℕ))) → (due ≡ AtEnd plan → ⊥) → Leads due lines → HasLine due lines
-  has_line due [] unlike h = absurd (unlike h)
-  has_line due (words ∷ others) unlike h = record { words = words; others = others; next = h.0; text = refl; right = h.1; leads = h.2 }
-
-  abbrev moved : (due next : ScriptDue) (lines : List (List (List ℕ))) → due ≡ next → Leads due lines → Leads next lines
-  moved due next lines e h = subst (λ (d : ScriptDue). Leads d lines) e h
+  abbrev To : ScriptDue → List (List (List ℕ)) → Type 0
+  To due lines = Leads (script_rules version) (AtEnd plan) due lines
 
   module _ (kind : Kind) where
     abbrev AreSmall : List ℕ → Type 0
@@ -51,30 +35,30 @@ module _ (version : Version) (plan : Plan) where
       pub count : length ops ≡ more
       pub small : AreSmall ops
       pub text : lines ≡ by_number (call_line kind i) k ops ++ others
-      pub leads : Leads (InBody kind (with_operations begun ops) due) others
+      pub leads : To (InBody kind (with_operations begun ops) due) others
 
-    read_caller : (begun : Begun) (i k more : ℕ) (due : List Call) (lines : List (List (List ℕ))) → Leads (InBody kind begun (calls_from i k more ++ due)) lines → IsCallerRead begun i k more due lines
+    read_caller : (begun : Begun) (i k more : ℕ) (due : List Call) (lines : List (List (List ℕ))) → To (InBody kind begun (calls_from i k more ++ due)) lines → IsCallerRead begun i k more due lines
     read_caller begun i k zero due lines h = record {
       ops = [];
       others = lines;
       count = refl;
       small = tt;
       text = refl;
-      leads = moved (InBody kind begun due) (InBody kind (with_operations begun []) due) lines (behind_calls kind begun due begun.operations (begun.operations ++ []) (sym (append-nil begun.operations))) h;
+      leads = moved (script_rules version) (AtEnd plan) (InBody kind begun due) (InBody kind (with_operations begun []) due) lines (behind_calls kind begun due begun.operations (begun.operations ++ []) (sym (append-nil begun.operations))) h;
     }
     read_caller begun i k (suc more) due lines h =
-        let first = has_line (InBody kind begun (calls_from i k (suc more) ++ due)) lines (λ e. absurd cc) h in
+        let first = has_line (script_rules version) (AtEnd plan) (InBody kind begun (calls_from i k (suc more) ++ due)) lines (λ e. absurd cc) h in
         let op : ℕ = first.right.0 in
         let read : IsCallLine version kind (record { caller = i; number = k }) first.words op = first.right.1 in
         let next : Begun = with_operation begun op in
-        let rest = read_caller next i (k + 1) more due first.others (moved first.next (InBody kind next (calls_from i (k + 1) more ++ due)) first.others first.right.2 first.leads) in
+        let rest = read_caller next i (k + 1) more due first.others (moved (script_rules version) (AtEnd plan) first.next (InBody kind next (calls_from i (k + 1) more ++ due)) first.others first.right.2 first.leads) in
         record {
           ops = op ∷ rest.ops;
           others = rest.others;
           count = ap suc rest.count;
           small = (read.has, rest.small);
           text = first.text ∙ ap (λ (w : List (List ℕ)). w ∷ first.others) read.text ∙ ap (λ (ls : List (List (List ℕ))). call_words kind (record { caller = i; number = k }) op ∷ ls) rest.text;
-          leads = moved (InBody kind (with_operations next rest.ops) due) (InBody kind (with_operations begun (op ∷ rest.ops)) due) rest.others
+          leads = moved (script_rules version) (AtEnd plan) (InBody kind (with_operations next rest.ops) due) (InBody kind (with_operations begun (op ∷ rest.ops)) due) rest.others
               (behind_calls kind begun due ((begun.operations ++ op ∷ []) ++ rest.ops) (begun.operations ++ op ∷ rest.ops) (append_assoc begun.operations (op ∷ []) rest.ops)) rest.leads;
         }
 
@@ -85,16 +69,16 @@ module _ (version : Version) (plan : Plan) where
       pub count : sizes operations ≡ counts
       pub small : AllByRecursion AreSmall operations
       pub text : lines ≡ by_number (caller_lines kind) i operations ++ others
-      pub leads : Leads (InBody kind (with_operations begun (concat operations)) []) others
+      pub leads : To (InBody kind (with_operations begun (concat operations)) []) others
 
-    read_callers : (begun : Begun) (i : ℕ) (counts : List ℕ) (lines : List (List (List ℕ))) → Leads (InBody kind begun (all_calls i counts)) lines → AreCallersRead begun i counts lines
+    read_callers : (begun : Begun) (i : ℕ) (counts : List ℕ) (lines : List (List (List ℕ))) → To (InBody kind begun (all_calls i counts)) lines → AreCallersRead begun i counts lines
     read_callers begun i [] lines h = record {
       operations = [];
       others = lines;
       count = refl;
       small = tt;
       text = refl;
-      leads = moved (InBody kind begun []) (InBody kind (with_operations begun []) []) lines (behind_calls kind begun [] begun.operations (begun.operations ++ []) (sym (append-nil begun.operations))) h;
+      leads = moved (script_rules version) (AtEnd plan) (InBody kind begun []) (InBody kind (with_operations begun []) []) lines (behind_calls kind begun [] begun.operations (begun.operations ++ []) (sym (append-nil begun.operations))) h;
     }
     read_callers begun i (count ∷ counts) lines h =
         let first = read_caller begun i 0 count (all_calls (i + 1) counts) lines h in
@@ -107,7 +91,7 @@ module _ (version : Version) (plan : Plan) where
           count = ap (λ (n : ℕ). n ∷ sizes rest.operations) first.count ∙ ap (λ (ns : List ℕ). count ∷ ns) rest.count;
           small = (first.small, rest.small);
           text = first.text ∙ ap (λ (ls : List (List (List ℕ))). mine ++ ls) rest.text ∙ sym (append_assoc mine (by_number (caller_lines kind) (i + 1) rest.operations) rest.others);
-          leads = moved (InBody kind (with_operations next (concat rest.operations)) []) (InBody kind (with_operations begun (first.ops ++ concat rest.operations)) []) rest.others
+          leads = moved (script_rules version) (AtEnd plan) (InBody kind (with_operations next (concat rest.operations)) []) (InBody kind (with_operations begun (first.ops ++ concat rest.operations)) []) rest.others
               (behind_calls kind begun [] ((begun.operations ++ first.ops) ++ concat rest.operations) (begun.operations ++ (first.ops ++ concat rest.operations)) (append_assoc begun.operations first.ops (concat rest.operations))) rest.leads;
         }
 
@@ -123,17 +107,17 @@ module _ (version : Version) (plan : Plan) where
     same_end : (p : Plan) → AtEnd p ≡ AtEnd plan → plan ≡ p
     same_end p e = cc
 
-    read_end : (p : Plan) (lines : List (List (List ℕ))) → Leads (Turned p) lines → (plan ≡ p) × (lines ≡ end_words ∷ [])
+    read_end : (p : Plan) (lines : List (List (List ℕ))) → To (Turned p) lines → (plan ≡ p) × (lines ≡ end_words ∷ [])
     read_end p lines h =
-        let first = has_line (Turned p) lines (λ e. absurd cc) h in
-        let last = moved first.next (AtEnd p) first.others first.right.1 first.leads in
+        let first = has_line (script_rules version) (AtEnd plan) (Turned p) lines (λ e. absurd cc) h in
+        let last = moved (script_rules version) (AtEnd plan) first.next (AtEnd p) first.others first.right.1 first.leads in
         ended first.others last first.text first.right.0 where
-          ended : {words : List (List ℕ)} (others : List (List (List ℕ))) → Leads (AtEnd p) others → lines ≡ words ∷ others → words ≡ end_words → (plan ≡ p) × (lines ≡ end_words ∷ [])
+          ended : {words : List (List ℕ)} (others : List (List (List ℕ))) → To (AtEnd p) others → lines ≡ words ∷ others → words ≡ end_words → (plan ≡ p) × (lines ≡ end_words ∷ [])
           ended [] e text is = (same_end p e, text ∙ ap (λ (w : List (List ℕ)). w ∷ []) is)
           ended (w ∷ others) e text is = absurd e.1
 
     read_tail : (begun : Begun) (front : List (Option ℕ)) (m : ℕ) (lines : List (List (List ℕ))) → begun.stops ≡ front ++ gap m → length front ≡ begun.least → begun.least + m ≡ length begun.calls → AreStops begun.calls begun.stops
-        → Leads (InBody kind begun []) lines → IsTailRead begun front lines
+        → To (InBody kind begun []) lines → IsTailRead begun front lines
     read_tail begun front m [] told here size may h = absurd cc
     read_tail begun front m (words ∷ lines) told here size may (next, inl stop, leads) =
         let c : ℕ = stop.0 in
@@ -146,7 +130,7 @@ module _ (version : Version) (plan : Plan) where
         let left : m ≡ d + e + 1 = omega (arith, line.may.rising, line.may.inside) in
         let shown : List (Option ℕ) = gap d ++ Some p ∷ [] in
         let stops : after.stops ≡ (front ++ shown) ++ gap e = ap (λ (s : List (Option ℕ)). set s c (Some p)) told ∙ set_behind front m d e c (Some p) left (omega arith) in
-        let more = read_tail after (front ++ shown) e lines stops (omega (arith, length-append front shown, length-append (gap d) (Some p ∷ []), length-gap d)) (omega (arith, line.may.rising, line.may.inside)) (AreStops-set begun.calls begun.stops c p may line.may.inside line.may.early) (moved next (InBody kind after []) lines stop.3 leads) in
+        let more = read_tail after (front ++ shown) e lines stops (omega (arith, length-append front shown, length-append (gap d) (Some p ∷ []), length-gap d)) (omega (arith, line.may.rising, line.may.inside)) (AreStops-set begun.calls begun.stops c p may line.may.inside line.may.early) (moved (script_rules version) (AtEnd plan) next (InBody kind after []) lines stop.3 leads) in
         let joined : (front ++ shown) ++ more.rest ≡ front ++ (gap d ++ Some p ∷ more.rest) = append_assoc front shown more.rest ∙ ap (λ (s : List (Option ℕ)). front ++ s) (append_assoc (gap d) (Some p ∷ []) more.rest) in
         record {
           rest = gap d ++ Some p ∷ more.rest;
@@ -158,7 +142,7 @@ module _ (version : Version) (plan : Plan) where
               ∙ ap (λ (ls : List (List (List ℕ))). ls ++ turns_words more.turns ∷ end_words ∷ []) (sym (lines_behind_gap begun.least d c p more.rest at));
         }
     read_tail begun front m (words ∷ lines) told here size may (next, inr turned, leads) =
-        let end = read_end (plan_with kind begun turned.0) lines (moved next (Turned (plan_with kind begun turned.0)) lines turned.2 leads) in
+        let end = read_end (plan_with kind begun turned.0) lines (moved (script_rules version) (AtEnd plan) next (Turned (plan_with kind begun turned.0)) lines turned.2 leads) in
         record {
           rest = gap m;
           turns = turned.0;
@@ -169,48 +153,8 @@ module _ (version : Version) (plan : Plan) where
               ∙ ap (λ (ls : List (List (List ℕ))). ls ++ turns_words turned.0 ∷ end_words ∷ []) (sym (no_lines begun.least m));
         }
 
-  -- ---- the head
-
-  four_lines : (lines a b c d : List (List (List ℕ))) (p q r s t u v w : List (List ℕ)) → lines ≡ p ∷ a → a ≡ q ∷ b → b ≡ r ∷ c → c ≡ s ∷ d → p ≡ t → q ≡ u → r ≡ v → s ≡ w → lines ≡ t ∷ u ∷ v ∷ w ∷ d
-  four_lines lines a b c d p q r s t u v w h0 h1 h2 h3 e f g h = cc
-
-  record IsHeadRead (lines : List (List (List ℕ))) : Type 0 where
-    pub object : Kind
-    pub known : has_kind version object ≡ true
-    pub n : ℕ
-    pub callers : AreCallers version n
-    pub counts : List ℕ
-    pub calls : AreCalls version n counts
-    pub others : List (List (List ℕ))
-    pub text : lines ≡ head_lines version (codes "script") object counts ++ others
-    pub leads : Leads (InBody object (begin counts) (all_calls 0 counts)) others
-
-  head_read : (lines : List (List (List ℕ))) → Leads (InHead TitleDue) lines → IsHeadRead lines
-  head_read lines h =
-      let title = has_line (InHead TitleDue) lines (λ e. absurd cc) h in
-      let at_object = moved title.next (InHead ObjectDue) title.others (title.right.2 ∙ ap behind_head title.right.1.1) title.leads in
-      let object = has_line (InHead ObjectDue) title.others (λ e. absurd cc) at_object in
-      let k = object.right.1.0 in
-      let at_callers = moved object.next (InHead (CallersDue k)) object.others (object.right.2 ∙ ap behind_head object.right.1.3) object.leads in
-      let callers = has_line (InHead (CallersDue k)) object.others (λ e. absurd cc) at_callers in
-      let n = callers.right.1.0 in
-      let at_counts = moved callers.next (InHead (CountsDue k n)) callers.others (callers.right.2 ∙ ap behind_head callers.right.1.3) callers.leads in
-      let calls = has_line (InHead (CountsDue k n)) callers.others (λ e. absurd cc) at_counts in
-      let counts = calls.right.1.0 in
-      let size : n ≡ length counts = sym calls.right.1.1.count in
-      record {
-        object = k;
-        known = object.right.1.1;
-        n = n;
-        callers = callers.right.1.1;
-        counts = counts;
-        calls = calls.right.1.1;
-        others = calls.others;
-        text = four_lines lines title.others object.others callers.others calls.others title.words object.words callers.words calls.words
-            (title_words version (codes "script")) (object_words k) (callers_words (length counts)) (calls_words counts)
-            title.text object.text callers.text calls.text title.right.1.0 object.right.1.2 (callers.right.1.2 ∙ ap callers_words size) calls.right.1.2;
-        leads = moved calls.next (InBody k (begin counts) (all_calls 0 counts)) calls.others (calls.right.2 ∙ ap behind_head calls.right.1.3) calls.leads;
-      }
+  enters : (due : HeadDue) (words : List (List ℕ)) (after : ScriptDue) → ScriptPasses version (InHead due) words after → (next : HeadDue) × HeadPasses version (codes "script") due words next × (after ≡ behind_head next)
+  enters due words after h = h
 
   -- ---- all lines
 
@@ -219,9 +163,9 @@ module _ (version : Version) (plan : Plan) where
     pub text : lines ≡ script_lines version plan
 
   -- the parts that were read are those of the plan
-  whole_read : (lines : List (List (List ℕ))) → Leads (InHead TitleDue) lines → IsWholeRead lines
+  whole_read : (lines : List (List (List ℕ))) → To (InHead TitleDue) lines → IsWholeRead lines
   whole_read lines h =
-      let head = head_read lines h in
+      let head = head_read (script_rules version) (AtEnd plan) version (codes "script") InHead behind_head enters refl (λ kind. refl) (λ kind n. refl) (λ due e. absurd cc) lines h in
       let kind = head.object in
       let calls = read_callers kind (begin head.counts) 0 head.counts head.others head.leads in
       let begun : Begun = with_operations (begin head.counts) (concat calls.operations) in

@@ -9,9 +9,10 @@ use Rattle.text_fields.specs.Faults.{GoesTo}
 use Rattle.text_fields.proofs.Sharp.{goes_then}
 use Rattle.book_text.specs.BookRules.{whole_text}
 use Rattle.book_text.specs.CallLines.{all_calls}
+use Rattle.book_text.specs.Ending.{IsEnded}
 use Rattle.client_scripts.specs.Plans.{Plan}
 use Rattle.client_scripts.specs.ScriptRules.{Begun, InHead, InBody, Turned, AtEnd, begin, script_rules, IsScriptText}
-use Rattle.client_scripts.proofs.Readings.{head_goes}
+use Rattle.client_scripts.proofs.Readings.{head_goes, script_ends}
 
 module _ (version : Version) (bytes : List ℕ) (kind : Kind) (calls : List ℕ) (new a : Unread) (is : new ≡ whole_text bytes) (head : GoesTo (head_rules version (codes "script")) TitleDue new (HeadRead kind calls) a) where
   pub to_calls : GoesTo (script_rules version) (InHead TitleDue) (whole_text bytes) (InBody kind (begin calls) (all_calls 0 calls)) a
@@ -25,5 +26,5 @@ module _ (version : Version) (bytes : List ℕ) (kind : Kind) (calls : List ℕ)
       pub to_end : GoesTo (script_rules version) (InHead TitleDue) (whole_text bytes) (Turned plan) d
       to_end = goes_then (script_rules version) (InHead TitleDue) (InBody kind begun []) (Turned plan) (whole_text bytes) b d to_stops tail
 
-      pub to_text : (left : Unread) → GoesTo (script_rules version) (Turned plan) d (AtEnd plan) left → left.bytes ≡ [] → IsScriptText version bytes plan
-      to_text left end through = (left, record { goes = goes_then (script_rules version) (InHead TitleDue) (Turned plan) (AtEnd plan) (whole_text bytes) d left to_end end; through = through })
+      pub to_text : (left : Unread) → IsEnded d left → IsScriptText version bytes plan
+      to_text left end = (left, record { goes = goes_then (script_rules version) (InHead TitleDue) (Turned plan) (AtEnd plan) (whole_text bytes) d left to_end (script_ends version plan d left end); through = end.whole })

@@ -3,5 +3,4 @@ pub mod Grammar
 pub mod ScriptRules
 pub mod ScriptLayout
 pub mod Parts
-pub mod Beginnings
 pub mod Generator

@@ -14,8 +14,7 @@ use Rattle.book_text.specs.CallLines.{calls_from, all_calls}
 use Rattle.client_scripts.specs.declared.script.Client.{Client}
 use Rattle.client_scripts.specs.declared.tail_line.TailLine.{TailLine}
 use Rattle.client_scripts.specs.declared.tail_line.TailLine.TheVariants.{Stop, Turns}
-use Rattle.client_scripts.specs.Plans.{Plan}
-use Rattle.client_scripts.specs.ScriptRules.{Begun, begin, with_operation, with_operations, InBody, Turned, AtEnd, IsStopLine, IsTurnsLine, TailFails, script_rules}
+use Rattle.client_scripts.specs.ScriptRules.{Begun, begin, with_operation, with_operations, InBody, Turned, IsStopLine, IsTurnsLine, TailFails, script_rules}
 use Rattle.client_scripts.specs.ScriptLayout.{told, plan_in}
 
 -- ---- calls
@@ -65,13 +64,3 @@ IsTailRead before text after turns left =
 -- in the next lines, which are to be stops and turns, a reader stops
 abbrev pub IsTailStopped : List Client → Unread → ReadFault → Type 0
 IsTailStopped before text e = (version : Version) (kind : Kind) → StopsFor (script_rules version) (InBody kind (told before 0) []) text e
-
--- ---- the end
-
--- the next line is the end
-abbrev pub IsEndRead : Unread → Unread → Type 0
-IsEndRead text left = (version : Version) (plan : Plan) → GoesTo (script_rules version) (Turned plan) text (AtEnd plan) left
-
--- the next line, which is to be the end, has the first fault, or bytes follow it
-abbrev pub IsEndFault : Unread → TextFault → Type 0
-IsEndFault text fault = (version : Version) (plan : Plan) → IsFirstFault (script_rules version) (Turned plan) text fault

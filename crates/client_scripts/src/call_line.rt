@@ -1,15 +1,15 @@
 //! The line of a call, by itself.
 
-ghost use Rattle.std.specs.Prelude.{◌≡◌, ◌≢◌, ℕ, ◌<◌, ◌∷◌, ◌++◌, List, length, decimal, option_copied, IfOk, IfErr, IfSome, IfNone};
+ghost use Rattle.std.specs.Prelude.{◌≡◌, ◌≢◌, ℕ, ◌<◌, length, option_copied, IfOk, IfErr, IfSome, IfNone};
 ghost use Rattle.seq_objects.specs.Words.{operation_words, further};
 ghost use Rattle.text_fields.specs.Version.{word_limit};
 ghost use Rattle.text_fields.specs.Lines.{words_of};
 ghost use Rattle.text_fields.specs.Faults.{IsFirstTest};
-ghost use Rattle.book_text.specs.CallLines.{place_words};
 ghost use Rattle.client_scripts.specs.ScriptRules.{IsCallLine, CallFails};
 
 use book_base::{Call, OpWord, What};
-use text_fields::{KindWords, OpText, Words, next_number};
+use book_text::take_place;
+use text_fields::{KindWords, OpText, Words};
 
 /// The operation that the line of this call gives.
 pub(crate) fn read_call_line(
@@ -30,24 +30,6 @@ pub(crate) fn read_call_line(
         Some(op) => Ok(op),
         None => Err(What::Op),
     }
-}
-
-/// Takes the caller and the number of this call.
-fn take_place(words: &mut Words, call: Call) -> Option<()>
-    ensures found { IfSome result (λ _. words.old ≡ place_words call ++ words.new) }
-    ensures none { IfNone result ((behind : List (List ℕ)) → words.old ≢ place_words call ++ behind) }
-{
-    take_number(words, u64::from(call.caller))?;
-    take_number(words, call.number)
-}
-
-/// Takes the next word, which is to be this number.
-fn take_number(words: &mut Words, due: u64) -> Option<()>
-    ensures found { IfSome result (λ _. words.old ≡ decimal due ∷ words.new) }
-    ensures none { IfNone result ((behind : List (List ℕ)) → words.old ≢ decimal due ∷ behind) }
-{
-    let n = next_number(words, due)?;
-    if n == due { Some(()) } else { None }
 }
 
 /// The operation whose words are all that is left of a line.

@@ -3,10 +3,10 @@
 ghost use Rattle.std.specs.Prelude.{◌≡◌, ◌↔◌, ℕ, [], ◌++◌, List};
 ghost use Rattle.book_base.specs.declared.fault.TextFault.{TextFault};
 ghost use Rattle.text_fields.specs.declared.version.Version.{Version};
+ghost use Rattle.book_text.specs.Leaving.{LeavesAt};
 ghost use Rattle.client_scripts.specs.Plans.{Plan};
 ghost use Rattle.client_scripts.specs.Grammar.{IsWrittenText};
 ghost use Rattle.client_scripts.specs.ScriptRules.{IsScriptText, IsFirstScriptFault};
-ghost use Rattle.client_scripts.specs.Beginnings.{LeavesTexts};
 
 /// Bytes are the text of one script at most.
 pub fn one_script_per_text()
@@ -49,5 +49,5 @@ pub fn no_script_text_begins_another()
 /// whole text.
 pub fn first_faults_leave_texts()
     ensures { (version : Version) (bytes : List ℕ) (fault : TextFault)
-        → IsFirstScriptFault version bytes fault → LeavesTexts version bytes fault }
+        → IsFirstScriptFault version bytes fault → LeavesAt (IsScriptText version) bytes fault }
 {}

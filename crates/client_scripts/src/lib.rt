@@ -3,7 +3,6 @@
 
 mod call_line;
 mod calls;
-mod fields;
 mod generator;
 mod laws;
 mod reader;

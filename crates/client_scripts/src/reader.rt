@@ -1,23 +1,22 @@
 //! Whole texts of scripts.
 
-ghost use Rattle.std.specs.Prelude.{◌≡◌, ◌↔◌, ◌⊎◌, [], IsTrue, IfOk, IfErr, MatchResult};
+ghost use Rattle.std.specs.Prelude.{◌≡◌, ◌⊎◌, IfOk, IfErr, MatchResult};
 ghost use Rattle.book_base.specs.declared.fault.TextFault.{TextFault};
 ghost use Rattle.text_fields.specs.declared.version.Version.{Version};
 ghost use Rattle.text_fields.specs.declared.version.Version.TheVariants.{First, Second};
 ghost use Rattle.text_fields.specs.Faults.{StopsFor};
 ghost use Rattle.text_fields.specs.Head.{TitleDue};
-ghost use Rattle.book_text.specs.Grammar.{end_words};
 ghost use Rattle.book_text.specs.BookRules.{whole_text};
 ghost use Rattle.client_scripts.specs.Plans.{Plan};
-ghost use Rattle.client_scripts.specs.Parts.{IsEndRead, IsEndFault};
 ghost use Rattle.client_scripts.specs.ScriptRules.{InHead, script_rules, IsScriptText, IsNoScriptText, IsFirstScriptFault};
 
 use crate::calls::read_clients;
 use crate::script::Script;
 use crate::tail::read_tail;
-use book_base::{ReadFault, TextFault, What};
+use book_base::ReadFault;
+use book_text::read_end;
 use std::alloc::Global;
-use text_fields::{KindWords, Lines, Version, Words, read_head_of};
+use text_fields::{KindWords, Lines, Version, read_head_of};
 
 /// The script that the bytes are the text of, in version 2.
 ///
@@ -77,35 +76,4 @@ fn read_version(version: Version, alloc: Global, bytes: &[u8]) -> Result<Script,
     let turns = read_tail(alloc, &mut lines, &mut clients)?;
     read_end(&mut lines)?;
     Ok(Script::from_parts(head.kind, clients, turns))
-}
-
-/// The end of a text, and nothing behind it.
-fn read_end(lines: &mut Lines) -> Result<(), TextFault>
-    ensures found { IfOk result (λ _. IsEndRead lines.old lines.new) }
-    ensures whole { IfOk result (λ _. lines.new.bytes ≡ []) }
-    ensures refused { IfErr result (IsEndFault lines.old) }
-{
-    let line = lines.number();
-    let mut words = Words::new(lines.line()?);
-    if !is_end(&mut words) {
-        return Err(TextFault {
-            line,
-            what: What::End,
-        });
-    }
-    if lines.at_end() {
-        Ok(())
-    } else {
-        Err(TextFault {
-            line: lines.number(),
-            what: What::Rest,
-        })
-    }
-}
-
-/// Whether the words are those of a text's last line.
-fn is_end(words: &mut Words) -> bool
-    ensures { IsTrue result ↔ (words.old ≡ end_words) }
-{
-    words.next() == Some(b"end".as_slice()) && words.next().is_none()
 }

@@ -74,6 +74,14 @@ impl Script {
         self.clients[i as usize].operations.len() as u64
     }
 
+    /// The operation words of a caller, one a call.
+    pub fn operations(&self, i: u32) -> &[OpWord]
+        requires { i < length self.now.operations }
+        ensures { result.now ≡ operations_of self.now i }
+    {
+        &self.clients[i as usize].operations
+    }
+
     /// The operation word of a call.
     pub fn op(&self, call: Call) -> OpWord
         requires { IsCall self.now call }

@@ -8,9 +8,9 @@ ghost use Rattle.client_scripts.specs.Grammar.{by_number, call_words, caller_lin
 ghost use Rattle.client_scripts.specs.ScriptRules.{IsScriptText};
 ghost use Rattle.book_writer.specs.Fields.{spaced};
 
-use crate::fields::{put_head, put_operation, put_spaced};
 use crate::script::Script;
 use book_base::{Call, Cut, NoMemory};
+use book_writer::fields::{put_head, put_operation, put_spaced};
 use seq_objects::put_number;
 use std::alloc::Global;
 
@@ -22,7 +22,7 @@ pub fn write_script(alloc: Global, script: &Script) -> Result<Vec<u8>, NoMemory>
     ensures read { IfOk result (λ bytes. IsScriptText Second bytes.items script.now) }
 {
     let mut out = Vec::new(alloc);
-    put_head(&mut out, script.kind(), &announced(script))?;
+    put_head(&mut out, b"script", script.kind(), &announced(script))?;
     put_calls(&mut out, script)?;
     put_stops(&mut out, script)?;
     put_turns(&mut out, script.turns())?;

@@ -3,3 +3,5 @@ pub mod LineTexts
 pub mod Sharp
 pub mod NumberTexts
 pub mod HeadTexts
+pub mod Readings
+pub mod Leading

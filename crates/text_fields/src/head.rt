@@ -100,7 +100,7 @@ fn read_title(version: Version, lines: &mut Lines, title: &[u8]) -> Result<(), T
 }
 
 /// Whether the words are these two.
-fn are_words(words: &mut Words, first: &[u8], second: &[u8]) -> bool
+pub fn are_words(words: &mut Words, first: &[u8], second: &[u8]) -> bool
     ensures { IsTrue result ↔ (words.old ≡ first.now ∷ second.now ∷ []) }
 {
     words.next() == Some(first) && words.next() == Some(second) && words.next().is_none()
@@ -166,7 +166,8 @@ fn read_callers(
     }
 }
 
-fn callers_of(version: Version, words: &mut Words) -> Option<u32>
+/// The number of callers that a line gives.
+pub fn callers_of(version: Version, words: &mut Words) -> Option<u32>
     ensures found { IfSome result (λ n. AreCallers version n × (words.old ≡ callers_words n)) }
     ensures none { IfNone result ((n : ℕ)
         → AreCallers version n → words.old ≢ callers_words n) }
@@ -211,7 +212,8 @@ fn read_calls_line(
     }
 }
 
-fn calls_of(version: Version, words: &mut Words, n: u32) -> Option<Cut>
+/// The numbers of calls that a line gives, one for each of `n` callers.
+pub fn calls_of(version: Version, words: &mut Words, n: u32) -> Option<Cut>
     requires some { 1 ≤ n }
     requires few { n ≤ MAX_CALLERS }
     ensures found { IfSome result (λ calls.

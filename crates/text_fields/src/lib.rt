@@ -11,7 +11,7 @@ mod version;
 mod words;
 
 pub use counts::{next_number, read_counts};
-pub use head::{Head, read_head, read_head_of, read_head1};
+pub use head::{Head, are_words, callers_of, calls_of, read_head, read_head_of, read_head1};
 pub use lines::Lines;
 pub use op_text::{KindWords, OpText};
 pub use pairs::read_pairs;

@@ -9,6 +9,7 @@ use Rattle.book_text.specs.CallLines.{no_call_read}
 use Rattle.book_text.specs.BookRules.{InHead, InCalls, AtEnd, behind_head, book_rules, whole_text}
 use Rattle.book_text.proofs.CallTexts.{stops_then}
 use Rattle.book_text.proofs.Lifts.{few_calls, head_goes, head_fault, calls_goes, calls_stop}
+use Rattle.book_text.proofs.Readings.{book_ends, book_no_end}
 use Rattle.book_text.proofs.reader.read_version.Goals as goal
 
 pub read_calls_of-requires : goal.read_calls_of-requires
@@ -40,7 +41,7 @@ returns-in_err-read_end-clause-refused c =
     let start = head_goes version TitleDue (HeadRead kind calls) (whole_text c.args.bytes.now) c.read_head_of.new.lines head in
     let lines = calls_goes version kind (no_call_read calls) (record { book = c.in_ok-book.book; due = [] }) c.read_head_of.new.lines c.read_calls_of.new.lines c.in_ok-book.ensures.found in
     let both = goes_then (book_rules version) (InHead TitleDue) (behind_head (HeadRead kind calls)) (InCalls kind c.in_ok-book.book []) (whole_text c.args.bytes.now) c.read_head_of.new.lines c.read_calls_of.new.lines start lines in
-    rw (p.1, p.2) (stops_later (book_rules version) (InHead TitleDue) (InCalls kind c.in_ok-book.book []) (whole_text c.args.bytes.now) c.read_calls_of.new.lines c.in_err-read_end.field-0.0 both (c.in_err-read_end.ensures.refused version kind c.in_ok-book.book))
+    rw (p.1, p.2) (stops_later (book_rules version) (InHead TitleDue) (InCalls kind c.in_ok-book.book []) (whole_text c.args.bytes.now) c.read_calls_of.new.lines c.in_err-read_end.field-0.0 both (book_no_end version kind c.in_ok-book.book c.read_calls_of.new.lines c.in_err-read_end.field-0.0 c.in_err-read_end.ensures.refused))
 
 pub returns-clause-found : goal.returns-clause-found
 returns-clause-found c =
@@ -51,5 +52,5 @@ returns-clause-found c =
     let start = head_goes version TitleDue (HeadRead kind calls) (whole_text c.args.bytes.now) c.read_head_of.new.lines head in
     let lines = calls_goes version kind (no_call_read calls) (record { book = c.in_ok-book.book; due = [] }) c.read_head_of.new.lines c.read_calls_of.new.lines c.in_ok-book.ensures.found in
     let both = goes_then (book_rules version) (InHead TitleDue) (behind_head (HeadRead kind calls)) (InCalls kind c.in_ok-book.book []) (whole_text c.args.bytes.now) c.read_head_of.new.lines c.read_calls_of.new.lines start lines in
-    let all = goes_then (book_rules version) (InHead TitleDue) (InCalls kind c.in_ok-book.book []) (AtEnd kind c.in_ok-book.book) (whole_text c.args.bytes.now) c.read_calls_of.new.lines c.read_end.new.lines both (c.in_ok-read_end.ensures.found version kind c.in_ok-book.book) in
-    (c.read_end.new.lines, record { goes = all; through = c.in_ok-read_end.ensures.whole })
+    let all = goes_then (book_rules version) (InHead TitleDue) (InCalls kind c.in_ok-book.book []) (AtEnd kind c.in_ok-book.book) (whole_text c.args.bytes.now) c.read_calls_of.new.lines c.read_end.new.lines both (book_ends version kind c.in_ok-book.book c.read_calls_of.new.lines c.read_end.new.lines c.in_ok-read_end.ensures.found) in
+    (c.read_end.new.lines, record { goes = all; through = c.in_ok-read_end.ensures.found.whole })

@@ -11,7 +11,7 @@ use Rattle.book_text.proofs.CallTexts.{stops_then}
 use Rattle.client_scripts.specs.Plans.{Plan}
 use Rattle.client_scripts.specs.ScriptRules.{InHead, InBody, Turned, begin, script_rules, IsScriptText}
 use Rattle.client_scripts.specs.ScriptLayout.{plan_in, told}
-use Rattle.client_scripts.proofs.Readings.{head_fault}
+use Rattle.client_scripts.proofs.Readings.{head_fault, script_no_end}
 use Rattle.client_scripts.proofs.Stages.{to_calls, to_stops, to_end, to_text}
 use Rattle.client_scripts.proofs.ReadTexts.{read_is_written, plan_of_both}
 use Rattle.client_scripts.proofs.WrittenTexts.{most_both}
@@ -52,7 +52,7 @@ returns-in_err-read_end-clause-refused c =
     let plan : Plan = plan_in kind c.read_tail.new.clients.items c.in_ok-turns.turns.items in
     let so_far = to_end version c.args.bytes.now kind c.in_ok-head.head.calls c.new-lines.result c.read_head_of.new.lines c.new-lines.ensures c.in_ok-head.ensures.found (told c.in_ok-clients.clients.items 0) c.read_clients.new.lines c.in_ok-clients.ensures.found
     plan c.read_tail.new.lines (c.in_ok-turns.ensures.found version kind) in
-    rw (p.1, p.2) (stops_later (script_rules version) (InHead TitleDue) (Turned plan) (whole_text c.args.bytes.now) c.read_tail.new.lines c.in_err-read_end.field-0.0 so_far (c.in_err-read_end.ensures.refused version plan))
+    rw (p.1, p.2) (stops_later (script_rules version) (InHead TitleDue) (Turned plan) (whole_text c.args.bytes.now) c.read_tail.new.lines c.in_err-read_end.field-0.0 so_far (script_no_end version plan c.read_tail.new.lines c.in_err-read_end.field-0.0 c.in_err-read_end.ensures.refused))
 
 pub from_parts-requires : goal.from_parts-requires
 from_parts-requires c =
@@ -60,7 +60,7 @@ from_parts-requires c =
     let kind = c.in_ok-head.head.kind in
     let plan : Plan = plan_in kind c.read_tail.new.clients.items c.in_ok-turns.turns.items in
     let text = to_text version c.args.bytes.now kind c.in_ok-head.head.calls c.new-lines.result c.read_head_of.new.lines c.new-lines.ensures c.in_ok-head.ensures.found (told c.in_ok-clients.clients.items 0) c.read_clients.new.lines c.in_ok-clients.ensures.found
-    plan c.read_tail.new.lines (c.in_ok-turns.ensures.found version kind) c.read_end.new.lines (c.in_ok-read_end.ensures.found version plan) c.in_ok-read_end.ensures.whole in
+    plan c.read_tail.new.lines (c.in_ok-turns.ensures.found version kind) c.read_end.new.lines c.in_ok-read_end.ensures.found in
     plan_of_both version plan (read_is_written version c.args.bytes.now plan text).writable
 
 pub returns-clause-found : goal.returns-clause-found
@@ -69,5 +69,5 @@ returns-clause-found c =
     let kind = c.in_ok-head.head.kind in
     let plan : Plan = plan_in kind c.read_tail.new.clients.items c.in_ok-turns.turns.items in
     let text = to_text version c.args.bytes.now kind c.in_ok-head.head.calls c.new-lines.result c.read_head_of.new.lines c.new-lines.ensures c.in_ok-head.ensures.found (told c.in_ok-clients.clients.items 0) c.read_clients.new.lines c.in_ok-clients.ensures.found
-    plan c.read_tail.new.lines (c.in_ok-turns.ensures.found version kind) c.read_end.new.lines (c.in_ok-read_end.ensures.found version plan) c.in_ok-read_end.ensures.whole in
+    plan c.read_tail.new.lines (c.in_ok-turns.ensures.found version kind) c.read_end.new.lines c.in_ok-read_end.ensures.found in
     subst (IsScriptText version c.args.bytes.now) (sym c.from_parts.ensures) text

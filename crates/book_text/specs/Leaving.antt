@@ -1,0 +1,43 @@
+-- Where bytes leave the texts of a kind: the first fault, said by what texts begin with.
+use Rattle.std.specs.Prelude.{◌≡◌, ◌≢◌, ◌⊎◌, ◌+◌, ℕ, List, [], ◌∷◌, ◌++◌, Some}
+use Rattle.book_base.specs.declared.fault.TextFault.{TextFault}
+use Rattle.book_base.specs.declared.fault.What.{What}
+use Rattle.book_base.specs.declared.fault.What.TheVariants.{Cut, Rest}
+use Rattle.text_fields.specs.Lines.{cut_at}
+use Rattle.book_text.specs.Beginnings.{AreWholeLines, EndsEarly}
+
+-- some text begins with these bytes
+abbrev pub BeginsSome : {Said : Type 0} → (List ℕ → Said → Type 0) → List ℕ → Type 0
+BeginsSome {Said} IsText front = (said : Said) × (more : List ℕ) × IsText (front ++ more) said
+
+-- no text begins with these bytes
+abbrev pub BeginsNone : {Said : Type 0} → (List ℕ → Said → Type 0) → List ℕ → Type 0
+BeginsNone {Said} IsText front = (said : Said) (more : List ℕ) → ¬ (IsText (front ++ more) said)
+
+-- Behind the whole lines in front stands a further whole line, with which no text goes on.
+pub record Breaks {Said : Type 0} (IsText : List ℕ → Said → Type 0) (front rest : List ℕ) (what : What) : Type 0 where
+  pub named : (what ≢ Cut) × (what ≢ Rest)
+  pub line : List ℕ
+  pub behind : List ℕ
+  pub whole : cut_at 10 rest ≡ Some (line, behind)
+  pub none : BeginsNone IsText (front ++ (line ++ 10 ∷ []))
+
+-- The whole lines in front are a text already, and bytes follow.
+pub record GoesPast {Said : Type 0} (IsText : List ℕ → Said → Type 0) (front rest : List ℕ) (what : What) : Type 0 where
+  pub named : what ≡ Rest
+  pub said : Said
+  pub text : IsText front said
+  pub more : rest ≢ []
+
+-- A fault says where bytes leave the texts: some text begins with the lines before the fault's line, and none goes on with the fault's
+-- line, or that line isn't whole, or the lines before it are a whole text.
+pub record LeavesAt {Said : Type 0} (IsText : List ℕ → Said → Type 0) (bytes : List ℕ) (fault : TextFault) : Type 0 where
+  pub count : ℕ
+  pub front : List ℕ
+  pub rest : List ℕ
+  pub line : fault.line ≡ count + 1
+  pub bytes_are : bytes ≡ front ++ rest
+  pub lines : AreWholeLines count front
+  pub begins : BeginsSome IsText front
+  pub leaves : Breaks IsText front rest fault.what ⊎ (EndsEarly rest fault.what ⊎ GoesPast IsText front rest fault.what)
+  pub no_text : (said : Said) → ¬ (IsText bytes said)

@@ -1,0 +1,38 @@
+//! The end of a text.
+
+ghost use Rattle.std.specs.Prelude.{◌≡◌, ◌↔◌, IsTrue, IfOk, IfErr};
+ghost use Rattle.book_text.specs.Ending.{IsEnded, IsNoEnd};
+ghost use Rattle.book_text.specs.Grammar.{end_words};
+
+use book_base::{TextFault, What};
+use text_fields::{Lines, Words};
+
+/// The last line of a text, and nothing behind it.
+pub fn read_end(lines: &mut Lines) -> Result<(), TextFault>
+    ensures found { IfOk result (λ _. IsEnded lines.old lines.new) }
+    ensures refused { IfErr result (IsNoEnd lines.old) }
+{
+    let line = lines.number();
+    let mut words = Words::new(lines.line()?);
+    if !is_end(&mut words) {
+        return Err(TextFault {
+            line,
+            what: What::End,
+        });
+    }
+    if lines.at_end() {
+        Ok(())
+    } else {
+        Err(TextFault {
+            line: lines.number(),
+            what: What::Rest,
+        })
+    }
+}
+
+/// Whether the words are those of a text's last line.
+fn is_end(words: &mut Words) -> bool
+    ensures { IsTrue result ↔ (words.old ≡ end_words) }
+{
+    words.next() == Some(b"end".as_slice()) && words.next().is_none()
+}
