@@ -1,0 +1,3 @@
+pub mod ReportRules
+pub mod Drafts
+pub mod Parts

@@ -1,0 +1,194 @@
+-- The lines of a report's text, one after the other: which are right, and which test the others fail.
+use Rattle.std.specs.Prelude.{◌≡◌, ◌≢◌, ℕ, ◌+◌, ◌-◌, ◌<◌, ◌≤◌, ◌^◌, ◌⊎◌, List, [], ◌∷◌, ◌++◌, length, map, take, drop, replicate, codes, Some, None, slice_index}
+use Rattle.std.specs.List.{flat_map}
+use Rattle.book_base.specs.declared.call.Call.{Call}
+use Rattle.book_base.specs.declared.call.Record.{Record}
+use Rattle.book_base.specs.declared.fault.BookFault.{BookFault}
+use Rattle.book_base.specs.declared.fault.TextFault.{TextFault}
+use Rattle.book_base.specs.declared.fault.What.{What}
+use Rattle.book_base.specs.declared.fault.What.TheVariants as what
+use Rattle.book_base.specs.declared.TheConstants.{MAX_CALLERS}
+use Rattle.book_base.specs.OperationWord.{IsOperationWord}
+use Rattle.book_base.specs.Cut.{Holds}
+use Rattle.book_base.specs.Book.{Page}
+use Rattle.book_base.specs.Refusal.{MayAnswer, FailsTest}
+use Rattle.seq_objects.specs.declared.kind.Kind.{Kind}
+use Rattle.seq_objects.specs.Words.{operation_words}
+use Rattle.seq_objects.specs.Replies.{reply_word}
+use Rattle.text_fields.specs.declared.version.Version.TheVariants.{Second}
+use Rattle.text_fields.specs.Lines.{Unread}
+use Rattle.text_fields.specs.Counts.{AreNumbers, pair_words, HasBadPair, HasWordBehindPairs, NoPairFirst}
+use Rattle.text_fields.specs.Faults.{Wanted, ALine, TheEnd, Rules, IsFirstFault, IsReadTo}
+use Rattle.text_fields.specs.Head.{HeadDue, TitleDue, ObjectDue, CallersDue, CountsDue, HeadRead, HeadPasses, HeadFails}
+use Rattle.text_fields.specs.Operations.{kind_operations}
+use Rattle.book_text.specs.CallLines.{place_words, all_calls, IsBehindOperation, IsBehindReply, LacksViewWord, view_test}
+use Rattle.book_text.specs.Grammar.{end_words}
+use Rattle.book_text.specs.BookRules.{whole_text}
+use Rattle.world_core.specs.Calls.{records_of}
+use Rattle.call_lines.specs.declared.line.LineEnd.{LineEnd}
+use Rattle.call_lines.specs.declared.line.LineEnd.TheVariants.{Pending, Unchecked, Delivered, Error}
+use Rattle.call_lines.specs.declared.line.Line.{Line}
+use Rattle.call_lines.specs.Lines.{reached_of, line_at, seen_in, seen_at, delivered_in}
+use Rattle.client_scripts.specs.ScriptRules.{grouped, IsNamedCall}
+use Rattle.reports.specs.Findings.{Findings}
+use Rattle.reports.specs.Grammar.{line_words}
+
+-- ---- what the lines so far say
+
+-- The page of a caller that has so many calls, of which these have their lines: the others have the operation 0 and no answer.
+abbrev pub part_page : ℕ → List Line → Page
+part_page count own = record {
+  operations = map (λ line. line.op) own ++ replicate (count - length own) 0;
+  records = flat_map (λ line. records_of (reached_of line.end)) own;
+}
+
+-- The book of the lines so far, which stand one behind the other, for callers with these numbers of calls.
+abbrev pub book_so_far : List ℕ → List Line → List Page
+book_so_far [] told = []
+book_so_far (count ∷ counts) told = part_page count (take count told) ∷ book_so_far counts (drop count told)
+
+-- ---- what the words of a line say
+
+-- a cut of so many callers, as texts can have it
+abbrev pub IsCut : ℕ → List ℕ → Type 0
+IsCut n cut = (length cut ≡ n) × AreNumbers cut
+
+-- a record of so many callers, as texts can have it
+abbrev pub IsAnswer : ℕ → Record → Type 0
+IsAnswer n r = (r.reply < 2 ^ 64) × IsCut n r.view
+
+-- the end of a line, as texts of so many callers can have it
+abbrev pub IsFormed : ℕ → LineEnd → Type 0
+IsFormed n Pending = Unit {0}
+IsFormed n (Unchecked r) = IsAnswer n r
+IsFormed n (Delivered r cut) = IsAnswer n r × IsCut n cut
+IsFormed n (Error r cut) = IsAnswer n r × IsCut n cut
+
+-- the words say this line of the call
+pub record SaysLine (kind : Kind) (n : ℕ) (call : Call) (words : List (List ℕ)) (line : Line) : Type 0 where
+  pub named : IsNamedCall call
+  pub few : n ≤ MAX_CALLERS
+  pub has : IsOperationWord line.op
+  pub formed : IsFormed n line.end
+  pub text : words ≡ line_words kind call line
+
+-- behind the reply the line has this view, and behind it these words, which begin with no pair
+pub record IsBehindView (kind : Kind) (n : ℕ) (call : Call) (words : List (List ℕ)) (view : List ℕ) (behind : List (List ℕ)) : Type 0 where
+  pub formed : IsCut n view
+  pub plain : NoPairFirst behind
+  pub text : IsBehindReply (kind_operations Second kind) call words (codes "view" ∷ (pair_words 0 view ++ behind))
+
+-- the words begin with a verdict, and these stand behind it
+abbrev pub BeginAsVerdict : List (List ℕ) → List (List ℕ) → Type 0
+BeginAsVerdict words behind = (words ≡ codes "ok" ∷ codes "seen" ∷ behind) ⊎ (words ≡ codes "error" ∷ codes "seen" ∷ behind)
+
+-- ---- how a line fits those before it
+
+-- the call has a line among these, which is pending
+abbrev pub IsPendingAt : List (List Line) → Call → Type 0
+IsPendingAt lines call = (line : Line) × (line_at lines call ≡ Some line) × (line.end ≡ Pending)
+
+-- A seen cut of a call goes too far, or not far enough: a count is above the calls of its caller, or above the number of an earlier
+-- pending line of that caller, or the cut doesn't hold the call itself.
+abbrev pub IsWrongCut : List ℕ → List (List Line) → Call → List ℕ → Type 0
+IsWrongCut counts lines call cut =
+    ((j : ℕ) × (slice_index counts j < slice_index cut j))
+    ⊎ (((other : Call) × IsPendingAt lines other × Holds cut other) ⊎ (slice_index cut call.caller ≤ call.number))
+
+-- an earlier line's seen cut holds this call
+abbrev pub IsSeenBefore : List (List Line) → Call → Type 0
+IsSeenBefore lines call = (other : Call) × (cut : List ℕ) × (seen_at lines other ≡ Some cut) × Holds cut call
+
+-- the line isn't delivered, and its caller has a further one
+abbrev pub EndsTooEarly : List ℕ → Call → Line → Type 0
+EndsTooEarly counts call line = (delivered_in line.end ≡ None) × (call.number + 1 < slice_index counts call.caller)
+
+-- a line fits the lines before it
+pub record Fits (counts : List ℕ) (told : List Line) (call : Call) (line : Line) : Type 0 where
+  pub view : (r : Record) → records_of (reached_of line.end) ≡ r ∷ [] → MayAnswer (book_so_far counts told) call.caller r.view
+  pub seen : (cut : List ℕ) → seen_in line.end ≡ Some cut → ¬ (IsWrongCut counts (grouped counts told) call cut)
+  pub pending : line.end ≡ Pending → ¬ (IsSeenBefore (grouped counts told) call)
+  pub last : ¬ (EndsTooEarly counts call line)
+
+-- ---- the tests of a line
+
+-- A line for this call fails a test, behind lines that say these.
+abbrev pub LineFails : Kind → List ℕ → List Line → Call → List (List ℕ) → What → Type 0
+-- it doesn't begin with the caller and the number that are due
+LineFails kind counts told call words what.Place = (behind : List (List ℕ)) → words ≢ place_words call ++ behind
+-- the next words are no operation
+LineFails kind counts told call words what.Op = (behind : List (List ℕ)) × (words ≡ place_words call ++ behind)
+    × ((op : ℕ) (others : List (List ℕ)) → IsOperationWord op → behind ≢ operation_words kind op ++ others)
+-- the words behind the operation begin with no reply, and aren't 'pending' alone
+LineFails kind counts told call words what.Reply = (behind : List (List ℕ)) × IsBehindOperation (kind_operations Second kind) call words behind × (behind ≢ codes "pending" ∷ [])
+    × ((reply : ℕ) (others : List (List ℕ)) → reply < 2 ^ 64 → behind ≢ reply_word reply ∷ others)
+-- the next words are no view: the next isn't 'view', or of the pair words behind it one is no pair, or its caller doesn't rise
+LineFails kind counts told call words what.View = (behind : List (List ℕ)) × IsBehindReply (kind_operations Second kind) call words behind
+    × (LacksViewWord behind ⊎ ((pairs : List (List ℕ)) × (behind ≡ codes "view" ∷ pairs) × HasBadPair (length counts) 0 pairs))
+-- the words behind the view are none of the three forms
+LineFails kind counts told call words what.Mark = (view : List ℕ) × (behind : List (List ℕ)) × IsBehindView kind (length counts) call words view behind
+    × (behind ≢ codes "unchecked" ∷ []) × ((others : List (List ℕ)) → ¬ (BeginAsVerdict behind others))
+-- the words behind 'seen' are no cut; or the seen cut is wrong; or the line is pending, and an earlier seen cut holds its call
+LineFails kind counts told call words what.Seen =
+    ((view : List ℕ) × (behind : List (List ℕ)) × (pairs : List (List ℕ)) × IsBehindView kind (length counts) call words view behind × BeginAsVerdict behind pairs
+    × (HasBadPair (length counts) 0 pairs ⊎ HasWordBehindPairs pairs))
+    ⊎ (((line : Line) × (cut : List ℕ) × SaysLine kind (length counts) call words line × (seen_in line.end ≡ Some cut) × IsWrongCut counts (grouped counts told) call cut)
+    ⊎ ((line : Line) × SaysLine kind (length counts) call words line × (line.end ≡ Pending) × IsSeenBefore (grouped counts told) call))
+-- it isn't delivered, and its caller has a further line
+LineFails kind counts told call words what.Last = (line : Line) × SaysLine kind (length counts) call words line × EndsTooEarly counts call line
+-- it has a view that the book of the lines before it refuses
+LineFails kind counts told call words name = (view : List ℕ) × (behind : List (List ℕ)) × (fault : BookFault) × IsBehindView kind (length counts) call words view behind
+    × (view_test fault ≡ Some name) × FailsTest (book_so_far counts told) call.caller view fault
+
+-- ---- the rules
+
+-- what is due in the text of a report, with what the lines before say
+pub data ReportDue : Type 0 where
+  InHead : HeadDue → ReportDue
+  -- the lines of these calls, behind those that say these lines, for callers with these numbers of calls
+  InLines : Kind → List ℕ → List Line → List Call → ReportDue
+  AtEnd : Findings → ReportDue
+
+-- Behind the head come the lines of the calls.
+abbrev pub behind_head : HeadDue → ReportDue
+behind_head TitleDue = InHead TitleDue
+behind_head ObjectDue = InHead ObjectDue
+behind_head (CallersDue kind) = InHead (CallersDue kind)
+behind_head (CountsDue kind n) = InHead (CountsDue kind n)
+behind_head (HeadRead kind counts) = InLines kind counts [] (all_calls 0 counts)
+
+-- the right lines of a report's text
+abbrev pub ReportPasses : ReportDue → List (List ℕ) → ReportDue → Type 0
+ReportPasses (InHead due) words after = (next : HeadDue) × HeadPasses Second (codes "report") due words next × (after ≡ behind_head next)
+ReportPasses (InLines kind counts told []) words after = (words ≡ end_words) × (after ≡ AtEnd (record { kind = kind; lines = grouped counts told }))
+ReportPasses (InLines kind counts told (call ∷ calls)) words after = (line : Line) × SaysLine kind (length counts) call words line × Fits counts told call line × (after ≡ InLines kind counts (told ++ line ∷ []) calls)
+ReportPasses (AtEnd findings) words after = ⊥
+
+-- the tests of the lines of a report's text
+abbrev pub ReportFails : ReportDue → List (List ℕ) → What → Type 0
+ReportFails (InHead due) words name = HeadFails Second (codes "report") due words name
+ReportFails (InLines kind counts told []) words name = (name ≡ what.End) × (words ≢ end_words)
+ReportFails (InLines kind counts told (call ∷ calls)) words name = LineFails kind counts told call words name
+ReportFails (AtEnd findings) words name = ⊥
+
+-- what is wanted in the text of a report
+abbrev pub report_wanted : ReportDue → Wanted
+report_wanted (InHead due) = ALine
+report_wanted (InLines kind counts told calls) = ALine
+report_wanted (AtEnd findings) = TheEnd
+
+-- the rules of a report's text
+abbrev pub report_rules : Rules ReportDue
+report_rules = record { Passes = ReportPasses; Fails = ReportFails; wanted = report_wanted }
+
+-- The first fault of bytes that are to be a report's text.
+abbrev pub IsFirstReportFault : List ℕ → TextFault → Type 0
+IsFirstReportFault bytes fault = IsFirstFault report_rules (InHead TitleDue) (whole_text bytes) fault
+
+-- The bytes are the text of the report that says this: right lines from the title to the end of the bytes.
+abbrev pub IsReportText : List ℕ → Findings → Type 0
+IsReportText bytes findings = (left : Unread) × IsReadTo report_rules (InHead TitleDue) (whole_text bytes) (AtEnd findings) left
+
+-- The bytes are the text of no report.
+abbrev pub IsNoReportText : List ℕ → Type 0
+IsNoReportText bytes = (findings : Findings) → ¬ (IsReportText bytes findings)

@@ -1,0 +1,5 @@
+pub mod Filling
+pub mod Errors
+pub mod FirstErrors
+pub mod Sizes
+pub mod Worked

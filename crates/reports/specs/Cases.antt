@@ -1,0 +1,52 @@
+-- Worked reports: the lines of three callers with all four ends, and lines that are none of a report.
+use Rattle.std.specs.Prelude.{◌^◌, List, [], ◌∷◌}
+use Rattle.book_base.specs.Book.{Page}
+use Rattle.seq_objects.specs.declared.kind.Kind.TheVariants.{Queue}
+use Rattle.call_lines.specs.declared.line.Line.{Line}
+use Rattle.call_lines.specs.Cases.{answer, pending, unchecked, delivered, failed, first, second, page, worked_lines}
+use Rattle.reports.specs.Findings.{Findings}
+
+-- What a queue's callers found.
+abbrev pub of_queue : List (List Line) → Findings
+of_queue lines = record { kind = Queue; lines = lines }
+
+abbrev pub worked : Findings
+worked = of_queue worked_lines
+
+-- The book that the error of the second caller saw: its own record and the first caller's, and the two calls that their views hold.
+abbrev pub worked_witness : List Page
+worked_witness = page (5 ∷ []) (first ∷ []) ∷ page (6 ∷ []) (second ∷ []) ∷ page [] [] ∷ []
+
+-- The first caller goes on behind a call that is pending, that wasn't judged, or that is an error.
+abbrev pub behind_pending : List (List Line)
+behind_pending = (pending 5 ∷ pending 7 ∷ []) ∷ []
+
+abbrev pub behind_unchecked : List (List Line)
+behind_unchecked = (unchecked 5 (answer 50 (1 ∷ [])) ∷ pending 7 ∷ []) ∷ []
+
+abbrev pub behind_error : List (List Line)
+behind_error = (failed 5 (answer 50 (1 ∷ [])) (1 ∷ []) ∷ pending 7 ∷ []) ∷ []
+
+-- Its call saw a cut without itself; one of two callers; and one with a record more than there are.
+abbrev pub own_unseen : List (List Line)
+own_unseen = (delivered 5 (answer 50 (1 ∷ [])) (0 ∷ []) ∷ []) ∷ []
+
+abbrev pub of_two_callers : List (List Line)
+of_two_callers = (delivered 5 (answer 50 (1 ∷ [])) (1 ∷ 0 ∷ []) ∷ []) ∷ []
+
+abbrev pub one_too_many : List (List Line)
+one_too_many = (delivered 5 (answer 50 (1 ∷ [])) (2 ∷ []) ∷ pending 7 ∷ []) ∷ []
+
+-- An operation and a reply that are no words; and two views of which neither is within the other.
+abbrev pub no_operation : List (List Line)
+no_operation = (pending (2 ^ 128) ∷ []) ∷ []
+
+abbrev pub no_reply : List (List Line)
+no_reply = (unchecked 5 (answer (2 ^ 64) (1 ∷ [])) ∷ []) ∷ []
+
+abbrev pub crossing : List (List Line)
+crossing = (unchecked 5 (answer 50 (1 ∷ 0 ∷ [])) ∷ []) ∷ (unchecked 6 (answer 60 (0 ∷ 1 ∷ [])) ∷ []) ∷ []
+
+-- Both callers' calls are errors.
+abbrev pub two_errors : List (List Line)
+two_errors = (failed 5 (answer 50 (1 ∷ 1 ∷ [])) (1 ∷ 0 ∷ []) ∷ []) ∷ (failed 6 (answer 60 (1 ∷ 1 ∷ [])) (1 ∷ 1 ∷ []) ∷ []) ∷ []

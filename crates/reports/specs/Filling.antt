@@ -1,0 +1,30 @@
+-- A book into which lines are put one by one.
+use Rattle.std.specs.Prelude.{◌≡◌, ℕ, List, ◌++◌, length, take, drop, Option, Some, slice_get}
+use Rattle.book_base.specs.declared.call.Call.{Call}
+use Rattle.book_base.specs.declared.call.Record.{Record}
+use Rattle.book_base.specs.Book.{Page, unanswered_book}
+use Rattle.book_base.specs.Refusal.{MayAnswer}
+use Rattle.book_text.specs.CallLines.{with_line}
+use Rattle.world_core.specs.Calls.{records_of}
+use Rattle.call_lines.specs.declared.line.LineEnd.{LineEnd}
+use Rattle.call_lines.specs.declared.line.Line.{Line}
+use Rattle.call_lines.specs.Lines.{reached_of, book_of_lines}
+use Rattle.reports.specs.Findings.{sizes}
+
+-- the record that the end of a line tells, where it tells one
+abbrev pub answer_in : LineEnd → Option Record
+answer_in end = slice_get (records_of (reached_of end)) 0
+
+-- the book with what the line of a call says
+abbrev pub with_line_of : List Page → Call → Line → List Page
+with_line_of book call line = with_line book call line.op (answer_in line.end)
+
+-- The book takes the record of a line, where the line has one.
+pub record MayTake (book : List Page) (call : Call) (line : Line) : Type 0 where
+  pub wide : (r : Record) → answer_in line.end ≡ Some r → length r.view ≡ length book
+  pub may : (r : Record) → answer_in line.end ≡ Some r → MayAnswer book call.caller r.view
+
+-- The book of all lines, of which those of the first so many callers are put in: each call of another one has the operation word 0,
+-- and no answer.
+abbrev pub filled_to : ℕ → List (List Line) → List Page
+filled_to n lines = book_of_lines (take n lines) ++ unanswered_book (sizes (drop n lines))

@@ -1,0 +1,14 @@
+-- How a report lies in memory.
+use Rattle.std.specs.Prelude.{List, map}
+use Rattle.seq_objects.specs.declared.kind.Kind.{Kind}
+use Rattle.call_lines.specs.declared.line.Line.{Line}
+use Rattle.reports.specs.declared.report.Own.{Own}
+use Rattle.reports.specs.Findings.{Findings}
+
+-- the lines that each caller has
+abbrev pub lines_in : List Own → List (List Line)
+lines_in callers = map (λ own. own.lines.items) callers
+
+-- what a report says that holds these
+abbrev pub findings_in : Kind → List Own → Findings
+findings_in kind callers = record { kind = kind; lines = lines_in callers }

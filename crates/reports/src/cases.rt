@@ -1,0 +1,115 @@
+//! Worked cases: what the definitions say of lines that are written out.
+
+ghost use Rattle.std.specs.Prelude.{◌≡◌, ◌∷◌, [], true, replicate, IfOk};
+ghost use Rattle.std.specs.List.{list_any};
+ghost use Rattle.call_lines.specs.Lines.{any_error};
+ghost use Rattle.call_lines.specs.Cases.{call, pending, worked_lines};
+ghost use Rattle.reports.specs.Findings.{IsReport, IsFirstError, IsWitness};
+ghost use Rattle.reports.specs.ReportLayout.{lines_in};
+ghost use Rattle.reports.specs.Tally.{counts_of};
+ghost use Rattle.reports.specs.Cases.{of_queue, worked, worked_witness, behind_pending, behind_unchecked, behind_error, own_unseen, of_two_callers, one_too_many, no_operation, no_reply, crossing, two_errors};
+
+use crate::report::{Own, Report};
+use book_base::{Cut, NoMemory, Record};
+use call_lines::{Line, LineEnd};
+use seq_objects::Kind;
+use std::alloc::Global;
+
+/// Lines with all four ends are a report, of which the second caller's error has the witness.
+pub fn a_report_has_a_witness()
+    ensures report { IsReport worked }
+    ensures first { IsFirstError worked_lines (call 1 0) (1 ∷ 1 ∷ 0 ∷ []) }
+    ensures witness { IsWitness worked_lines worked_witness }
+    ensures any { list_any any_error worked_lines ≡ true }
+    ensures counts { counts_of worked_lines ≡ record { calls = 4; delivered = 1; errors = 1 } }
+{}
+
+/// Of two errors the earlier caller's is the first, whatever they saw.
+pub fn the_earlier_callers_error_is_first()
+    ensures first { IsFirstError two_errors (call 0 0) (1 ∷ 0 ∷ []) }
+    ensures second { ¬ IsFirstError two_errors (call 1 0) (1 ∷ 1 ∷ []) }
+    ensures counts { counts_of two_errors ≡ record { calls = 2; delivered = 0; errors = 2 } }
+{}
+
+/// Lines behind one that isn't delivered are no report, and neither are lines that saw what they
+/// can't have seen, or that no text can have.
+pub fn lines_that_are_no_report()
+    ensures behind_pending { ¬ IsReport (of_queue behind_pending) }
+    ensures behind_unchecked { ¬ IsReport (of_queue behind_unchecked) }
+    ensures behind_error { ¬ IsReport (of_queue behind_error) }
+    ensures own_unseen { ¬ IsReport (of_queue own_unseen) }
+    ensures of_two_callers { ¬ IsReport (of_queue of_two_callers) }
+    ensures one_too_many { ¬ IsReport (of_queue one_too_many) }
+    ensures no_operation { ¬ IsReport (of_queue no_operation) }
+    ensures no_reply { ¬ IsReport (of_queue no_reply) }
+    ensures crossing { ¬ IsReport (of_queue crossing) }
+    ensures no_callers { ¬ IsReport (of_queue []) }
+    ensures too_many_callers { ¬ IsReport (of_queue (replicate 17 [])) }
+    ensures too_many_calls { ¬ IsReport (of_queue (replicate 257 (pending 5) ∷ [])) }
+{}
+
+/// The worked report of three callers, whose lines have all four ends.
+pub fn worked_report(alloc: Global) -> Result<Report, NoMemory>
+    ensures { IfOk result (λ report. report ≡ worked) }
+{
+    Ok(Report::of_lines(Kind::Queue, worked_callers(alloc)?))
+}
+
+/// The cut of three callers with these counts.
+fn three(first: u64, second: u64, third: u64) -> Cut
+    ensures { result ≡ first ∷ second ∷ third ∷ [] }
+{
+    let mut cut = Cut::zero(3);
+    cut.set(0, first);
+    cut.set(1, second);
+    cut.set(2, third);
+    cut
+}
+
+/// A caller with these lines.
+fn own(alloc: Global, lines: &[Line]) -> Result<Own, NoMemory>
+    ensures { IfOk result (λ own. own.lines.items ≡ lines.now) }
+{
+    Ok(Own {
+        lines: Vec::from_slice(alloc, lines)?,
+    })
+}
+
+/// One call is delivered, one is an error, one wasn't judged, and one is under way.
+fn worked_callers(alloc: Global) -> Result<Vec<Own>, NoMemory>
+    ensures { IfOk result (λ callers. lines_in callers.items ≡ worked_lines) }
+{
+    let first = Record {
+        reply: 50,
+        view: three(1, 0, 0),
+    };
+    let second = Record {
+        reply: 61,
+        view: three(1, 1, 0),
+    };
+    let third = Record {
+        reply: 80,
+        view: three(1, 1, 1),
+    };
+    let delivered = Line {
+        op: 5,
+        end: LineEnd::Delivered(first, three(1, 0, 0)),
+    };
+    let pending = Line {
+        op: 7,
+        end: LineEnd::Pending,
+    };
+    let error = Line {
+        op: 6,
+        end: LineEnd::Error(second, three(1, 1, 0)),
+    };
+    let unchecked = Line {
+        op: 8,
+        end: LineEnd::Unchecked(third),
+    };
+    let mut callers = Vec::new(alloc);
+    callers.push(own(alloc, &[delivered, pending])?)?;
+    callers.push(own(alloc, &[error])?)?;
+    callers.push(own(alloc, &[unchecked])?)?;
+    Ok(callers)
+}

@@ -1,0 +1,15 @@
+//! What a run of all callers found: a report of their lines, and the books that it tells of.
+#![tactic(auto)]
+
+mod book;
+pub mod cases;
+mod counts;
+pub mod laws;
+mod report;
+mod witness;
+
+pub use counts::Counts;
+pub use report::{Own, Report};
+
+#[cfg(test)]
+mod tests;

@@ -1,0 +1,62 @@
+//! The witness of a report: the book that the first error saw.
+
+ghost use Rattle.std.specs.Prelude.{◌≡◌, false, IfOk, IfSome, IfNone};
+ghost use Rattle.call_lines.specs.Lines.{error_in, any_error};
+ghost use Rattle.reports.specs.Findings.{IsInBook, IsWitness, HasNoError, HasFirstError, HasFirstErrorIn};
+
+use crate::report::Report;
+use book_base::{Book, Cut, NoMemory};
+use call_lines::{Line, LineEnd};
+use std::alloc::Global;
+
+impl Report {
+    /// The book at what the first error line saw, by caller and then by number. There is none
+    /// exactly where no line is an error.
+    pub fn witness(&self, alloc: Global) -> Result<Option<Book>, NoMemory>
+        ensures found { IfOk result (λ found. IfSome found (IsWitness self.now.lines)) }
+        ensures none { IfOk result (λ found. IfNone found (HasNoError self.now.lines)) }
+    {
+        let Some(cut) = self.first_error() else {
+            return Ok(None);
+        };
+        let book = self.book(alloc)?;
+        Ok(Some(book.at(alloc, &cut)?))
+    }
+
+    /// What the first error line saw.
+    fn first_error(&self) -> Option<Cut>
+        ensures found { IfSome result (HasFirstError self.now.lines) }
+        ensures fits { IfSome result (IsInBook self.now.lines) }
+        ensures none { IfNone result (HasNoError self.now.lines) }
+    {
+        for caller in 0..self.callers() {
+            if let Some(cut) = first_error_in(self.lines_of(caller)) {
+                return Some(cut);
+            }
+        }
+        None
+    }
+}
+
+/// What the first error among a caller's lines saw.
+fn first_error_in(lines: &[Line]) -> Option<Cut>
+    ensures found { IfSome result (HasFirstErrorIn lines.now) }
+    ensures none { IfNone result (any_error lines.now ≡ false) }
+{
+    for line in lines {
+        if let Some(cut) = error_of(line.end) {
+            return Some(cut);
+        }
+    }
+    None
+}
+
+/// What an error line saw.
+fn error_of(end: LineEnd) -> Option<Cut>
+    ensures { result ≡ error_in end }
+{
+    match end {
+        LineEnd::Pending | LineEnd::Unchecked(_) | LineEnd::Delivered(_, _) => None,
+        LineEnd::Error(_, cut) => Some(cut),
+    }
+}
