@@ -1,0 +1,7 @@
+pub mod BookParts
+pub mod SharpCertificates
+pub mod Readings
+pub mod WrittenTexts
+pub mod ReadTexts
+pub mod PlaceLines
+pub mod FaultTexts

@@ -1,0 +1,49 @@
+-- Where bytes leave the texts of certificates: the first fault, said by what texts begin with.
+use Rattle.std.specs.Prelude.{◌≡◌, ◌≢◌, ◌⊎◌, ◌+◌, ℕ, List, [], ◌∷◌, ◌++◌, Some}
+use Rattle.book_base.specs.declared.call.Place.{Place}
+use Rattle.book_base.specs.declared.fault.TextFault.{TextFault}
+use Rattle.book_base.specs.declared.fault.What.{What}
+use Rattle.book_base.specs.declared.fault.What.TheVariants.{Cut, Rest}
+use Rattle.book_base.specs.Book.{Page}
+use Rattle.seq_objects.specs.declared.kind.Kind.{Kind}
+use Rattle.text_fields.specs.Lines.{cut_at}
+use Rattle.book_text.specs.Beginnings.{AreWholeLines, EndsEarly}
+use Rattle.certificate_text.specs.CertificateRules.{IsCertificateText, IsNoCertificateText}
+
+-- some text of a certificate begins with these bytes
+abbrev pub BeginsSomeText : List ℕ → Type 0
+BeginsSomeText front = (kind : Kind) × (book : List Page) × (order : List Place) × (more : List ℕ) × IsCertificateText (front ++ more) kind book order
+
+-- no text of a certificate begins with these bytes
+abbrev pub BeginsNoText : List ℕ → Type 0
+BeginsNoText front = (kind : Kind) (book : List Page) (order : List Place) (more : List ℕ) → ¬ (IsCertificateText (front ++ more) kind book order)
+
+-- Behind the whole lines in front stands a further whole line, with which no text of a certificate goes on.
+pub record BreaksText (front rest : List ℕ) (what : What) : Type 0 where
+  pub named : (what ≢ Cut) × (what ≢ Rest)
+  pub line : List ℕ
+  pub behind : List ℕ
+  pub whole : cut_at 10 rest ≡ Some (line, behind)
+  pub none : BeginsNoText (front ++ (line ++ 10 ∷ []))
+
+-- The whole lines in front are a certificate's text already, and bytes follow.
+pub record GoesOn (front rest : List ℕ) (what : What) : Type 0 where
+  pub named : what ≡ Rest
+  pub kind : Kind
+  pub book : List Page
+  pub order : List Place
+  pub text : IsCertificateText front kind book order
+  pub more : rest ≢ []
+
+-- A fault says where bytes leave the texts of certificates: some text begins with the lines before the fault's line, and none goes
+-- on with the fault's line, or that line isn't whole, or the lines before it are a whole text.
+pub record LeavesTexts (bytes : List ℕ) (fault : TextFault) : Type 0 where
+  pub count : ℕ
+  pub front : List ℕ
+  pub rest : List ℕ
+  pub line : fault.line ≡ count + 1
+  pub bytes_are : bytes ≡ front ++ rest
+  pub lines : AreWholeLines count front
+  pub begins : BeginsSomeText front
+  pub leaves : BreaksText front rest fault.what ⊎ (EndsEarly rest fault.what ⊎ GoesOn front rest fault.what)
+  pub no_text : IsNoCertificateText bytes

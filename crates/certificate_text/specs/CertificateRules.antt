@@ -1,0 +1,92 @@
+-- The lines of a certificate's text, one after the other: which are right, and which test the others fail.
+use Rattle.std.specs.Prelude.{◌≡◌, ◌≢◌, ℕ, ◌<◌, ◌^◌, ◌⊎◌, List, [], ◌∷◌, ◌++◌}
+use Rattle.book_base.specs.declared.call.Call.{Call}
+use Rattle.book_base.specs.declared.call.Place.{Place}
+use Rattle.book_base.specs.declared.fault.TextFault.{TextFault}
+use Rattle.book_base.specs.declared.fault.What.{What}
+use Rattle.book_base.specs.declared.fault.What.TheVariants as what
+use Rattle.book_base.specs.Book.{Page}
+use Rattle.seq_objects.specs.declared.kind.Kind.{Kind}
+use Rattle.seq_objects.specs.Replies.{reply_word}
+use Rattle.text_fields.specs.declared.version.Version.TheVariants.{Second}
+use Rattle.text_fields.specs.Lines.{Unread}
+use Rattle.text_fields.specs.Faults.{Wanted, ALine, TheEnd, Rules, IsFirstFault, IsReadTo}
+use Rattle.text_fields.specs.Head.{TitleDue}
+use Rattle.book_text.specs.CallLines.{place_words}
+use Rattle.book_text.specs.Grammar.{end_words}
+use Rattle.book_text.specs.BookRules.{BookDue, InHead, InCalls, AtEnd, BookPasses, BookFails, whole_text}
+use Rattle.certificate_text.specs.Grammar.{order_words, place_line, IsNamed, IsPlace}
+
+-- what is due in the text of a certificate, with what the lines before say
+pub data CertificateDue : Type 0 where
+  InBook : BookDue → CertificateDue
+  OrderDue : Kind → List Page → CertificateDue
+  InPlaces : Kind → List Page → List Place → CertificateDue
+  AllRead : Kind → List Page → List Place → CertificateDue
+
+-- Behind the end of the book comes the title of the order.
+abbrev pub behind_book : BookDue → CertificateDue
+behind_book (InHead due) = InBook (InHead due)
+behind_book (InCalls kind book calls) = InBook (InCalls kind book calls)
+behind_book (AtEnd kind book) = OrderDue kind book
+
+-- ---- the lines of places
+
+-- the line of a place
+pub record IsPlaceLine (words : List (List ℕ)) (place : Place) : Type 0 where
+  pub may : IsPlace place
+  pub text : words ≡ place_line place
+
+-- the tests of a line behind the title of the order
+abbrev pub PlaceFails : List (List ℕ) → What → Type 0
+-- it isn't the end, and doesn't begin with a caller and a number
+PlaceFails words what.Place = (words ≢ end_words) × ((call : Call) (behind : List (List ℕ)) → IsNamed call → words ≢ place_words call ++ behind)
+-- the words behind a caller and a number aren't exactly one reply
+PlaceFails words what.Reply = (call : Call) × (behind : List (List ℕ)) × IsNamed call × (words ≡ place_words call ++ behind)
+    × ((reply : ℕ) → reply < 2 ^ 64 → behind ≢ reply_word reply ∷ [])
+PlaceFails words _ = ⊥
+
+-- ---- the rules
+
+-- the right lines of a certificate's text
+abbrev pub CertificatePasses : CertificateDue → List (List ℕ) → CertificateDue → Type 0
+CertificatePasses (InBook due) words after = (next : BookDue) × BookPasses Second due words next × (after ≡ behind_book next)
+CertificatePasses (OrderDue kind book) words after = (words ≡ order_words) × (after ≡ InPlaces kind book [])
+CertificatePasses (InPlaces kind book order) words after =
+    ((words ≡ end_words) × (after ≡ AllRead kind book order))
+    ⊎ ((place : Place) × IsPlaceLine words place × (after ≡ InPlaces kind book (order ++ place ∷ [])))
+CertificatePasses (AllRead kind book order) words after = ⊥
+
+-- The tests of the lines of a certificate's text: those of a book's up to its end, then the title of the order, and then the places.
+abbrev pub CertificateFails : CertificateDue → List (List ℕ) → What → Type 0
+CertificateFails (InBook due) words name = BookFails Second due words name
+CertificateFails (OrderDue kind book) words name = (name ≡ what.Head) × (words ≢ order_words)
+CertificateFails (InPlaces kind book order) words name = PlaceFails words name
+CertificateFails (AllRead kind book order) words name = ⊥
+
+-- what is wanted in the text of a certificate
+abbrev pub certificate_wanted : CertificateDue → Wanted
+certificate_wanted (InBook due) = ALine
+certificate_wanted (OrderDue kind book) = ALine
+certificate_wanted (InPlaces kind book order) = ALine
+certificate_wanted (AllRead kind book order) = TheEnd
+
+-- the rules of a certificate's text
+abbrev pub certificate_rules : Rules CertificateDue
+certificate_rules = record { Passes = CertificatePasses; Fails = CertificateFails; wanted = certificate_wanted }
+
+-- before the first line
+abbrev pub nothing_read : CertificateDue
+nothing_read = InBook (InHead TitleDue)
+
+-- The first fault of bytes that are to be a certificate's text.
+abbrev pub IsFirstCertificateFault : List ℕ → TextFault → Type 0
+IsFirstCertificateFault bytes fault = IsFirstFault certificate_rules nothing_read (whole_text bytes) fault
+
+-- The bytes are the text of this certificate: right lines from the title to the end of the bytes.
+abbrev pub IsCertificateText : List ℕ → Kind → List Page → List Place → Type 0
+IsCertificateText bytes kind book order = (left : Unread) × IsReadTo certificate_rules nothing_read (whole_text bytes) (AllRead kind book order) left
+
+-- The bytes are the text of no certificate.
+abbrev pub IsNoCertificateText : List ℕ → Type 0
+IsNoCertificateText bytes = (kind : Kind) (book : List Page) (order : List Place) → ¬ (IsCertificateText bytes kind book order)

@@ -1,0 +1,5 @@
+pub mod Grammar
+pub mod CertificateRules
+pub mod Reading
+pub mod Beginnings
+pub mod Laws

@@ -1,0 +1,66 @@
+-- The parts of a certificate's text as they are read one behind the other.
+use Rattle.std.specs.Prelude.{◌≡◌, ℕ, ◌<◌, ◌^◌, List, [], ◌∷◌, Option, Some, None}
+use Rattle.book_base.specs.declared.call.Place.{Place}
+use Rattle.book_base.specs.declared.fault.TextFault.{TextFault}
+use Rattle.book_base.specs.declared.fault.ReadFault.{ReadFault}
+use Rattle.book_base.specs.Book.{Page}
+use Rattle.seq_objects.specs.declared.kind.Kind.{Kind}
+use Rattle.seq_objects.specs.Replies.{reply_word}
+use Rattle.text_fields.specs.Lines.{Unread}
+use Rattle.text_fields.specs.Faults.{GoesTo, IsFirstFault, StopsFor}
+use Rattle.book_text.specs.Grammar.{end_words}
+use Rattle.book_text.specs.BookRules.{InCalls}
+use Rattle.certificate_text.specs.CertificateRules.{CertificateDue, InBook, OrderDue, InPlaces, AllRead, IsPlaceLine, certificate_rules, nothing_read}
+
+-- the text goes on from where this is due to where that is due, and leaves the rest unread
+abbrev pub Goes : CertificateDue → Unread → CertificateDue → Unread → Type 0
+Goes due text after left = GoesTo certificate_rules due text after left
+
+-- a reader stops for want of memory, or with the first fault
+abbrev pub Stops : CertificateDue → Unread → ReadFault → Type 0
+Stops due text fault = StopsFor certificate_rules due text fault
+
+-- ---- the book
+
+-- the text begins with the lines of this book, up to its end
+abbrev pub IsBookRead : Unread → Kind → List Page → Unread → Type 0
+IsBookRead text kind book left = Goes nothing_read text (OrderDue kind book) left
+
+-- the text begins with the end of a book whose calls are read
+abbrev pub IsBookEnd : Unread → Unread → Type 0
+IsBookEnd text left = (kind : Kind) (book : List Page) → Goes (InBook (InCalls kind book [])) text (OrderDue kind book) left
+
+-- it doesn't
+abbrev pub IsNoBookEnd : Unread → TextFault → Type 0
+IsNoBookEnd text fault = (kind : Kind) (book : List Page) → IsFirstFault certificate_rules (InBook (InCalls kind book [])) text fault
+
+-- ---- the order
+
+-- the text begins with the title of the order
+abbrev pub IsTitle : Unread → Unread → Type 0
+IsTitle text left = (kind : Kind) (book : List Page) → Goes (OrderDue kind book) text (InPlaces kind book []) left
+
+-- it doesn't
+abbrev pub IsNoTitle : Unread → TextFault → Type 0
+IsNoTitle text fault = (kind : Kind) (book : List Page) → IsFirstFault certificate_rules (OrderDue kind book) text fault
+
+-- the words behind a caller and a number are exactly this reply
+abbrev pub IsOneReply : List (List ℕ) → ℕ → Type 0
+IsOneReply words reply = (reply < 2 ^ 64) × (words ≡ reply_word reply ∷ [])
+
+-- what a line behind the title of the order says: a place, or that there are no more
+abbrev pub SaysPlace : List (List ℕ) → Option Place → Type 0
+SaysPlace words None = words ≡ end_words
+SaysPlace words (Some place) = IsPlaceLine words place
+
+-- the text begins with the lines of these places and the end
+abbrev pub ArePlaces : Unread → List Place → Unread → Type 0
+ArePlaces text order left = (kind : Kind) (book : List Page) → Goes (InPlaces kind book []) text (AllRead kind book order) left
+
+-- why the lines of places aren't read
+abbrev pub AreNoPlaces : Unread → ReadFault → Type 0
+AreNoPlaces text fault = (kind : Kind) (book : List Page) → Stops (InPlaces kind book []) text fault
+
+-- bytes stand behind the end
+abbrev pub IsRest : Unread → TextFault → Type 0
+IsRest text fault = (kind : Kind) (book : List Page) (order : List Place) → IsFirstFault certificate_rules (AllRead kind book order) text fault

@@ -1,0 +1,48 @@
+//! The lines of a book that others follow.
+
+ghost use Rattle.std.specs.Prelude.{◌≡◌, ◌↔◌, IsTrue, IfOk, IfErr};
+ghost use Rattle.book_text.specs.Grammar.{end_words};
+ghost use Rattle.certificate_text.specs.CertificateRules.{nothing_read};
+ghost use Rattle.certificate_text.specs.Reading.{Stops, IsBookRead, IsBookEnd, IsNoBookEnd};
+
+use book_base::{Book, ReadFault, TextFault, What};
+use book_text::read_calls;
+use seq_objects::Kind;
+use std::alloc::Global;
+use text_fields::{Lines, Words, read_head};
+
+/// The book that the lines begin with, up to its end, and the kind of its object; the lines behind
+/// them stay.
+pub(crate) fn read_book_lines(alloc: Global, lines: &mut Lines) -> Result<(Kind, Book), ReadFault>
+    ensures found { IfOk result (λ (kind, book). IsBookRead lines.old kind book lines.new) }
+    ensures refused { IfErr result (Stops nothing_read lines.old) }
+{
+    let head = read_head(lines, b"book")?;
+    let book = read_calls(alloc, lines, head.n, &head.calls, &head.kind)?;
+    read_book_end(lines)?;
+    Ok((head.kind, book))
+}
+
+/// The line behind a book's calls.
+fn read_book_end(lines: &mut Lines) -> Result<(), TextFault>
+    ensures found { IfOk result (λ _. IsBookEnd lines.old lines.new) }
+    ensures refused { IfErr result (IsNoBookEnd lines.old) }
+{
+    let line = lines.number();
+    let mut words = Words::new(lines.line()?);
+    if is_end(&mut words) {
+        Ok(())
+    } else {
+        Err(TextFault {
+            line,
+            what: What::End,
+        })
+    }
+}
+
+/// Whether the words are those of the last line of a book, or of an order.
+pub(crate) fn is_end(words: &mut Words) -> bool
+    ensures { IsTrue result ↔ (words.old ≡ end_words) }
+{
+    words.next() == Some(b"end".as_slice()) && words.next().is_none()
+}

@@ -1,0 +1,25 @@
+//! The judge of a given order beside the search for one.
+
+ghost use Rattle.std.specs.Prelude.{◌↔◌, IsTrue, IfOk};
+ghost use Rattle.book_base.specs.Order.{HasLegalOrder};
+
+use book_base::{Book, NoMemory, SeqObject};
+use frontier_check::{Verdict, check};
+use order_check::check_order;
+use std::alloc::Global;
+
+/// Whether a book has an order that `check` finds and `check_order` accepts. It has one exactly
+/// where it has a legal order: what `check` calls legal, `check_order` accepts.
+pub fn has_accepted_order<S: SeqObject>(
+    alloc: Global,
+    object: &S,
+    book: &Book,
+) -> Result<bool, NoMemory>
+    ensures { IfOk result (λ found.
+        IsTrue found ↔ HasLegalOrder (S.init object.now) (S.next object.now) book.now) }
+{
+    match check(alloc, object, book)? {
+        Verdict::Legal(order) => Ok(check_order(alloc, object, book, &order)?.is_ok()),
+        Verdict::Illegal => Ok(false),
+    }
+}
