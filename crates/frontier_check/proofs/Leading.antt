@@ -147,13 +147,13 @@ leads-reach book next cut list (first ∷ levels) to_cut to_list grows wide with
     }
 
 -- counts within those of a small book sum up to no more than it may have
-sum_small : (book : List Page) (counts : List ℕ) → IsSmall book → length counts ≡ length book → ((i : ℕ) → get_or counts i 0 ≤ calls_of book i) → sum counts ≤ MAX_CALLERS * MAX_CALLS
+pub sum_small : (book : List Page) (counts : List ℕ) → IsSmall book → length counts ≡ length book → ((i : ℕ) → get_or counts i 0 ≤ calls_of book i) → sum counts ≤ MAX_CALLERS * MAX_CALLS
 sum_small book counts small wide within =
     let few : All (λ (n : ℕ). n ≤ MAX_CALLS) counts = All-from_get_or (λ (n : ℕ). n ≤ MAX_CALLS) counts 0 (λ (i : ℕ) (lt : i < length counts). let a = within i in let b = small.calls i in omega (arith, a, b)) in
     let callers = small.callers in
     omega (arith, sum_by-le (λ (n : ℕ). n) MAX_CALLS counts few)
 
-sum-zeros : (n : ℕ) → sum (replicate n 0) ≡ 0
+pub sum-zeros : (n : ℕ) → sum (replicate n 0) ≡ 0
 sum-zeros n = let all : All (λ (m : ℕ). m ≤ 0) (replicate n 0) = All-from_get_or (λ (m : ℕ). m ≤ 0) (replicate n 0) 0 (λ (i : ℕ) (lt : i < length (replicate n 0)). omega (arith, get_or-replicate_default {X = ℕ} n i 0)) in
     omega (arith, sum_by-le (λ (m : ℕ). m) 0 (replicate n 0) all)
 

@@ -11,7 +11,9 @@ mod walk;
 
 pub use book_base::Place;
 pub use guide::Guide;
+pub use memo::Memo;
 pub use verdict::{Verdict, check, check_from};
+pub use walk::load;
 
 #[cfg(test)]
 mod tests;

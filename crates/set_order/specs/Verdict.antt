@@ -1,0 +1,11 @@
+-- What the search for a legal set order answers.
+use Rattle.std.specs.Prelude.{ℕ, List, Option}
+use Rattle.book_base.specs.Book.{Page}
+use Rattle.set_order.specs.declared.verdict.SetVerdict.{SetVerdict}
+use Rattle.set_order.specs.declared.verdict.SetVerdict.TheVariants.{Legal, Illegal}
+use Rattle.set_order.specs.SetOrder.{IsLegalSetOrder, HasLegalSetOrder}
+
+-- The verdict on a book is right: it carries a legal set order, or there is none.
+abbrev pub IsRight : List ℕ → (List ℕ → List ℕ → Option (List ℕ × List ℕ)) → List Page → SetVerdict → Type 0
+IsRight init served book (Legal order) = IsLegalSetOrder init served book order.items
+IsRight init served book Illegal = HasLegalSetOrder init served book → ⊥

@@ -1,0 +1,134 @@
+ghost use Rattle.std.specs.Prelude.{◌≡◌, ◌↔◌, ◌+◌, ◌^◌, ◌<◌, [], ◌∷◌, IsTrue};
+ghost use Rattle.set_order.specs.Joins.{is_join, mask_of, with_join, with_joins, joins_some, join_reply, served_joins, HasMask};
+ghost use Rattle.set_order.specs.ServingLaws.{length-one, served_joins-grows, served_joins-replies};
+
+use crate::set_object::SetObject;
+use book_base::{BAD, OpWord, State};
+use seq_objects::value_reply;
+
+// The operation word that joins the number 0: those of the numbers above it follow.
+const FIRST_JOIN: OpWord = 1 << 32;
+
+// How many numbers may be joined.
+const JOINS: OpWord = 32;
+
+// The masks are below this number.
+const MASKS: u64 = 1 << 32;
+
+// The tag of a reply word that gives a mask.
+const VALUE_TAG: u64 = 2;
+
+/// A set of numbers below 32, to which each operation joins one. Operations that are served at once see
+/// one another: each replies with all numbers that are joined then (Neiger 1994).
+#[derive(Clone, Copy, Debug)]
+pub struct Joins;
+
+impl Joins {
+    /// The operation that joins a number below 32.
+    pub fn join(number: u32) -> OpWord
+        requires { number < 32 }
+        ensures { result ≡ 2 ^ 32 + number }
+    {
+        FIRST_JOIN + OpWord::from(number)
+    }
+
+    /// Whether an operation word joins a number.
+    pub fn knows(op: OpWord) -> bool
+        ensures { result ≡ is_join op }
+    {
+        op >= FIRST_JOIN && op < FIRST_JOIN + JOINS
+    }
+}
+
+impl SetObject for Joins {
+    ghost init = { λ _. 0 ∷ [] };
+
+    ghost served = { λ _. served_joins };
+
+    fn reset(&self, state: &mut State) {
+        state.clear();
+        state.push(0);
+    }
+
+    fn serve(&self, state: &mut State, ops: &[OpWord], replies: &mut State) -> bool {
+        let mask = with_joins(mask(state), ops);
+        if joins_some(ops) {
+            state.clear();
+            state.push(mask);
+        }
+        replies.clear();
+        for op in ops {
+            replies.push(join_reply(mask, *op));
+        }
+        true
+    }
+
+    /// Numbers stay joined: so a reply that an operation may still get has all that are joined, and its own.
+    fn may_reply(&self, state: &State, op: OpWord, reply: u64) -> bool {
+        if Joins::knows(op) {
+            has_mask(reply, with_join(mask(state), op))
+        } else {
+            reply == BAD
+        }
+    }
+
+    ghost begins_small = { λ _. length-one };
+
+    ghost grows_by_each = { λ _. served_joins-grows };
+
+    ghost replies_to_each = { λ _. served_joins-replies };
+}
+
+// The mask of the numbers that a list says are joined.
+fn mask(state: &State) -> u64
+    ensures { result ≡ mask_of state.now.words }
+{
+    if state.is_empty() {
+        0
+    } else {
+        state.get(0) % MASKS
+    }
+}
+
+// The mask with the number that an operation joins, where it joins one.
+fn with_join(mask: u64, op: OpWord) -> u64
+    ensures { result ≡ with_join mask op }
+{
+    if Joins::knows(op) {
+        mask | 1 << (op - FIRST_JOIN)
+    } else {
+        mask
+    }
+}
+
+// The mask with the numbers that operations join.
+fn with_joins(mask: u64, ops: &[OpWord]) -> u64
+    ensures { result ≡ with_joins mask ops.now }
+{
+    ops.iter().fold(mask, |mask, op| with_join(mask, *op))
+}
+
+// Whether a reply word is a mask that has all numbers of this one.
+fn has_mask(reply: u64, mask: u64) -> bool
+    ensures { IsTrue result ↔ HasMask reply mask }
+{
+    reply / MASKS == VALUE_TAG && reply % MASKS & mask == mask
+}
+
+// Whether one of the operations joins a number.
+fn joins_some(ops: &[OpWord]) -> bool
+    ensures { result ≡ joins_some ops.now }
+{
+    ops.iter().filter(|op| Joins::knows(**op)).count() > 0
+}
+
+// The reply to an operation, where so many numbers are joined then.
+fn join_reply(mask: u64, op: OpWord) -> u64
+    ensures { result ≡ join_reply mask op }
+{
+    if Joins::knows(op) {
+        value_reply(mask)
+    } else {
+        BAD
+    }
+}

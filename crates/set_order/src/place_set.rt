@@ -1,0 +1,45 @@
+ghost use Rattle.std.specs.Prelude.{◌≡◌, IfOk};
+
+use book_base::{NoMemory, Place};
+use std::alloc::Global;
+use std::marker::Model;
+
+/// A set of calls that are served at once: their places, by caller. Clauses see it as these places.
+#[derive(Debug, Drop)]
+pub struct PlaceSet {
+    places: Vec<Place>,
+}
+
+impl Model for PlaceSet {
+    ghost use Rattle.std.specs.Prelude.{List};
+    ghost use Rattle.book_base.specs.declared.call.Place.{Place};
+
+    ghost Value = { List Place };
+
+    ghost view = { λ s. s.places.items };
+}
+
+impl PlaceSet {
+    /// The set with these places.
+    pub(crate) fn new(places: Vec<Place>) -> PlaceSet
+        ensures { result ≡ places.items }
+    {
+        PlaceSet { places }
+    }
+
+    /// The places of the set's calls, by caller.
+    pub fn places(&self) -> &[Place]
+        ensures { result.now ≡ self.now }
+    {
+        &self.places
+    }
+
+    /// A set with the same places.
+    pub(crate) fn copy(&self, alloc: Global) -> Result<PlaceSet, NoMemory>
+        ensures { IfOk result (λ set. set ≡ self.now) }
+    {
+        Ok(PlaceSet {
+            places: Vec::from_slice(alloc, &self.places)?,
+        })
+    }
+}

@@ -1,0 +1,53 @@
+ghost use Rattle.std.specs.Prelude.{◌≡◌, ℕ, ◌+◌, ◌≤◌, ◌↔◌, List, length, Option, Some, IsTrue, IsFalse};
+ghost use Rattle.set_order.specs.Serving.{NeverRepliesFrom};
+
+use book_base::{OpWord, State};
+
+/// An object that serves a whole set of operations at once: what they do to a list of words, and what it
+/// replies to each (Neiger 1994).
+pub trait SetObject {
+    /// The list that the object begins with.
+    ghost init: { Self → List ℕ };
+
+    /// The list after these operations are served at once, and the reply to each; none where they may not
+    /// be served together.
+    ghost served: { Self → List ℕ → List ℕ → Option (List ℕ × List ℕ) };
+
+    /// Makes the list the one that the object begins with. The room stays.
+    fn reset(&self, state: &mut State)
+        requires { 1 ≤ state.old.room }
+        ensures { state.new ≡ record state.old { words = init self.now } };
+
+    /// Serves operations at once: the list becomes the next one, and `replies` the reply to each of them in
+    /// turn. Where they may not be served together the answer is `false`, and the state stays. Both rooms
+    /// stay, and no memory is taken.
+    fn serve(&self, state: &mut State, ops: &[OpWord], replies: &mut State) -> bool
+        requires some { 1 ≤ length ops.now }
+        requires room { length state.old.words + length ops.now ≤ state.old.room }
+        requires replies { length ops.now ≤ replies.old.room }
+        ensures served { IsTrue result → served self.now state.old.words ops.now
+            ≡ Some (state.new.words, replies.new.words) }
+        ensures refused { IsFalse result ↔ (served self.now state.old.words ops.now ≡ None) }
+        ensures unchanged { IsFalse result → state.new ≡ state.old }
+        ensures room { state.new.room ≡ state.old.room }
+        ensures replies { replies.new.room ≡ replies.old.room };
+
+    /// Whether an operation may still get this reply, alone or beside others, at this list or after more is
+    /// served. An object that leaves this out knows of none that may not.
+    fn may_reply(&self, state: &State, op: OpWord, reply: u64) -> bool
+        ensures { IsFalse result → NeverRepliesFrom (served self.now) state.now.words op reply }
+    {
+        true
+    }
+
+    /// The list begins with at most one word.
+    ghost begins_small: { (object : Self) → length (init object) ≤ 1 };
+
+    /// Operations make the list at most as many words longer.
+    ghost grows_by_each: { (object : Self) (list ops after replies : List ℕ)
+        → served object list ops ≡ Some (after, replies) → length after ≤ length list + length ops };
+
+    /// Each operation gets a reply.
+    ghost replies_to_each: { (object : Self) (list ops after replies : List ℕ)
+        → served object list ops ≡ Some (after, replies) → length replies ≡ length ops };
+}

@@ -1,0 +1,39 @@
+ghost use Rattle.std.specs.Prelude.{◌≡◌, length};
+ghost use Rattle.set_order.specs.Serving.{served_alone};
+ghost use Rattle.set_order.specs.ServingLaws.{served_alone-grows, served_alone-replies};
+
+use crate::set_object::SetObject;
+use book_base::{OpWord, SeqObject, State};
+
+/// A sequential object as one that serves sets: it serves one operation as the object does, and more than
+/// one never.
+#[derive(Clone, Copy, Debug)]
+pub struct Single<S> {
+    pub object: S,
+}
+
+impl<S: SeqObject> SetObject for Single<S> {
+    ghost init = { λ single. S.init single.object };
+
+    ghost served = { λ single. served_alone (S.next single.object) };
+
+    fn reset(&self, state: &mut State) {
+        self.object.reset(state);
+    }
+
+    fn serve(&self, state: &mut State, ops: &[OpWord], replies: &mut State) -> bool {
+        if ops.len() != 1 {
+            return false;
+        }
+        let reply = self.object.step(state, ops[0]);
+        replies.clear();
+        replies.push(reply);
+        true
+    }
+
+    ghost begins_small = { λ single. S.begins_small single.object };
+
+    ghost grows_by_each = { λ single. served_alone-grows (S.next single.object) (S.grows_by_one single.object) };
+
+    ghost replies_to_each = { λ single. served_alone-replies (S.next single.object) };
+}

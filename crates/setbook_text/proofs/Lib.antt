@@ -1,0 +1,2 @@
+mod JoinTexts
+pub mod SharpSetBooks

@@ -1,0 +1,3 @@
+pub mod JoinWords
+pub mod JoinLaws
+pub mod SetBookRules

@@ -1,0 +1,140 @@
+//! Whole texts of set books.
+
+ghost use Rattle.std.specs.Prelude.{◌≡◌, ◌⊎◌, ℕ, ◌≤◌, [], List, IfOk, IfErr, MatchResult};
+ghost use Rattle.book_base.specs.declared.TheConstants.{MAX_CALLERS};
+ghost use Rattle.book_base.specs.declared.fault.TextFault.{TextFault};
+ghost use Rattle.book_base.specs.Book.{Page};
+ghost use Rattle.text_fields.specs.declared.version.Version.TheVariants.{Second};
+ghost use Rattle.text_fields.specs.Head.{AreCallers, AreCalls};
+ghost use Rattle.text_fields.specs.Faults.{GoesTo, IsFirstFault, StopsFor};
+ghost use Rattle.book_text.specs.BookRules.{whole_text};
+ghost use Rattle.book_text.specs.CallLines.{no_call_read};
+ghost use Rattle.setbook_text.specs.SetBookRules.{TitleDue, ObjectDue, CallersDue, CountsDue, in_calls, setbook_rules, IsSetBookText, IsNoSetBookText, IsFirstSetBookFault};
+
+use crate::join_words::JoinWords;
+use book_base::{Book, Cut, ReadFault, TextFault, What};
+use book_text::{read_calls, read_end};
+use std::alloc::Global;
+use text_fields::{Lines, Version, Words, are_words, callers_of, calls_of};
+
+/// The set book that the bytes are the text of, in version 2.
+///
+/// A text fault names the first line that is wrong, and of its tests the first that it fails.
+pub fn read_setbook(alloc: Global, bytes: &[u8]) -> Result<Book, ReadFault>
+    // What is read is this book's text.
+    ensures found { IfOk result (λ book. IsSetBookText bytes.now book) }
+    // A text of a set book is read as that book, unless memory runs out.
+    ensures only { (book : List Page) → IsSetBookText bytes.now book
+        → MatchResult result (λ b. b ≡ book) (λ e. e ≡ ReadFault.NoMemory) }
+    // A fault of the text is the first fault of bytes that are no set book's text.
+    ensures refused { IfErr result (λ e. (e ≡ ReadFault.NoMemory)
+        ⊎ ((fault : TextFault) × (e ≡ ReadFault.Text fault)
+        × IsFirstSetBookFault bytes.now fault × IsNoSetBookText bytes.now)) }
+    // Where the bytes have a first fault, the answer is that fault, unless memory runs out.
+    ensures first { (fault : TextFault) → IsFirstSetBookFault bytes.now fault
+        → MatchResult result (λ _. ⊥)
+        (λ e. (e ≡ ReadFault.Text fault) ⊎ (e ≡ ReadFault.NoMemory)) }
+{
+    read_text(alloc, bytes)
+}
+
+/// The set book that the bytes are the text of, or why they are read no further.
+fn read_text(alloc: Global, bytes: &[u8]) -> Result<Book, ReadFault>
+    ensures found { IfOk result (λ book. IsSetBookText bytes.now book) }
+    ensures refused { IfErr result (λ e.
+        StopsFor setbook_rules TitleDue (whole_text bytes.now) e) }
+{
+    let mut lines = Lines::new(bytes);
+    let (n, calls) = read_head(&mut lines)?;
+    let book = read_calls(alloc, &mut lines, n, &calls, &JoinWords)?;
+    read_end(&mut lines)?;
+    Ok(book)
+}
+
+/// The four lines of the head: the number of callers, and the number of calls of each.
+fn read_head(lines: &mut Lines) -> Result<(u32, Cut), TextFault>
+    ensures found { IfOk result (λ (n, calls). GoesTo setbook_rules
+        TitleDue lines.old (in_calls (no_call_read calls)) lines.new) }
+    ensures says { IfOk result (λ (n, calls). AreCallers Second n × AreCalls Second n calls) }
+    ensures refused { IfErr result (IsFirstFault setbook_rules TitleDue lines.old) }
+{
+    read_title(lines)?;
+    read_object(lines)?;
+    let n = read_callers(lines)?;
+    let calls = read_counts(lines, n)?;
+    Ok((n, calls))
+}
+
+/// The line of the title.
+fn read_title(lines: &mut Lines) -> Result<(), TextFault>
+    ensures found { IfOk result (λ _.
+        GoesTo setbook_rules TitleDue lines.old ObjectDue lines.new) }
+    ensures refused { IfErr result (IsFirstFault setbook_rules TitleDue lines.old) }
+{
+    let line = lines.number();
+    let mut words = Words::new(lines.line()?);
+    if are_words(&mut words, b"setbook", b"2") {
+        Ok(())
+    } else {
+        Err(TextFault {
+            line,
+            what: What::Head,
+        })
+    }
+}
+
+/// The line of the object.
+fn read_object(lines: &mut Lines) -> Result<(), TextFault>
+    ensures found { IfOk result (λ _.
+        GoesTo setbook_rules ObjectDue lines.old CallersDue lines.new) }
+    ensures refused { IfErr result (IsFirstFault setbook_rules ObjectDue lines.old) }
+{
+    let line = lines.number();
+    let mut words = Words::new(lines.line()?);
+    if are_words(&mut words, b"object", b"joins") {
+        Ok(())
+    } else {
+        Err(TextFault {
+            line,
+            what: What::Object,
+        })
+    }
+}
+
+/// The line of the number of callers.
+fn read_callers(lines: &mut Lines) -> Result<u32, TextFault>
+    ensures found { IfOk result (λ n.
+        GoesTo setbook_rules CallersDue lines.old (CountsDue n) lines.new) }
+    ensures says { IfOk result (λ n. AreCallers Second n) }
+    ensures refused { IfErr result (IsFirstFault setbook_rules CallersDue lines.old) }
+{
+    let line = lines.number();
+    let mut words = Words::new(lines.line()?);
+    match callers_of(Version::Second, &mut words) {
+        Some(n) => Ok(n),
+        None => Err(TextFault {
+            line,
+            what: What::Callers,
+        }),
+    }
+}
+
+/// The line of the numbers of calls.
+fn read_counts(lines: &mut Lines, n: u32) -> Result<Cut, TextFault>
+    requires some { 1 ≤ n }
+    requires few { n ≤ MAX_CALLERS }
+    ensures found { IfOk result (λ calls. GoesTo setbook_rules
+        (CountsDue n) lines.old (in_calls (no_call_read calls)) lines.new) }
+    ensures says { IfOk result (λ calls. AreCalls Second n calls) }
+    ensures refused { IfErr result (IsFirstFault setbook_rules (CountsDue n) lines.old) }
+{
+    let line = lines.number();
+    let mut words = Words::new(lines.line()?);
+    match calls_of(Version::Second, &mut words, n) {
+        Some(calls) => Ok(calls),
+        None => Err(TextFault {
+            line,
+            what: What::Calls,
+        }),
+    }
+}
