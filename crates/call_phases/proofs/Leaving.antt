@@ -19,7 +19,7 @@ use Rattle.row_table.specs.declared.rows.Rows.{Rows}
 use Rattle.drv_wrapper.specs.States.{reply_viewed, view_viewed}
 use Rattle.call_phases.specs.declared.stand.Stand.{Stand}
 use Rattle.call_phases.specs.declared.stand.Stand.TheVariants.{Idle, Announced, Answered, Viewed, Published, Halted, Unjudged}
-use Rattle.call_phases.specs.Ends.{IsLineOf, AreLinesOfCalls, HasLeft}
+use Rattle.call_phases.specs.Ends.{IsLineOf, AreLinesOfCalls, HasLeft, HasLeftAt}
 use Rattle.call_phases.specs.Endings.{record_published}
 use Rattle.call_phases.specs.Stands.{local_at_stand, phases_at}
 use Rattle.call_phases.specs.Course.{EndsInError, HasCome}
@@ -44,7 +44,8 @@ begun_few operations p progress h =
 
 -- without an error, all of the allotment is made
 left_without_error : (operations : List ℕ) (allotment p : ℕ) (l : Local) (own : List Line)
-    → any_error own ≡ false → p ≡ allotment → HasMade operations p l → HasMade operations (phases_of allotment own) l × KeepsTo allotment own
+    → any_error own ≡ false → p ≡ allotment → HasMade operations p l
+    → HasMade operations (phases_of allotment own) l × KeepsTo allotment own × (p ≡ phases_of allotment own)
 left_without_error operations allotment p l own none is made =
     let phases : phases_of allotment own ≡ allotment = ap (λ (b : Bool). cond b (5 * length own) allotment) none in (
       subst (λ (q : ℕ). HasMade operations q l) (is ∙ sym phases) made,
@@ -52,11 +53,13 @@ left_without_error operations allotment p l own none is made =
         within = omega (arith, phases);
         last = λ k line there error. absurd (false≢true (sym none ∙ error_among own k line there error));
       },
+      is ∙ sym phases,
     )
 
 -- with one at the end, all of each line
 left_with_error : (operations : List ℕ) (allotment p : ℕ) (l : Local) (own : List Line)
-    → EndsInError own → p ≡ 5 * length own → p ≤ allotment → HasMade operations p l → HasMade operations (phases_of allotment own) l × KeepsTo allotment own
+    → EndsInError own → p ≡ 5 * length own → p ≤ allotment → HasMade operations p l
+    → HasMade operations (phases_of allotment own) l × KeepsTo allotment own × (p ≡ phases_of allotment own)
 left_with_error operations allotment p l own ends is few made =
     let there : slice_get own (length ends.before) ≡ Some ends.line =
     subst (λ (o : List Line). slice_get o (length ends.before) ≡ Some ends.line) (sym ends.is) (slice_get-push_last ends.before ends.line) in
@@ -71,6 +74,7 @@ left_with_error operations allotment p l own ends is few made =
           | inr last ↦ omega (arith, last.0, long)
         ];
       },
+      is ∙ sym phases,
     )
 
 module _ {P : Type 0} (meaning : P → ℕ → ℕ → Meaning) (r : Rows P) (says : ℕ → Local → Record → List ℕ → LineEnd → Type 0) (who : ℕ) (operations : List ℕ) (own : List Line) where
@@ -93,32 +97,35 @@ module _ {P : Type 0} (meaning : P → ℕ → ℕ → Meaning) (r : Rows P) (sa
   -- with the line of the call under way
   pending_left : (l : Local) (allotment p : ℕ) (ended : List Made) (call : Made) (end : LineEnd) → calls_in l ≡ ended ++ call ∷ [] → AreLinesOfCalls (says r.callers l) ended own
       → IsLineOf (says r.callers l) call (record { op = op; end = end }) → any_error own ≡ false → is_error (record { op = op; end = end }) ≡ false
-      → p ≡ allotment → HasMade operations p l → HasLeft says r.callers operations allotment l (own ++ record { op = op; end = end } ∷ [])
+      → p ≡ allotment → HasMade operations p l → HasLeftAt says r.callers operations allotment p l (own ++ record { op = op; end = end } ∷ [])
   pending_left l allotment p ended call end calls lines line none one is made =
       let all : List Line = own ++ record { op = op; end = end } ∷ [] in
       let left = left_without_error operations allotment p l all (no_more_errors own (record { op = op; end = end }) none one) is made in
       record {
-        lines = subst (λ (cs : List Made). AreLinesOfCalls (says r.callers l) cs all) (sym calls) (one_more_line (says r.callers l) ended own call (record { op = op; end = end }) lines line);
-        made = left.0;
-        keeps = left.1;
+        left = record {
+          lines = subst (λ (cs : List Made). AreLinesOfCalls (says r.callers l) cs all) (sym calls) (one_more_line (says r.callers l) ended own call (record { op = op; end = end }) lines line);
+          made = left.0;
+          keeps = left.1;
+        };
+        is = left.2;
       }
 
   pub noted_left : (s : Stand P) (end : LineEnd) (allotment : ℕ) → Come s → end_at s ≡ Some end → Spent allotment (length own) s
-      → HasLeft says r.callers operations allotment (local_at_stand s) (own ++ record { op = op; end = end } ∷ [])
+      → HasLeftAt says r.callers operations allotment (phases_at (length own) s) (local_at_stand s) (own ++ record { op = op; end = end } ∷ [])
   noted_left (Idle c) end allotment h is spent = absurd (none-some end is)
   noted_left (Announced a) end allotment h is spent =
-      subst (λ (e : LineEnd). HasLeft says r.callers operations allotment (local_at_stand (Announced a)) (own ++ record { op = op; end = e } ∷ [])) (same_Some Pending end is)
+      subst (λ (e : LineEnd). HasLeftAt says r.callers operations allotment (phases_at (length own) (Announced a)) (local_at_stand (Announced a)) (own ++ record { op = op; end = e } ∷ [])) (same_Some Pending end is)
       (pending_left (local_at_stand (Announced a)) allotment (phases_at (length own) (Announced a)) h.ended _ Pending h.calls h.lines (record { operation = refl; end = refl }) h.errors refl spent h.made)
   noted_left (Answered a) end allotment h is spent =
-      subst (λ (e : LineEnd). HasLeft says r.callers operations allotment (local_at_stand (Answered a)) (own ++ record { op = op; end = e } ∷ [])) (same_Some Pending end is)
+      subst (λ (e : LineEnd). HasLeftAt says r.callers operations allotment (phases_at (length own) (Answered a)) (local_at_stand (Answered a)) (own ++ record { op = op; end = e } ∷ [])) (same_Some Pending end is)
       (pending_left (local_at_stand (Answered a)) allotment (phases_at (length own) (Answered a)) h.ended _ Pending h.calls h.lines (record { operation = refl; end = refl }) h.errors refl spent h.made)
   noted_left (Viewed v) end allotment h is spent =
       let mine : LineEnd = Unchecked (record { reply = reply_viewed v; view = view_viewed v }) in
-      subst (λ (e : LineEnd). HasLeft says r.callers operations allotment (local_at_stand (Viewed v)) (own ++ record { op = op; end = e } ∷ [])) (same_Some mine end is)
+      subst (λ (e : LineEnd). HasLeftAt says r.callers operations allotment (phases_at (length own) (Viewed v)) (local_at_stand (Viewed v)) (own ++ record { op = op; end = e } ∷ [])) (same_Some mine end is)
       (pending_left (local_at_stand (Viewed v)) allotment (phases_at (length own) (Viewed v)) h.ended _ mine h.calls h.lines (record { operation = refl; end = refl }) h.errors refl spent h.made)
   noted_left (Published p) end allotment h is spent =
       let mine : LineEnd = Unchecked (record_published p) in
-      subst (λ (e : LineEnd). HasLeft says r.callers operations allotment (local_at_stand (Published p)) (own ++ record { op = op; end = e } ∷ [])) (same_Some mine end is)
+      subst (λ (e : LineEnd). HasLeftAt says r.callers operations allotment (phases_at (length own) (Published p)) (local_at_stand (Published p)) (own ++ record { op = op; end = e } ∷ [])) (same_Some mine end is)
       (pending_left (local_at_stand (Published p)) allotment (phases_at (length own) (Published p)) h.ended _ mine h.calls h.lines (record { operation = refl; end = refl }) h.errors refl spent h.made)
   noted_left (Halted c) end allotment h is spent = absurd (none-some end is)
   noted_left (Unjudged u) end allotment h is spent = absurd (none-some end is)
@@ -128,15 +135,15 @@ module _ {P : Type 0} (meaning : P → ℕ → ℕ → Meaning) (r : Rows P) (sa
   all_left l ended calls lines = subst (λ (cs : List Made). AreLinesOfCalls (says r.callers l) cs own) (sym (calls ∙ append-nil ended)) lines
 
   pub unnoted_left : (s : Stand P) (allotment : ℕ) → Come s → end_at s ≡ None → is_unjudged s ≡ false → Spent allotment (length own) s
-      → HasLeft says r.callers operations allotment (local_at_stand s) own
+      → HasLeftAt says r.callers operations allotment (phases_at (length own) s) (local_at_stand s) own
   unnoted_left (Idle c) allotment h is judged spent =
       let left = left_without_error operations allotment (phases_at (length own) (Idle c)) (local_at_stand (Idle c)) own h.errors spent h.made in
-      record { lines = all_left (local_at_stand (Idle c)) h.ended h.calls h.lines; made = left.0; keeps = left.1 }
+      record { left = record { lines = all_left (local_at_stand (Idle c)) h.ended h.calls h.lines; made = left.0; keeps = left.1 }; is = left.2 }
   unnoted_left (Announced a) allotment h is judged spent = absurd (none-some _ (sym is))
   unnoted_left (Answered a) allotment h is judged spent = absurd (none-some _ (sym is))
   unnoted_left (Viewed v) allotment h is judged spent = absurd (none-some _ (sym is))
   unnoted_left (Published p) allotment h is judged spent = absurd (none-some _ (sym is))
   unnoted_left (Halted c) allotment h is judged spent =
       let left = left_with_error operations allotment (phases_at (length own) (Halted c)) (local_at_stand (Halted c)) own h.errors (omega arith) (omega (arith, spent)) h.made in
-      record { lines = all_left (local_at_stand (Halted c)) h.ended h.calls h.lines; made = left.0; keeps = left.1 }
+      record { left = record { lines = all_left (local_at_stand (Halted c)) h.ended h.calls h.lines; made = left.0; keeps = left.1 }; is = left.2 }
   unnoted_left (Unjudged u) allotment h is judged spent = absurd (false≢true (sym judged))

@@ -29,7 +29,7 @@ use Rattle.call_phases.specs.Stands.{phases_at}
 use Rattle.call_phases.specs.Course.{HasCome, HasTold, HasAskedFor}
 use Rattle.call_phases.proofs.Phases.{progress_along}
 
-if_some_as : {X : Type 0} (told : Option X) (A B : X → Type 0) → ((x : X) → A x → B x) → IfSome told A → IfSome told B
+pub if_some_as : {X : Type 0} (told : Option X) (A B : X → Type 0) → ((x : X) → A x → B x) → IfSome told A → IfSome told B
 if_some_as None A B turns h = h
 if_some_as (Some x) A B turns h = turns x h
 

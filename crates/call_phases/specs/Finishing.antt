@@ -6,7 +6,8 @@ use Rattle.call_lines.specs.declared.line.LineEnd.{LineEnd}
 use Rattle.call_lines.specs.declared.line.LineEnd.TheVariants.{Pending, Unchecked}
 use Rattle.call_lines.specs.declared.line.Line.{Line}
 use Rattle.drv_wrapper.specs.States.{reply_viewed, view_viewed}
-use Rattle.call_phases.specs.Ends.{HasLeft}
+use Rattle.call_phases.specs.Ends.{HasLeftAt}
+use Rattle.call_phases.specs.Stands.{phases_at}
 use Rattle.call_phases.specs.Endings.{record_published}
 use Rattle.call_phases.specs.Clients.{Spent}
 use Rattle.call_phases.specs.declared.stand.Stand.{Stand}
@@ -28,8 +29,9 @@ module _ {P : Type 0} where
   is_unjudged (Unjudged u) = true
   is_unjudged _ = false
 
-  -- A client that stands there behind these lines leaves this local and its lines, whatever allotment it has spent. Nothing is said of
-  -- lines where memory was wanted.
+  -- A client that stands there behind these lines leaves this local and its lines, whatever allotment it has spent, and has made the
+  -- phases that they tell of. Nothing is said of lines where memory was wanted.
   abbrev pub Leaves : (ℕ → Local → Record → List ℕ → LineEnd → Type 0) → ℕ → List ℕ → Stand P → List Line → Local → List Line → Type 0
   Leaves says n operations s before l own =
-      is_unjudged s ≡ false → (allotment : ℕ) → Spent allotment (length before) s → HasLeft says n operations allotment l own
+      is_unjudged s ≡ false → (allotment : ℕ) → Spent allotment (length before) s
+      → HasLeftAt says n operations allotment (phases_at (length before) s) l own

@@ -15,6 +15,7 @@ use world_core::Program;
 
 /// Judges each call by a sequential object, and keeps the order that it found last, from which it looks for the
 /// next one.
+#[derive(Drop)]
 pub struct Judging<'a, S> {
     alloc: Global,
     sequential: &'a S,

@@ -11,6 +11,7 @@ use drv_wrapper::{Announced, Answered, BlackBox, ask};
 use world_core::{Outside, Program};
 
 /// An object under test, outside the world: each caller asks it by its own pass.
+#[derive(Drop)]
 pub struct OutsideObject<'a, B> {
     pub object: &'a B,
 }

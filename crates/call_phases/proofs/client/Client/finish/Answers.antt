@@ -4,7 +4,8 @@ use Rattle.world_core.specs.Local.{Local}
 use Rattle.call_lines.specs.declared.line.Line.{Line}
 use Rattle.row_table.specs.Callers.{local_with}
 use Rattle.call_phases.specs.declared.sheet.Sheet.{Sheet}
-use Rattle.call_phases.specs.Ends.{HasLeft}
+use Rattle.call_phases.specs.Ends.{HasLeftAt}
+use Rattle.call_phases.specs.Stands.{phases_at}
 use Rattle.call_phases.specs.Finishing.{end_at}
 use Rattle.call_phases.proofs.Leaving.{operation_left, noted_left, unnoted_left}
 use Rattle.call_phases.proofs.client.Client.finish.Goals as goal
@@ -27,6 +28,7 @@ returns-clause-leaves g c judged allotment spent =
     let sheet = c.args.self.sheet in
     let says = g.E.Ending.says (g.E.Ending.object sheet.ending) in
     let n = c.args._rows.now.callers in
+    let p = phases_at (length sheet.lines.items) c.args.self.stand in
     elim c.match-end.branch [
       | in-Some w ↦
           let there : end_at c.args.self.stand ≡ Some w.in-Some.end = sym c.stop-caller.ensures.end ∙ w.in-Some.is in
@@ -35,13 +37,13 @@ returns-clause-leaves g c judged allotment spent =
           w.push.ensures.items
           ∙ ap (λ (b : Bool). if b then all w.next_op-op.result else sheet.lines.items) (ap is_ok w.unwrap.ensures)
           ∙ ap all w.next_op-op.ensures in
-          subst (λ (s : Sheet _). HasLeft (g.E.Ending.says (g.E.Ending.object s.ending)) n sheet.operations.now allotment (local_with c.stop-caller.result.0) s.lines.items) (sym w.sheet-is)
-          (subst (λ (own : List Line). HasLeft says n sheet.operations.now allotment (local_with c.stop-caller.result.0) own) (sym items)
-          (subst (λ (l : Local). HasLeft says n sheet.operations.now allotment l (all (slice_index sheet.operations.now (length sheet.lines.items)))) (sym c.stop-caller.ensures.caller.local)
+          subst (λ (s : Sheet _). HasLeftAt (g.E.Ending.says (g.E.Ending.object s.ending)) n sheet.operations.now allotment p (local_with c.stop-caller.result.0) s.lines.items) (sym w.sheet-is)
+          (subst (λ (own : List Line). HasLeftAt says n sheet.operations.now allotment p (local_with c.stop-caller.result.0) own) (sym items)
+          (subst (λ (l : Local). HasLeftAt says n sheet.operations.now allotment p l (all (slice_index sheet.operations.now (length sheet.lines.items)))) (sym c.stop-caller.ensures.caller.local)
           (noted_left _ _ says _ _ sheet.lines.items c.args.self.stand w.in-Some.end allotment c.requires.course there spent)))
       | in_default w ↦
           let none : end_at c.args.self.stand ≡ None = sym c.stop-caller.ensures.end ∙ w.in_default.is in
-          subst (λ (s : Sheet _). HasLeft (g.E.Ending.says (g.E.Ending.object s.ending)) n sheet.operations.now allotment (local_with c.stop-caller.result.0) s.lines.items) (sym w.sheet-is)
-          (subst (λ (l : Local). HasLeft says n sheet.operations.now allotment l sheet.lines.items) (sym c.stop-caller.ensures.caller.local)
+          subst (λ (s : Sheet _). HasLeftAt (g.E.Ending.says (g.E.Ending.object s.ending)) n sheet.operations.now allotment p (local_with c.stop-caller.result.0) s.lines.items) (sym w.sheet-is)
+          (subst (λ (l : Local). HasLeftAt says n sheet.operations.now allotment p l sheet.lines.items) (sym c.stop-caller.ensures.caller.local)
           (unnoted_left _ _ says _ _ sheet.lines.items c.args.self.stand allotment c.requires.course none judged spent))
     ]

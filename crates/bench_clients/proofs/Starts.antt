@@ -1,0 +1,151 @@
+-- Callers that have made no phase, their clients, and what a script gives them.
+use Rattle.std.proofs.Common.{◌≡◌, ◌≢◌, ◌∙◌, sym, subst, ap, refl, inl, inr, ℕ, zero, suc, ◌+◌, ◌*◌, ◌<◌, ◌≤◌, List, [], ◌∷◌, Some, None, length, map, slice_index, get_or, arith}
+use Rattle.std.specs.Prelude.{Option, IfSome, slice_index_or}
+use Rattle.std.proofs.lemmas.Bool.{cases_lt}
+use Rattle.std.proofs.lemmas.Option.{same_Some}
+use Rattle.std.proofs.lemmas.List.FromFn.{get_or-map-range_with_len}
+use Rattle.world_core.specs.Shape.{Meaning}
+use Rattle.world_core.specs.Local.{Local, IsIdle}
+use Rattle.world_core.specs.Calls.{Made, calls_in}
+use Rattle.call_lines.specs.declared.line.Line.{Line}
+use Rattle.call_lines.specs.Phases.{Progress, IsProgressAfter, IsTold, HasMade, progress_of, asked}
+use Rattle.call_lines.specs.Allotments.{phases_for, stop_at, operations_at, allotments_of}
+use Rattle.row_table.specs.declared.caller.Caller.{Caller}
+use Rattle.row_table.specs.declared.rows.Rows.{Rows}
+use Rattle.row_table.specs.declared.bench.Bench.{Bench}
+use Rattle.row_table.specs.Callers.{local_with, stance_of, who_of, on_bench, stance_on, IsCallerOf}
+use Rattle.client_scripts.specs.Plans.{Plan, IsPlan, AreStops, sizes}
+use Rattle.call_phases.specs.declared.stand.Stand.{Stand}
+use Rattle.call_phases.specs.declared.stand.Stand.TheVariants.{Idle}
+use Rattle.call_phases.specs.Ends.{Sequential}
+use Rattle.call_phases.specs.Course.{HasCome, HasTold, HasAskedFor}
+use Rattle.call_phases.proofs.Told.{if_some_as}
+use Rattle.call_phases.specs.declared.sheet.Sheet.{Sheet}
+use Rattle.call_phases.specs.declared.client.Client.{Client}
+use Rattle.text_fields.specs.declared.version.Version.TheVariants.{Second}
+use Rattle.bench_clients.specs.Work.{Says, IsAtWork}
+use Rattle.bench_clients.specs.Starts.{Course, course_of, AreRowsFor, IsFresh, IsUnused, HoldsBelow, IsRoomFor, IsFreshPass, IsClientOf, IsStart}
+use Rattle.bench_clients.specs.declared.worker.Worker.{Worker}
+use Rattle.reports.specs.declared.report.Own.{Own}
+
+-- a caller without calls has made no phase
+pub no_phase : (operations : List ℕ) → IsProgressAfter operations 0 (record { calls = []; published = 0 })
+no_phase operations = record { in_order = refl; marks = refl; published = refl }
+
+module _ {P : Type 0} where
+  -- a caller that leaves the bench unused is fresh
+  pub fresh_from_bench : (b : Bench P) (i : ℕ) (c : Caller P) → IsUnused b i → on_bench b i ≡ Some (local_with c) → stance_on b i ≡ Some (stance_of c) → IsFresh c
+  fresh_from_bench b i c unused here stands =
+      let same : unused.local ≡ local_with c = same_Some unused.local (local_with c) (sym unused.here ∙ here) in
+      record {
+        stance = same_Some (stance_of c) _ (sym stands ∙ unused.stance);
+        idle = subst (λ (l : Local). IsIdle l) same unused.idle;
+        none = ap progress_of (sym same) ∙ unused.none;
+      }
+
+  -- it has come as far as a client comes without a phase
+  pub fresh_come : (meaning : P → ℕ → ℕ → Meaning) (r : Rows P) (says : _) (operations : List ℕ) (c : Caller P) (own : List Line)
+      → IsCallerOf meaning r c → IsFresh c → own ≡ [] → HasCome meaning r says (who_of c) operations (Idle c) own
+  fresh_come meaning r says operations c own caller fresh none =
+      subst (λ (o : List Line). HasCome meaning r says (who_of c) operations (Idle c) o) (sym none)
+      (record {
+        caller = caller;
+        number = refl;
+        made = subst (λ (p : Progress). IsProgressAfter operations 0 p) (sym fresh.none) (no_phase operations);
+        ended = [];
+        calls = ap (λ (p : Progress). p.calls) fresh.none;
+        lines = tt;
+        errors = refl;
+        may = record { idle = fresh.idle; stance = fresh.stance };
+      })
+
+  told_none : (c : Caller P) (own : List Line) (pairs : List (ℕ × ℕ)) → IsFresh c → own ≡ [] → pairs ≡ [] → HasTold (Idle c) own pairs
+  told_none c own pairs fresh none silent =
+      subst (λ (o : List Line). HasTold (Idle c) o pairs) (sym none)
+      (subst (λ (ps : List (ℕ × ℕ)). HasTold (Idle c) [] ps) (sym silent)
+      (record {
+        told = subst (λ (calls : List Made). IsTold 0 calls []) (sym (ap (λ (p : Progress). p.calls) fresh.none)) (record { operations = refl; replies = refl });
+        last = tt;
+      }))
+
+  pub fresh_asked : (c : Caller P) (own : List Line) (made : ℕ) (told : Option (List (ℕ × ℕ)))
+      → IsFresh c → own ≡ [] → made ≡ 0 → IfSome told (λ pairs. pairs ≡ []) → HasAskedFor made told (Idle c) own
+  fresh_asked c own made told fresh none unmade silent = record {
+    made_is = subst (λ (o : List Line). made ≡ asked (5 * length o + 0)) (sym none) unmade;
+    told_is = if_some_as told (λ pairs. pairs ≡ []) (HasTold (Idle c) own) (λ pairs is. told_none c own pairs fresh none is) silent;
+  }
+
+  -- a bench that one more caller leaves
+  pub one_less_held : (n k : ℕ) (b c d : Bench P) → HoldsBelow n (k + 1) b c → on_bench d k ≡ None
+      → ((i : ℕ) → i ≢ k → (on_bench d i ≡ on_bench c i) × (stance_on d i ≡ stance_on c i)) → HoldsBelow n k b d
+  one_less_held n k b c d held gone others = record {
+    below = λ i low.
+        let other = others i (λ same. omega (arith, low, same)) in
+        let before = held.below i (omega (arith, low)) in
+        (other.0 ∙ before.0, other.1 ∙ before.1);
+    gone = λ i high within.
+        elim (cases_lt k i) [
+          | inl behind ↦ (others i (λ same. omega (arith, behind, same))).0 ∙ held.gone i (omega (arith, behind)) within
+          | inr before ↦ let same : k ≡ i = omega (arith, high, before) in subst (λ (m : ℕ). on_bench d m ≡ None) same gone
+        ];
+  }
+
+-- what a script gives a caller
+pub allotment_at : (operations : List (List ℕ)) (stops : List (Option ℕ)) (i : ℕ) → i < length operations
+    → slice_index (allotments_of operations stops) i ≡ phases_for (stop_at stops i) (length (operations_at operations i))
+allotment_at operations stops i low =
+    get_or-map-range_with_len (λ i. phases_for (stop_at stops i) (length (operations_at operations i))) 0 (length operations) i i 0 low (omega arith)
+
+pub phases_to_stop : (stops : List (Option ℕ)) (i calls stop : ℕ) → slice_index_or stops i None ≡ Some stop → phases_for (stop_at stops i) calls ≡ stop
+phases_to_stop stops i calls stop is = ap (λ (s : Option ℕ). phases_for s calls) is
+
+pub phases_of_all : (stops : List (Option ℕ)) (i calls : ℕ) → slice_index_or stops i None ≡ None → phases_for (stop_at stops i) calls ≡ 5 * calls
+phases_of_all stops i calls is = ap (λ (s : Option ℕ). phases_for s calls) is
+
+-- no stop is behind all phases
+pub stops_within : (operations : List (List ℕ)) (stops : List (Option ℕ)) (i : ℕ) → AreStops (sizes operations) stops
+    → phases_for (stop_at stops i) (length (operations_at operations i)) ≤ 5 * length (operations_at operations i)
+stops_within [] [] i h = omega arith
+stops_within [] (stop ∷ stops) i h = absurd h
+stops_within (ops ∷ operations) [] i h = absurd h
+stops_within (ops ∷ operations) (None ∷ stops) zero h = omega arith
+stops_within (ops ∷ operations) (Some phases ∷ stops) zero h = omega (arith, h.0)
+stops_within (ops ∷ operations) (stop ∷ stops) (suc i) h = stops_within operations stops i h.1
+
+-- the worker of a fresh caller
+module _ {P T E : Type 0} (meaning : P → ℕ → ℕ → Meaning) (r : Rows P) (says : Says) (object : E → Sequential) (is_own : T → ℕ → Type 0) (made room : T → ℕ) (told : T → Option (List (ℕ × ℕ))) (course : Course) (plan : Plan) where
+  pub fresh_start : (c : Caller P) (pass : T) (sheet : Sheet E) (allotment : ℕ)
+      → course ≡ course_of plan (allotments_of plan.operations plan.stops) course.object → AreRowsFor plan r → IsPlan Second plan
+      → IsCallerOf meaning r c → IsFresh c → IsFreshPass is_own made room told plan.operations (who_of c) pass
+      → sheet.who ≡ who_of c → sheet.operations.now ≡ operations_at plan.operations (who_of c) → IsRoomFor plan.operations (who_of c) (record { lines = sheet.lines }) → object sheet.ending ≡ course.object
+      → allotment ≡ phases_for (stop_at plan.stops (who_of c)) (length (operations_at plan.operations (who_of c)))
+      → IsStart meaning r says object is_own made room told course (who_of c) (record { client = Some (record { stand = Idle c; pass = pass; sheet = sheet }); allotment = allotment })
+  fresh_start c pass sheet allotment is rows valid caller fresh free who operations empty judges phases =
+      let low : who_of c < length plan.operations = omega (arith, caller.seat.who, rows.callers) in
+      let ops : operations_at course.operations (who_of c) ≡ operations_at plan.operations (who_of c) = ap (λ (k : Course). operations_at k.operations (who_of c)) is in
+      let client : Client P T E = record { stand = Idle c; pass = pass; sheet = sheet } in
+      let few : length sheet.operations.now ≡ length (operations_at plan.operations (who_of c)) = ap (λ (o : List ℕ). length o) operations in
+      record {
+        client = client;
+        here = refl;
+        of = record {
+          work = record {
+            course = subst (λ (w : ℕ). HasCome meaning r (says (object sheet.ending)) w sheet.operations.now (Idle c) sheet.lines.items) (sym who)
+                (fresh_come meaning r (says (object sheet.ending)) sheet.operations.now c sheet.lines.items caller fresh empty.none);
+            asked = fresh_asked c sheet.lines.items (made pass) (told pass) fresh empty.none free.none free.silent;
+            own = subst (λ (w : ℕ). is_own pass w) (sym who) free.own;
+            has_room = record {
+              rows = omega (arith, few, rows.cap (who_of c));
+              passes = omega (arith, few, free.has_room);
+              lines = omega (arith, few, empty.has_room);
+            };
+          };
+          who = who;
+          operations = operations ∙ sym ops;
+          judges = judges;
+        };
+        goes = tt;
+        none = ap (λ (o : List Line). 5 * length o + 0) empty.none;
+        allotment = phases ∙ sym (allotment_at plan.operations plan.stops (who_of c) low) ∙ sym (ap (λ (k : Course). slice_index k.allotments (who_of c)) is);
+        within = omega (arith, few, phases, stops_within plan.operations plan.stops (who_of c) valid.stops);
+      }

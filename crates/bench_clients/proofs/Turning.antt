@@ -1,0 +1,174 @@
+-- Turns, one by one.
+use Rattle.std.proofs.Common.{◌≡◌, ◌≢◌, ◌∙◌, sym, subst, ap, refl, inl, inr, ℕ, zero, suc, ◌+◌, ◌*◌, ◌<◌, ◌≤◌, ◌⊎◌, ◌==◌, min, List, [], ◌∷◌, ◌++◌, Some, None, length, map, take, set, get_or, slice_get, slice_index, arith}
+use Rattle.std.specs.Prelude.{Option}
+use Rattle.std.specs.List.{AllByRecursion}
+use Rattle.std.proofs.lemmas.Bool.{eq-eqb, ne_eqb}
+use Rattle.std.proofs.lemmas.List.Sums.{count_by_more_yes, count_by_more_no}
+use Rattle.std.proofs.lemmas.List.FromFn.{get_or-map-range_with_len}
+use Rattle.call_lines.specs.Allotments.{operations_at, turns_of, allotments_of, allotments_by_turns}
+use Rattle.client_scripts.specs.Plans.{Plan}
+use Rattle.bench_clients.specs.Places.{AreDownFrom}
+use Rattle.std.proofs.lemmas.Option.{none-some, same_Some}
+use Rattle.world_core.specs.Shape.{Meaning}
+use Rattle.row_table.specs.declared.rows.Rows.{Rows}
+use Rattle.call_phases.specs.declared.stand.Stand.{Stand}
+use Rattle.call_phases.specs.declared.stand.Stand.TheVariants.{Idle, Announced, Answered, Viewed, Published, Halted, Unjudged}
+use Rattle.call_phases.specs.declared.client.Client.{Client}
+use Rattle.call_phases.specs.Ends.{Sequential}
+use Rattle.call_phases.specs.Stands.{phases_at, GoesOnFrom}
+use Rattle.call_phases.specs.Clients.{phases_by, Spent, HasSpent}
+use Rattle.call_phases.proofs.Spending.{spent_by, spent_exact, spent_more}
+use Rattle.bench_clients.specs.Work.{Says}
+use Rattle.bench_clients.specs.Starts.{Course, course_of, IsClientOf, IsStart}
+use Rattle.bench_clients.specs.Returns.{IsSpent}
+use Rattle.bench_clients.specs.Turns.{IsTurned, IsTurning, HasTurned}
+use Rattle.bench_clients.specs.declared.worker.Worker.{Worker}
+
+-- a caller is halted or goes on
+goes_or_not : {P : Type 0} (s : Stand P) → GoesOnFrom s ⊎ (GoesOnFrom s → ⊥)
+goes_or_not (Idle c) = inl tt
+goes_or_not (Announced a) = inl tt
+goes_or_not (Answered a) = inl tt
+goes_or_not (Viewed v) = inl tt
+goes_or_not (Published p) = inl tt
+goes_or_not (Halted c) = inr (λ goes. goes)
+goes_or_not (Unjudged u) = inr (λ goes. goes)
+
+module _ {P T E : Type 0} (meaning : P → ℕ → ℕ → Meaning) (r : Rows P) (says : Says) (object : E → Sequential) (is_own : T → ℕ → Type 0) (made room : T → ℕ) (told : T → Option (List (ℕ × ℕ))) (course : Course) where
+  abbrev Turned : ℕ → ℕ → Worker P T E → Type 0
+  Turned i turns w = IsTurned meaning r says object is_own made room told course i turns w
+
+  -- before any turn
+  pub no_turn : (i : ℕ) (w : Worker P T E) → IsStart meaning r says object is_own made room told course i w → Turned i 0 w
+  no_turn i w start = record {
+    client = start.client;
+    here = start.here;
+    of = start.of;
+    spent = spent_by (min (slice_index course.allotments i) 0) (length start.client.sheet.lines.items) start.client.stand (omega (arith, start.none));
+    left = λ goes. omega (arith, start.none, start.allotment);
+    within = omega (arith, start.allotment, start.within);
+  }
+
+  -- a worker that took turns may take one more
+  pub turning : (i turns : ℕ) (w : Worker P T E) → Turned i turns w → IsTurning meaning r says object is_own made room told w
+  turning i turns w h = record {
+    client = h.client;
+    here = h.here;
+    work = h.of.work;
+    left = λ goes. omega (arith, h.left goes, h.within);
+  }
+
+  -- one more turn
+  pub one_more_turn : (i turns : ℕ) (w d : Worker P T E) → Turned i turns w → HasTurned meaning r says object is_own made room told w d → Turned i (turns + 1) d
+  one_more_turn i turns w d h t =
+      let a = slice_index course.allotments i in
+      let mine : h.client ≡ t.before = same_Some h.client t.before (sym h.here ∙ t.was) in
+      let of : IsClientOf meaning r says object is_own made room told course i t.before = subst (λ (c : Client P T E). IsClientOf meaning r says object is_own made room told course i c) mine h.of in
+      let spent : HasSpent (min a turns) t.before = subst (λ (c : Client P T E). HasSpent (min a turns) c) mine h.spent in
+      let left : GoesOnFrom t.before.stand → phases_by t.before + w.allotment ≡ a = subst (λ (c : Client P T E). GoesOnFrom c.stand → phases_by c + w.allotment ≡ a) mine h.left in
+      let within : a ≤ 5 * length t.before.sheet.operations.now = subst (λ (c : Client P T E). a ≤ 5 * length c.sheet.operations.now) mine h.within in
+      let lines = length t.before.sheet.lines.items in
+      let still : HasSpent (min a (turns + 1)) t.after × (GoesOnFrom t.after.stand → phases_by t.after + d.allotment ≡ a) =
+      elim t.turns [
+        | inl nothing ↦
+            let same : t.before ≡ t.after = sym nothing.0 in
+            let more : HasSpent (min a (turns + 1)) t.before =
+            elim (goes_or_not t.before.stand) [
+              | inl goes ↦
+                  elim nothing.2 [
+                    | inl none ↦ spent_by (min a (turns + 1)) lines t.before.stand (omega (arith, spent_exact (min a turns) lines t.before.stand goes spent, left goes, none))
+                    | inr stops ↦ absurd (stops goes)
+                  ]
+              | inr stops ↦ spent_more (min a turns) (min a (turns + 1)) lines t.before.stand stops (omega arith) spent
+            ] in (
+              subst (λ (c : Client P T E). HasSpent (min a (turns + 1)) c) same more,
+              subst (λ (c : Client P T E). GoesOnFrom c.stand → phases_by c + d.allotment ≡ a) same (λ goes. omega (arith, left goes, nothing.1)),
+            )
+        | inr phase ↦
+            let all : phases_by t.after ≡ min a (turns + 1) = omega (arith, spent_exact (min a turns) lines t.before.stand phase.0 spent, left phase.0, phase.1, phase.2) in (
+              spent_by (min a (turns + 1)) (length t.after.sheet.lines.items) t.after.stand all,
+              λ goes. omega (arith, left phase.0, phase.1, phase.2),
+            )
+      ] in
+      record {
+        client = t.after;
+        here = t.is;
+        of = record {
+          work = t.work;
+          who = t.same.who ∙ of.who;
+          operations = t.same.operations ∙ of.operations;
+          judges = t.judges ∙ of.judges;
+        };
+        spent = still.0;
+        left = still.1;
+        within = omega (arith, within, ap (λ (o : List ℕ). length o) t.same.operations);
+      }
+
+all_at : (Is : ℕ → Type 0) (xs : List ℕ) (k d : ℕ) → k < length xs → AllByRecursion Is xs → Is (get_or xs k d)
+all_at Is [] k d low h = absurd (omega (arith, low))
+all_at Is (x ∷ xs) zero d low h = h.0
+all_at Is (x ∷ xs) (suc k) d low h = all_at Is xs k d (omega (arith, low)) h.1
+
+-- each turn names a caller
+pub turn_within : (items turns : List ℕ) (n k : ℕ) → items ≡ turns → k < length items → AllByRecursion (λ caller. caller < n) turns → get_or items k 0 < n
+turn_within items turns n k is low h = all_at (λ caller. caller < n) items k 0 low (subst (λ (l : List ℕ). AllByRecursion (λ caller. caller < n) l) (sym is) h)
+
+-- how often the turns so far name a caller
+more_named : (turns : List ℕ) (k i : ℕ) → k < length turns → get_or turns k 0 ≡ i → turns_of (take (k + 1) turns) i ≡ turns_of (take k turns) i + 1
+more_named turns k i low is = count_by_more_yes (λ (turn : ℕ). turn == i) turns k 0 low (eq-eqb (get_or turns k 0) i is)
+
+more_other : (turns : List ℕ) (k i : ℕ) → k < length turns → get_or turns k 0 ≢ i → turns_of (take (k + 1) turns) i ≡ turns_of (take k turns) i
+more_other turns k i low other = count_by_more_no (λ (turn : ℕ). turn == i) turns k 0 low (ne_eqb (get_or turns k 0) i other)
+
+-- what stands in a list of which one item was put
+set_cases : {X : Type 0} (xs : List X) (p j : ℕ) (y x : X) → slice_get (set xs p y) j ≡ Some x → ((j ≡ p) × (x ≡ y)) ⊎ ((j ≢ p) × (slice_get xs j ≡ Some x))
+set_cases [] p j y x there = absurd (none-some x there)
+set_cases (z ∷ xs) zero zero y x there = inl (refl, sym (same_Some y x there))
+set_cases (z ∷ xs) zero (suc j) y x there = inr ((λ same. omega (arith, same)), there)
+set_cases (z ∷ xs) (suc p) zero y x there = inr ((λ same. omega (arith, same)), there)
+set_cases (z ∷ xs) (suc p) (suc j) y x there =
+    elim (set_cases xs p j y x there) [
+      | inl here ↦ inl (ap suc here.0, here.1)
+      | inr other ↦ inr ((λ same. other.0 (omega (arith, same))), other.1)
+    ]
+
+module _ {P T E : Type 0} (meaning : P → ℕ → ℕ → Meaning) (r : Rows P) (says : Says) (object : E → Sequential) (is_own : T → ℕ → Type 0) (made room : T → ℕ) (told : T → Option (List (ℕ × ℕ))) (course : Course) where
+  abbrev Are : ℕ → List ℕ → List (Worker P T E) → Type 0
+  Are n turns ws = AreDownFrom n (λ i w. IsTurned meaning r says object is_own made room told course i (turns_of turns i) w) ws
+
+  -- one more turn, of the worker at its place
+  pub turned_set : (n k place : ℕ) (turns : List ℕ) (ws : List (Worker P T E)) (w d : Worker P T E) → k < length turns → place + get_or turns k 0 + 1 ≡ n
+      → slice_get ws place ≡ Some w → HasTurned meaning r says object is_own made room told w d → Are n (take k turns) ws → Are n (take (k + 1) turns) (set ws place d)
+  turned_set n k place turns ws w d low at there turned all i j x here gets =
+      elim (set_cases ws place j d x gets) [
+        | inl mine ↦
+            let named : get_or turns k 0 ≡ i = omega (arith, at, here, mine.0) in
+            let before = all i place w (omega (arith, here, mine.0)) there in
+            subst (λ (v : Worker P T E). IsTurned meaning r says object is_own made room told course i (turns_of (take (k + 1) turns) i) v) (sym mine.1)
+            (subst (λ (m : ℕ). IsTurned meaning r says object is_own made room told course i m d) (sym (more_named turns k i low named))
+            (one_more_turn meaning r says object is_own made room told course i (turns_of (take k turns) i) w d before turned))
+        | inr other ↦
+            let unnamed : get_or turns k 0 ≢ i = λ same. other.0 (omega (arith, at, here, same)) in
+            subst (λ (m : ℕ). IsTurned meaning r says object is_own made room told course i m x) (sym (more_other turns k i low unnamed)) (all i j x here other.1)
+      ]
+
+  -- behind all turns each worker has spent what it was given
+  pub turned_spent : (plan : Plan) (i : ℕ) (w : Worker P T E) → course ≡ course_of plan (allotments_of plan.operations plan.stops) course.object → i < length plan.operations
+      → IsTurned meaning r says object is_own made room told course i (turns_of plan.turns i) w
+      → IsSpent meaning r says object is_own made room told (course_of plan (allotments_by_turns plan.operations plan.stops plan.turns) course.object) i w
+  turned_spent plan i w is low h =
+      let given : slice_index (allotments_by_turns plan.operations plan.stops plan.turns) i ≡ min (slice_index (allotments_of plan.operations plan.stops) i) (turns_of plan.turns i) =
+      get_or-map-range_with_len (λ i. min (slice_index (allotments_of plan.operations plan.stops) i) (turns_of plan.turns i)) 0 (length plan.operations) i i 0 low (omega arith) in
+      let same : min (slice_index course.allotments i) (turns_of plan.turns i) ≡ slice_index (allotments_by_turns plan.operations plan.stops plan.turns) i =
+      ap (λ (k : Course). min (slice_index k.allotments i) (turns_of plan.turns i)) is ∙ sym given in
+      record {
+        client = h.client;
+        here = h.here;
+        of = record {
+          work = h.of.work;
+          who = h.of.who;
+          operations = h.of.operations ∙ ap (λ (k : Course). operations_at k.operations i) is;
+          judges = h.of.judges;
+        };
+        spent = subst (λ (m : ℕ). HasSpent m h.client) same h.spent;
+      }

@@ -1,0 +1,30 @@
+use Rattle.std.proofs.Common.{◌≡◌, ◌≤◌, ◌+◌, vec_len, vec_capacity, length}
+use Rattle.std.specs.List.{All}
+use Rattle.row_table.specs.Callers.{IsBenchOf}
+use Rattle.bench_clients.specs.Places.{AreDownFrom, AreInOrder}
+use Rattle.bench_clients.specs.Starts.{HoldsBelow, IsRoomFor, IsFreshPass, IsStart}
+use Rattle.bench_clients.proofs.start.start_all.Given as goal
+
+abbrev pub ghost-begin : goal.ghost-begin
+ghost-begin g a = g.course
+
+abbrev pub invariant-loop-left : goal.invariant-loop-left
+invariant-loop-left g l =
+    record {
+      few : l.left ≤ length l.script.operations;
+      bench : IsBenchOf g.P.Program.meaning l.shared.rows.now l.bench;
+      held : HoldsBelow (length l.script.operations) l.left l.initial.bench l.bench;
+      all_passes : vec_len l.passes ≡ l.left;
+      passes_capacity : vec_capacity l.passes ≡ vec_capacity l.initial.passes;
+      passes : AreInOrder (IsFreshPass (g.A.Asks.is_own l.shared.asks.now) g.A.Asks.made g.A.Asks.room g.A.Asks.told l.script.operations) l.passes.items;
+      all_rooms : vec_len l.room ≡ l.left;
+      rooms : AreInOrder (IsRoomFor l.script.operations) l.room.items;
+      all_endings : vec_len l.endings ≡ l.left;
+      endings : All (λ e. g.E.Ending.object e ≡ g.course.object) l.endings.items;
+      workers_count : vec_len l.workers + l.left ≡ length l.script.operations;
+      workers_capacity : length l.script.operations ≤ vec_capacity l.workers;
+      workers : AreDownFrom (length l.script.operations) (IsStart g.P.Program.meaning l.shared.rows.now g.E.Ending.says g.E.Ending.object (g.A.Asks.is_own l.shared.asks.now) g.A.Asks.made g.A.Asks.room g.A.Asks.told g.course) l.workers.items;
+    }
+
+abbrev pub decreases-loop-left : goal.decreases-loop-left
+decreases-loop-left g l = l.left

@@ -1,0 +1,64 @@
+use Rattle.std.proofs.Common.{◌≡◌, ◌∙◌, sym, subst, ap, ℕ, List, length, arith}
+use Rattle.bench_clients.proofs.Returns.{unused_back, back_on}
+use Rattle.bench_clients.proofs.turns.replay_all.Goals as goal
+
+pub returns-in_err-room-clause-back : goal.returns-in_err-room-clause-back
+returns-in_err-room-clause-back g c i low =
+    let asked = c.requires.1.1.1.1 in
+    unused_back _ _ _ _ _ _ _ _ i (omega (arith, low, asked.1.1.1.1.0)) (asked.1.1.1.0 i low) asked.1.1.1.1.1.0
+
+pub returns-in_err-lines-clause-back : goal.returns-in_err-lines-clause-back
+returns-in_err-lines-clause-back g c i low =
+    let asked = c.requires.1.1.1.1 in
+    unused_back _ _ _ _ _ _ _ _ i (omega (arith, low, asked.1.1.1.1.0)) (asked.1.1.1.0 i low) asked.1.1.1.1.1.0
+
+pub returns-in_err-workers-clause-back : goal.returns-in_err-workers-clause-back
+returns-in_err-workers-clause-back g c i low =
+    let asked = c.requires.1.1.1.1 in
+    unused_back _ _ _ _ _ _ _ _ i (omega (arith, low, asked.1.1.1.1.0)) (asked.1.1.1.0 i low) asked.1.1.1.1.1.0
+
+pub end_all-requires : goal.end_all-requires
+end_all-requires g c κs within =
+    let asked = c.requires.1.1.1.1 in (
+      within.0,
+      (
+        within.1.0,
+        (
+          within.1.1.0,
+          (
+            within.1.1.1,
+            (
+              asked.1.0.callers,
+              (
+                omega (arith, c.take_turns_alone.ensures.all),
+                (
+                  c.take_turns_alone.ensures.workers,
+                  (
+                    c.start_all.ensures.bench,
+                    (
+                      c.start_all.ensures.gone,
+                      (
+                        c.start_all.ensures.no_passes,
+                        (
+                          omega (arith, c.start_all.ensures.capacity, asked.1.1.1.1.0),
+                          (
+                            c.in_ok-lines.ensures.items,
+                            omega (arith, c.in_ok-lines.ensures.capacity, c.callers-callers.ensures.count),
+                          ),
+                        ),
+                      ),
+                    ),
+                  ),
+                ),
+              ),
+            ),
+          ),
+        ),
+      ),
+    )
+
+pub returns-then-end_all-clause-back : goal.returns-then-end_all-clause-back
+returns-then-end_all-clause-back g c i low = back_on _ _ _ _ _ _ _ _ _ _ i (c.end_all.ensures.back.back i low)
+
+pub returns-clause-back : goal.returns-clause-back
+returns-clause-back g c i low = back_on _ _ _ _ _ _ _ _ _ _ i (c.end_all.ensures.back.back i low)

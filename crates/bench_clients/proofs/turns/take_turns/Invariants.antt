@@ -1,0 +1,15 @@
+use Rattle.std.proofs.Common.{◌≡◌, ◌+◌, length, take}
+use Rattle.call_lines.specs.Allotments.{turns_of}
+use Rattle.bench_clients.specs.Places.{AreDownFrom}
+use Rattle.bench_clients.specs.Turns.{IsTurned}
+use Rattle.bench_clients.proofs.turns.take_turns.Given as goal
+
+abbrev pub invariant-loop-turn : goal.invariant-loop-turn
+invariant-loop-turn g l =
+    record {
+      all : length l.workers.items ≡ length l.script.operations;
+      last : l.last + 1 ≡ length l.script.operations;
+      turns : l.turn-items ≡ l.script.turns;
+      workers : AreDownFrom (length l.script.operations)
+          (λ i w. IsTurned g.P.Program.meaning l.shared.rows.now g.E.Ending.says g.E.Ending.object (g.A.Asks.is_own l.shared.asks.now) g.A.Asks.made g.A.Asks.room g.A.Asks.told g.course i (turns_of (take l.turn-index l.turn-items) i) w) l.workers.items;
+    }

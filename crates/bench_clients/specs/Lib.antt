@@ -1,0 +1,5 @@
+pub mod Places
+pub mod Work
+pub mod Starts
+pub mod Returns
+pub mod Turns

@@ -1,0 +1,10 @@
+-- Lists with an item for each of n callers.
+use Rattle.std.specs.Prelude.{◌≡◌, ℕ, ◌+◌, List, Some, slice_get}
+
+-- The items are those of the callers from the last of n on: item j is that of caller n - 1 - j.
+abbrev pub AreDownFrom : {X : Type 0} → ℕ → (ℕ → X → Type 0) → List X → Type 0
+AreDownFrom {X} n Is xs = (i j : ℕ) (x : X) → i + j + 1 ≡ n → slice_get xs j ≡ Some x → Is i x
+
+-- Item i is that of caller i.
+abbrev pub AreInOrder : {X : Type 0} → (ℕ → X → Type 0) → List X → Type 0
+AreInOrder {X} Is xs = (i : ℕ) (x : X) → slice_get xs i ≡ Some x → Is i x

@@ -1,0 +1,47 @@
+-- Clients before, in and behind their work.
+use Rattle.std.specs.Prelude.{◌≡◌, ℕ, ◌+◌, ◌*◌, ◌≤◌, List, length, Option, Some}
+use Rattle.book_base.specs.declared.call.Record.{Record}
+use Rattle.world_core.specs.Shape.{Meaning}
+use Rattle.world_core.specs.Local.{Local}
+use Rattle.call_lines.specs.declared.line.LineEnd.{LineEnd}
+use Rattle.row_table.specs.declared.rows.Rows.{Rows}
+use Rattle.call_phases.specs.Ends.{Sequential}
+use Rattle.call_phases.specs.Stands.{GoesOnFrom}
+use Rattle.call_phases.specs.Course.{HasAskedFor}
+use Rattle.call_phases.specs.Clients.{phases_by, HasSpent, IsUnderWay, HasRoom, IsSameClient}
+use Rattle.call_phases.specs.declared.client.Client.{Client}
+use Rattle.bench_clients.specs.declared.worker.Worker.{Worker}
+
+-- What the ends of lines say, by a sequential object.
+abbrev pub Says : Type 1
+Says = Sequential → ℕ → Local → Record → List ℕ → LineEnd → Type 0
+
+-- In all of these: the meaning of the program, the rows; what the ends of lines say, and by which object an ending judges; whose a
+-- pass is, how many calls were made with it, how many may be, and which it tells of.
+module _ {P T E : Type 0} where
+  -- A client is at work: it has come as far as it stands, its pass is its caller's own and tells of the calls so far, and there is
+  -- room for all its calls.
+  pub record IsAtWork (meaning : P → ℕ → ℕ → Meaning) (r : Rows P) (says : Says) (object : E → Sequential) (is_own : T → ℕ → Type 0) (made room : T → ℕ) (told : T → Option (List (ℕ × ℕ))) (c : Client P T E) : Type 0 where
+    pub course : IsUnderWay meaning r (says (object c.sheet.ending)) c
+    pub asked : HasAskedFor (made c.pass) (told c.pass) c.stand c.sheet.lines.items
+    pub own : is_own c.pass c.sheet.who
+    pub has_room : HasRoom r (room c.pass) c
+
+  -- A worker is ready: its client is at work and goes on, and has that many phases left.
+  pub record IsReady (meaning : P → ℕ → ℕ → Meaning) (r : Rows P) (says : Says) (object : E → Sequential) (is_own : T → ℕ → Type 0) (made room : T → ℕ) (told : T → Option (List (ℕ × ℕ))) (w : Worker P T E) : Type 0 where
+    pub client : Client P T E
+    pub here : w.client ≡ Some client
+    pub work : IsAtWork meaning r says object is_own made room told client
+    pub goes : GoesOnFrom client.stand
+    pub left : phases_by client + w.allotment ≤ 5 * length client.sheet.operations.now
+
+  -- A worker has run: its client has spent its phases, and is at work still.
+  pub record HasRun (meaning : P → ℕ → ℕ → Meaning) (r : Rows P) (says : Says) (object : E → Sequential) (is_own : T → ℕ → Type 0) (made room : T → ℕ) (told : T → Option (List (ℕ × ℕ))) (w d : Worker P T E) : Type 0 where
+    pub before : Client P T E
+    pub after : Client P T E
+    pub was : w.client ≡ Some before
+    pub is : d.client ≡ Some after
+    pub work : IsAtWork meaning r says object is_own made room told after
+    pub same : IsSameClient before after
+    pub judges : object after.sheet.ending ≡ object before.sheet.ending
+    pub spent : HasSpent (phases_by before + w.allotment) after

@@ -1,0 +1,95 @@
+ghost use Rattle.std.specs.Prelude.{◌≡◌, ◌≢◌, ℕ, ◌<◌, ◌≤◌, [], None, length, vec_len, vec_capacity, slice_index};
+ghost use Rattle.row_table.specs.Callers.{IsBenchOf, on_bench};
+ghost use Rattle.call_phases.specs.Clients.{HasSpent};
+ghost use Rattle.reports.specs.ReportLayout.{lines_in};
+ghost use Rattle.bench_clients.specs.Places.{AreDownFrom};
+ghost use Rattle.bench_clients.specs.Starts.{Course, IsClientOf};
+ghost use Rattle.bench_clients.specs.Returns.{IsSpent, ComesBack, AreBack};
+
+use crate::worker::Worker;
+use call_phases::{Asks, Client, Ending, Finished, Shared};
+use client_scripts::Script;
+use reports::Own;
+use row_table::Bench;
+use world_core::Program;
+
+// Finishes the client of a caller, which comes back to its bench, and puts its pass and its lines
+// behind the others. Whether its last call wasn't judged for want of memory.
+fn bring_back<'a, P: Program, T, E: Ending + Drop, A: Asks<Program = P, Pass = T>>(
+    shared: &Shared<A, P>,
+    client: Client<'a, P, T, E>,
+    bench: &mut Bench<P>,
+    passes: &mut Vec<T>,
+    lines: &mut Vec<Own>,
+) -> bool
+    ghost course: { Course }
+    requires client { IsClientOf P.meaning shared.now.rows.now E.says E.object
+        (A.is_own shared.now.asks.now) A.made A.room A.told course client.sheet.who client }
+    requires spent { HasSpent (slice_index course.allotments client.sheet.who) client }
+    requires bench { IsBenchOf P.meaning shared.now.rows.now bench.old }
+    requires gone { on_bench bench.old client.sheet.who ≡ None }
+    requires passes { vec_len passes.old < vec_capacity passes.old }
+    requires lines { vec_len lines.old < vec_capacity lines.old }
+    ensures bench { IsBenchOf P.meaning shared.now.rows.now bench.new }
+    ensures back { ComesBack E.says (A.is_own shared.now.asks.now) A.made A.told
+        shared.now.rows.now.callers course client.entry.sheet.who bench.new
+        passes.old.items passes.new.items
+        (lines_in lines.old.items) (lines_in lines.new.items) result }
+    ensures others { (i : ℕ) → i ≢ client.entry.sheet.who → on_bench bench.new i ≡ on_bench bench.old i }
+    ensures capacity { (vec_capacity passes.old ≤ vec_capacity passes.new)
+        × (vec_capacity lines.old ≤ vec_capacity lines.new) }
+{
+    let Finished {
+        caller,
+        pass,
+        lines: own,
+        ending: _,
+        wants_memory,
+    } = client.finish(shared.rows);
+    shared.rows.back(bench, caller);
+    passes.push(pass).unwrap();
+    lines.push(Own { lines: own }).unwrap();
+    wants_memory
+}
+
+/// Finishes the clients of all workers, whose callers come back to their bench with their passes
+/// and lines, in order. Whether memory was wanted.
+pub(crate) fn end_all<'a, P: Program, T, E: Ending + Drop, A: Asks<Program = P, Pass = T>>(
+    shared: &Shared<A, P>,
+    script: &Script,
+    mut workers: Vec<Worker<'a, P, T, E>>,
+    bench: &mut Bench<P>,
+    passes: &mut Vec<T>,
+    lines: &mut Vec<Own>,
+) -> bool
+    ghost course: { Course }
+    requires rows { shared.now.rows.now.callers ≡ length script.now.operations }
+    requires all { vec_len workers ≡ length script.now.operations }
+    requires workers { AreDownFrom (length script.now.operations)
+        (IsSpent P.meaning shared.now.rows.now E.says E.object (A.is_own shared.now.asks.now)
+        A.made A.room A.told course) workers.items }
+    requires bench { IsBenchOf P.meaning shared.now.rows.now bench.old }
+    requires gone { (i : ℕ) → i < length script.now.operations → on_bench bench.old i ≡ None }
+    requires no_passes { passes.old.items ≡ [] }
+    requires passes { length script.now.operations ≤ vec_capacity passes.old }
+    requires no_lines { lines.old.items ≡ [] }
+    requires lines { length script.now.operations ≤ vec_capacity lines.old }
+    ensures bench { IsBenchOf P.meaning shared.now.rows.now bench.new }
+    ensures back { AreBack E.says (A.is_own shared.now.asks.now) A.made A.told
+        (length script.now.operations) (length script.now.operations) course bench.new
+        passes.new.items (lines_in lines.new.items) result }
+    ensures all_passes { vec_len passes.new ≡ length script.now.operations }
+    ensures all_lines { vec_len lines.new ≡ length script.now.operations }
+{
+    let mut wants_memory = false;
+    while let Some(worker) = workers.pop() {
+        let Worker {
+            client,
+            allotment: _,
+        } = worker;
+        let client = client.unwrap();
+        wants_memory |= bring_back(shared, client, bench, passes, lines);
+    }
+    workers.destroy_empty();
+    wants_memory
+}

@@ -1,0 +1,12 @@
+//! All callers of a bench at work: off the bench into clients, through their work, and back.
+#![tactic(auto)]
+
+mod end;
+mod run;
+mod start;
+mod turns;
+mod worker;
+
+pub use run::run_all;
+pub use turns::replay_all;
+pub use worker::Worker;

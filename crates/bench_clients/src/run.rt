@@ -1,0 +1,107 @@
+ghost use Rattle.std.specs.Prelude.{◌≡◌, ℕ, ◌<◌, ◌≤◌, false, List, [], map, length, vec_len, vec_capacity, IfOk};
+ghost use Rattle.std.specs.List.{All, AllZip};
+ghost use Rattle.call_lines.specs.Allotments.{allotments_of};
+ghost use Rattle.row_table.specs.Callers.{IsBenchOf};
+ghost use Rattle.reports.specs.ReportLayout.{lines_in};
+ghost use Rattle.bench_clients.specs.Places.{AreInOrder};
+ghost use Rattle.bench_clients.specs.Work.{IsReady, HasRun};
+ghost use Rattle.bench_clients.specs.Starts.{Course, course_of, AreRowsFor, IsUnused, IsRoomFor, IsFreshPass};
+ghost use Rattle.bench_clients.specs.Returns.{IsBackOn, AreBack};
+
+use crate::end::end_all;
+use crate::start::start_all;
+use crate::worker::Worker;
+use book_base::NoMemory;
+use call_phases::{Asks, Ending, Shared};
+use client_scripts::Script;
+use reports::Own;
+use row_table::Bench;
+use std::alloc::Global;
+use std::thread::Threads;
+use work_halves::work_all;
+use world_core::Program;
+
+// An empty list of lines for each caller, with room for one of each of its operations.
+pub(crate) fn make_room(alloc: Global, script: &Script) -> Result<Vec<Own>, NoMemory>
+    ensures all { IfOk result (λ room. vec_len room ≡ length script.now.operations) }
+    ensures room { IfOk result (λ room. AreInOrder (IsRoomFor script.now.operations) room.items) }
+{
+    let callers = script.callers();
+    let mut room = Vec::with_capacity(alloc, callers as usize)?;
+    for i in 0..callers {
+        let lines = Vec::with_capacity(alloc, script.calls(i) as usize)?;
+        room.push(Own { lines }).unwrap();
+    }
+    Ok(room)
+}
+
+// All workers of a list work, side by side.
+fn work_in<
+    'a,
+    R: Threads + Sync,
+    P: Program + Send + Sync,
+    T: Send,
+    E: Ending + Send,
+    A: Asks<Program = P, Pass = T> + Sync,
+>(rt: &R, shared: &Shared<A, P>, workers: &mut Vec<Worker<'a, P, T, E>>)
+    requires { All (IsReady P.meaning shared.now.rows.now E.says E.object
+        (A.is_own shared.now.asks.now) A.made A.room A.told) workers.old.items }
+    ensures { AllZip (HasRun P.meaning shared.now.rows.now E.says E.object
+        (A.is_own shared.now.asks.now) A.made A.room A.told) workers.old.items workers.new.items }
+{
+    work_all(rt, shared, workers.as_mut_slice());
+}
+
+/// Lets each caller make the phases that a script gives it, up to its stop or to its error, in a
+/// thread of its own where one can be had. All callers come back to their bench, and all passes to
+/// their list, in order, whatever the answer.
+///
+/// The answer is the lines of each caller, in order. Want of memory is answered before anything is
+/// done, or where it was wanted for a judgement.
+pub fn run_all<
+    'a,
+    R: Threads + Sync,
+    P: Program + Send + Sync,
+    T: Send,
+    E: Ending + Send + Drop,
+    A: Asks<Program = P, Pass = T> + Sync,
+>(
+    rt: &R,
+    alloc: Global,
+    shared: &Shared<A, P>,
+    bench: &mut Bench<P>,
+    passes: &mut Vec<T>,
+    script: &'a Script,
+    endings: Vec<E>,
+) -> Result<Vec<Own>, NoMemory>
+    ghost course: { Course }
+    requires course { course ≡ course_of script.now
+        (allotments_of script.now.operations script.now.stops) course.object }
+    requires rows { AreRowsFor script.now shared.now.rows.now }
+    requires bench { IsBenchOf P.meaning shared.now.rows.now bench.old }
+    requires unused { (i : ℕ) → i < length script.now.operations → IsUnused bench.old i }
+    requires all_passes { vec_len passes.old ≡ length script.now.operations }
+    requires passes { AreInOrder (IsFreshPass (A.is_own shared.now.asks.now) A.made A.room A.told
+        script.now.operations) passes.old.items }
+    requires all_endings { vec_len endings ≡ length script.now.operations }
+    requires endings { All (λ e. E.object e ≡ course.object) endings.items }
+    ensures bench { IsBenchOf P.meaning shared.now.rows.now bench.new }
+    ensures all_passes { vec_len passes.new ≡ length script.now.operations }
+    ensures back { (i : ℕ) → i < length script.now.operations
+        → IsBackOn (A.is_own shared.now.asks.now) A.made A.told course bench.new passes.new.items i }
+    ensures all_lines { IfOk result (λ lines. vec_len lines ≡ length script.now.operations) }
+    ensures lines { IfOk result (λ lines. AreBack E.says (A.is_own shared.now.asks.now) A.made A.told
+        (length script.now.operations) (length script.now.operations) course bench.new
+        passes.new.items (lines_in lines.items) false) }
+{
+    let callers = script.callers() as usize;
+    let room = make_room(alloc, script)?;
+    let mut lines = Vec::with_capacity(alloc, callers)?;
+    let mut workers = Vec::with_capacity(alloc, callers)?;
+    start_all(shared, bench, passes, script, room, endings, &mut workers);
+    work_in(rt, shared, &mut workers);
+    if end_all(shared, script, workers, bench, passes, &mut lines) {
+        return Err(NoMemory);
+    }
+    Ok(lines)
+}

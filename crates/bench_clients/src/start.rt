@@ -1,0 +1,112 @@
+ghost use Rattle.std.specs.Prelude.{◌≡◌, ℕ, ◌<◌, ◌≤◌, [], None, length, vec_len, vec_capacity};
+ghost use Rattle.std.specs.List.{All};
+ghost use Rattle.row_table.specs.Callers.{IsBenchOf, IsCallerOf, who_of, on_bench};
+ghost use Rattle.call_lines.specs.Allotments.{allotments_of};
+ghost use Rattle.text_fields.specs.declared.version.Version.TheVariants.{Second};
+ghost use Rattle.client_scripts.specs.Plans.{IsPlan};
+ghost use Rattle.bench_clients.specs.Places.{AreDownFrom, AreInOrder};
+ghost use Rattle.bench_clients.specs.Starts.{Course, course_of, AreRowsFor, IsFresh, IsUnused, IsRoomFor, IsFreshPass, IsStart};
+
+use crate::worker::Worker;
+use call_phases::{Asks, Client, Ending, Shared, Sheet, Stand};
+use client_scripts::{PHASES, Script};
+use reports::Own;
+use row_table::{Bench, Caller};
+use world_core::Program;
+
+// The worker of a caller that is off its bench and has made no call, for the phases up to its stop.
+fn begin<'a, P: Program, T, E: Ending, A: Asks<Program = P, Pass = T>>(
+    _shared: &Shared<A, P>,
+    caller: Caller<P>,
+    pass: T,
+    script: &'a Script,
+    own: Own,
+    ending: E,
+) -> Worker<'a, P, T, E>
+    ghost course: { Course }
+    requires course { course ≡ course_of script.now
+        (allotments_of script.now.operations script.now.stops) course.object }
+    requires plan { IsPlan Second script.now }
+    requires rows { AreRowsFor script.now _shared.now.rows.now }
+    requires caller { IsCallerOf P.meaning _shared.now.rows.now caller }
+    requires fresh { IsFresh caller }
+    requires pass { IsFreshPass (A.is_own _shared.now.asks.now) A.made A.room A.told
+        script.now.operations (who_of caller) pass }
+    requires room { IsRoomFor script.now.operations (who_of caller) own }
+    requires ending { E.object ending ≡ course.object }
+    ensures { IsStart P.meaning _shared.now.rows.now E.says E.object
+        (A.is_own _shared.now.asks.now) A.made A.room A.told course (who_of caller) result }
+{
+    let who = caller.who();
+    let operations = script.operations(who);
+    let allotment = match script.stop(who) {
+        Some(stop) => stop,
+        None => PHASES * script.calls(who),
+    };
+    let Own { lines } = own;
+    let sheet = Sheet {
+        who,
+        operations,
+        lines,
+        ending,
+    };
+    let client = Client {
+        stand: Stand::Idle(caller),
+        pass,
+        sheet,
+    };
+    Worker {
+        client: Some(client),
+        allotment,
+    }
+}
+
+/// Takes all callers off their bench, from the last to the first, each into a worker for the phases
+/// up to its stop.
+///
+/// The passes, the empty lists of lines and the endings are the callers', in order.
+pub(crate) fn start_all<'a, P: Program, T, E: Ending, A: Asks<Program = P, Pass = T>>(
+    shared: &Shared<A, P>,
+    bench: &mut Bench<P>,
+    passes: &mut Vec<T>,
+    script: &'a Script,
+    mut room: Vec<Own>,
+    mut endings: Vec<E>,
+    workers: &mut Vec<Worker<'a, P, T, E>>,
+)
+    ghost course: { Course }
+    requires course { course ≡ course_of script.now
+        (allotments_of script.now.operations script.now.stops) course.object }
+    requires rows { AreRowsFor script.now shared.now.rows.now }
+    requires bench { IsBenchOf P.meaning shared.now.rows.now bench.old }
+    requires unused { (i : ℕ) → i < length script.now.operations → IsUnused bench.old i }
+    requires all_passes { vec_len passes.old ≡ length script.now.operations }
+    requires passes { AreInOrder (IsFreshPass (A.is_own shared.now.asks.now) A.made A.room A.told
+        script.now.operations) passes.old.items }
+    requires all_rooms { vec_len room ≡ length script.now.operations }
+    requires rooms { AreInOrder (IsRoomFor script.now.operations) room.items }
+    requires all_endings { vec_len endings ≡ length script.now.operations }
+    requires endings { All (λ e. E.object e ≡ course.object) endings.items }
+    requires none_yet { workers.old.items ≡ [] }
+    requires capacity { length script.now.operations ≤ vec_capacity workers.old }
+    ensures bench { IsBenchOf P.meaning shared.now.rows.now bench.new }
+    ensures gone { (i : ℕ) → i < length script.now.operations → on_bench bench.new i ≡ None }
+    ensures no_passes { passes.new.items ≡ [] }
+    ensures capacity { vec_capacity passes.new ≡ vec_capacity passes.old }
+    ensures all { vec_len workers.new ≡ length script.now.operations }
+    ensures workers { AreDownFrom (length script.now.operations)
+        (IsStart P.meaning shared.now.rows.now E.says E.object (A.is_own shared.now.asks.now)
+        A.made A.room A.told course) workers.new.items }
+{
+    let mut left = script.callers();
+    while left > 0 {
+        left -= 1;
+        let pass = passes.pop().unwrap();
+        let own = room.pop().unwrap();
+        let ending = endings.pop().unwrap();
+        let caller = shared.rows.part(bench, left);
+        let worker = begin(shared, caller, pass, script, own, ending);
+        workers.push(worker).unwrap();
+    }
+    endings.destroy_empty();
+}

@@ -1,0 +1,178 @@
+ghost use Rattle.std.specs.Prelude.{◌≡◌, ℕ, ◌<◌, false, length, vec_len, IfOk};
+ghost use Rattle.std.specs.List.{All};
+ghost use Rattle.call_lines.specs.Allotments.{allotments_of, allotments_by_turns};
+ghost use Rattle.row_table.specs.Callers.{IsBenchOf};
+ghost use Rattle.reports.specs.ReportLayout.{lines_in};
+ghost use Rattle.bench_clients.specs.Places.{AreDownFrom, AreInOrder};
+ghost use Rattle.bench_clients.specs.Starts.{Course, course_of, AreRowsFor, IsUnused, IsFreshPass, IsStart};
+ghost use Rattle.bench_clients.specs.Returns.{IsSpent, IsBackOn, AreBack};
+ghost use Rattle.bench_clients.specs.Turns.{IsTurning, HasTurned};
+
+use crate::end::end_all;
+use crate::run::make_room;
+use crate::start::start_all;
+use crate::worker::Worker;
+use book_base::NoMemory;
+use call_phases::{Asks, Ending, Shared};
+use client_scripts::Script;
+use reports::Own;
+use row_table::{Bench, Steps};
+use std::alloc::Global;
+use std::marker::Brand;
+use std::sync::ledger::{Blank, Ledger};
+use world_core::Program;
+
+impl<'a, P: Program, T, E: Ending> Worker<'a, P, T, E> {
+    // Makes one further phase, where one is left and the client isn't halted.
+    fn take_turn<A: Asks<Program = P, Pass = T>, L: Ledger>(
+        &mut self,
+        shared: &Shared<A, P>,
+        steps: &mut Steps<L>,
+    )
+        requires { IsTurning P.meaning shared.now.rows.now E.says E.object
+            (A.is_own shared.now.asks.now) A.made A.room A.told self.old }
+        ensures { HasTurned P.meaning shared.now.rows.now E.says E.object
+            (A.is_own shared.now.asks.now) A.made A.room A.told self.old self.new }
+    {
+        if self.allotment == 0 {
+            return;
+        }
+        let client = self.client.take().unwrap();
+        let client = if client.stand.goes_on() {
+            self.allotment -= 1;
+            client.advance(shared, steps)
+        } else {
+            client
+        };
+        match self.client.replace(client) {
+            None => {}
+            Some(_) => unreachable!(),
+        }
+    }
+}
+
+/// At each turn of a script the worker of the caller that it names makes its next phase, where one
+/// is left and it isn't halted.
+pub(crate) fn take_turns<'a, P: Program, T, E: Ending, A: Asks<Program = P, Pass = T>, L: Ledger>(
+    shared: &Shared<A, P>,
+    script: &Script,
+    workers: &mut Vec<Worker<'a, P, T, E>>,
+    steps: &mut Steps<L>,
+)
+    ghost course: { Course }
+    requires course { course ≡ course_of script.now
+        (allotments_of script.now.operations script.now.stops) course.object }
+    requires all { length workers.old.items ≡ length script.now.operations }
+    requires workers { AreDownFrom (length script.now.operations)
+        (IsStart P.meaning shared.now.rows.now E.says E.object (A.is_own shared.now.asks.now)
+        A.made A.room A.told course) workers.old.items }
+    ensures all { length workers.new.items ≡ length script.now.operations }
+    ensures workers { AreDownFrom (length script.now.operations)
+        (IsSpent P.meaning shared.now.rows.now E.says E.object (A.is_own shared.now.asks.now)
+        A.made A.room A.told (course_of script.now
+        (allotments_by_turns script.now.operations script.now.stops script.now.turns)
+        course.object)) workers.new.items }
+{
+    let last = script.callers() as usize - 1;
+    for turn in script.turns() {
+        workers[last - *turn as usize].take_turn(shared, steps);
+    }
+}
+
+// The same, with the steps counted by themselves.
+fn take_turns_counted<'a, P: Program, T, E: Ending, A: Asks<Program = P, Pass = T>, L: Ledger>(
+    shared: &Shared<A, P>,
+    script: &Script,
+    workers: &mut Vec<Worker<'a, P, T, E>>,
+    blank: Blank,
+)
+    ghost course: { Course }
+    requires blank { (blank.name ≡ L.name) × (blank.parts ≡ L.parts) × (0 < blank.parts) }
+    requires course { course ≡ course_of script.now
+        (allotments_of script.now.operations script.now.stops) course.object }
+    requires all { length workers.old.items ≡ length script.now.operations }
+    requires workers { AreDownFrom (length script.now.operations)
+        (IsStart P.meaning shared.now.rows.now E.says E.object (A.is_own shared.now.asks.now)
+        A.made A.room A.told course) workers.old.items }
+    ensures all { length workers.new.items ≡ length script.now.operations }
+    ensures workers { AreDownFrom (length script.now.operations)
+        (IsSpent P.meaning shared.now.rows.now E.says E.object (A.is_own shared.now.asks.now)
+        A.made A.room A.told (course_of script.now
+        (allotments_by_turns script.now.operations script.now.stops script.now.turns)
+        course.object)) workers.new.items }
+{
+    let mut steps = Steps::<L>::new(blank);
+    take_turns(shared, script, workers, &mut steps);
+}
+
+// The same, by a ledger of its own.
+fn take_turns_alone<'a, P: Program, T, E: Ending, A: Asks<Program = P, Pass = T>>(
+    shared: &Shared<A, P>,
+    script: &Script,
+    workers: &mut Vec<Worker<'a, P, T, E>>,
+)
+    ghost course: { Course }
+    requires course { course ≡ course_of script.now
+        (allotments_of script.now.operations script.now.stops) course.object }
+    requires all { length workers.old.items ≡ length script.now.operations }
+    requires workers { AreDownFrom (length script.now.operations)
+        (IsStart P.meaning shared.now.rows.now E.says E.object (A.is_own shared.now.asks.now)
+        A.made A.room A.told course) workers.old.items }
+    ensures all { length workers.new.items ≡ length script.now.operations }
+    ensures workers { AreDownFrom (length script.now.operations)
+        (IsSpent P.meaning shared.now.rows.now E.says E.object (A.is_own shared.now.asks.now)
+        A.made A.room A.told (course_of script.now
+        (allotments_by_turns script.now.operations script.now.stops script.now.turns)
+        course.object)) workers.new.items }
+{
+    take_turns_counted::<P, T, E, A, Brand>(shared, script, workers, Blank::new(1));
+}
+
+/// Lets the callers make their phases in the order of a script's turns: at each turn the caller
+/// that it names makes its next phase, where it has one left up to its stop, and isn't halted. All
+/// callers come back to their bench, and all passes to their list, in order, whatever the answer.
+///
+/// The answer is the lines of each caller, in order. Want of memory is answered before anything is
+/// done, or where it was wanted for a judgement.
+pub fn replay_all<'a, P: Program, T, E: Ending + Drop, A: Asks<Program = P, Pass = T>>(
+    alloc: Global,
+    shared: &Shared<A, P>,
+    bench: &mut Bench<P>,
+    passes: &mut Vec<T>,
+    script: &'a Script,
+    endings: Vec<E>,
+) -> Result<Vec<Own>, NoMemory>
+    ghost course: { Course }
+    requires course { course ≡ course_of script.now
+        (allotments_of script.now.operations script.now.stops) course.object }
+    requires rows { AreRowsFor script.now shared.now.rows.now }
+    requires bench { IsBenchOf P.meaning shared.now.rows.now bench.old }
+    requires unused { (i : ℕ) → i < length script.now.operations → IsUnused bench.old i }
+    requires all_passes { vec_len passes.old ≡ length script.now.operations }
+    requires passes { AreInOrder (IsFreshPass (A.is_own shared.now.asks.now) A.made A.room A.told
+        script.now.operations) passes.old.items }
+    requires all_endings { vec_len endings ≡ length script.now.operations }
+    requires endings { All (λ e. E.object e ≡ course.object) endings.items }
+    ensures bench { IsBenchOf P.meaning shared.now.rows.now bench.new }
+    ensures all_passes { vec_len passes.new ≡ length script.now.operations }
+    ensures back { (i : ℕ) → i < length script.now.operations
+        → IsBackOn (A.is_own shared.now.asks.now) A.made A.told (course_of script.now
+        (allotments_by_turns script.now.operations script.now.stops script.now.turns) course.object)
+        bench.new passes.new.items i }
+    ensures all_lines { IfOk result (λ lines. vec_len lines ≡ length script.now.operations) }
+    ensures lines { IfOk result (λ lines. AreBack E.says (A.is_own shared.now.asks.now) A.made A.told
+        (length script.now.operations) (length script.now.operations) (course_of script.now
+        (allotments_by_turns script.now.operations script.now.stops script.now.turns) course.object)
+        bench.new passes.new.items (lines_in lines.items) false) }
+{
+    let callers = script.callers() as usize;
+    let room = make_room(alloc, script)?;
+    let mut lines = Vec::with_capacity(alloc, callers)?;
+    let mut workers = Vec::with_capacity(alloc, callers)?;
+    start_all(shared, bench, passes, script, room, endings, &mut workers);
+    take_turns_alone(shared, script, &mut workers);
+    if end_all(shared, script, workers, bench, passes, &mut lines) {
+        return Err(NoMemory);
+    }
+    Ok(lines)
+}

@@ -1,0 +1,85 @@
+ghost use Rattle.std.specs.Prelude.{◌≡◌, ◌+◌, ◌*◌, ◌<◌, ◌≤◌, length};
+ghost use Rattle.call_phases.specs.Stands.{GoesOnFrom};
+ghost use Rattle.call_phases.specs.Clients.{phases_by, HasSpent, IsSameClient};
+ghost use Rattle.bench_clients.specs.Work.{IsAtWork, IsReady, HasRun};
+
+use call_phases::{Asks, Client, Ending, Shared};
+use row_table::Steps;
+use std::marker::Brand;
+use std::sync::ledger::{Blank, Ledger};
+use work_halves::Work;
+use world_core::Program;
+
+/// A client, and how many further phases it is to make.
+pub struct Worker<'a, P, T, E> {
+    pub client: Option<Client<'a, P, T, E>>,
+    pub allotment: u64,
+}
+
+// The client makes so many further phases, or is halted within them. Its steps are counted by
+// themselves.
+fn run_counted<'a, P: Program, T, E: Ending, A: Asks<Program = P, Pass = T>, L: Ledger>(
+    client: Client<'a, P, T, E>,
+    shared: &Shared<A, P>,
+    count: u64,
+    blank: Blank,
+) -> Client<'a, P, T, E>
+    requires blank { (blank.name ≡ L.name) × (blank.parts ≡ L.parts) × (0 < blank.parts) }
+    requires work { IsAtWork P.meaning shared.now.rows.now E.says E.object
+        (A.is_own shared.now.asks.now) A.made A.room A.told client }
+    requires goes { GoesOnFrom client.stand }
+    requires left { phases_by client + count ≤ 5 * length client.sheet.operations.now }
+    ensures work { IsAtWork P.meaning shared.now.rows.now E.says E.object
+        (A.is_own shared.now.asks.now) A.made A.room A.told result }
+    ensures same { IsSameClient client.entry result }
+    ensures object { E.object result.sheet.ending ≡ E.object client.entry.sheet.ending }
+    ensures spent { HasSpent (phases_by client.entry + count) result }
+{
+    let mut steps = Steps::<L>::new(blank);
+    client.run(shared, count, &mut steps)
+}
+
+// The same, by a ledger of its own.
+fn run_alone<'a, P: Program, T, E: Ending, A: Asks<Program = P, Pass = T>>(
+    client: Client<'a, P, T, E>,
+    shared: &Shared<A, P>,
+    count: u64,
+) -> Client<'a, P, T, E>
+    requires work { IsAtWork P.meaning shared.now.rows.now E.says E.object
+        (A.is_own shared.now.asks.now) A.made A.room A.told client }
+    requires goes { GoesOnFrom client.stand }
+    requires left { phases_by client + count ≤ 5 * length client.sheet.operations.now }
+    ensures work { IsAtWork P.meaning shared.now.rows.now E.says E.object
+        (A.is_own shared.now.asks.now) A.made A.room A.told result }
+    ensures same { IsSameClient client.entry result }
+    ensures object { E.object result.sheet.ending ≡ E.object client.entry.sheet.ending }
+    ensures spent { HasSpent (phases_by client.entry + count) result }
+{
+    run_counted::<P, T, E, A, Brand>(client, shared, count, Blank::new(1))
+}
+
+impl<
+    'a,
+    's,
+    P: Program + Send + Sync,
+    T: Send,
+    E: Ending + Send,
+    A: Asks<Program = P, Pass = T> + Sync,
+> Work<Shared<'s, A, P>> for Worker<'a, P, T, E> {
+    ghost ready = { λ w shared. IsReady P.meaning shared.rows.now E.says E.object
+        (A.is_own shared.asks.now) A.made A.room A.told w };
+
+    ghost done = { λ w shared d. HasRun P.meaning shared.rows.now E.says E.object
+        (A.is_own shared.asks.now) A.made A.room A.told w d };
+
+    fn work(&mut self, shared: &Shared<'s, A, P>) {
+        let Some(client) = self.client.take() else {
+            unreachable!()
+        };
+        let client = run_alone(client, shared, self.allotment);
+        match self.client.replace(client) {
+            None => {}
+            Some(_) => unreachable!(),
+        }
+    }
+}
