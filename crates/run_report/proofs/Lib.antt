@@ -1,0 +1,4 @@
+pub mod Reports
+pub mod Workers
+pub mod Reported
+pub mod Sending

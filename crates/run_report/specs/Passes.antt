@@ -1,0 +1,15 @@
+-- The passes by which the callers of a run ask the object.
+use Rattle.std.specs.Prelude.{◌≡◌, ℕ, ◌≤◌, List, length}
+use Rattle.call_lines.specs.Allotments.{operations_at}
+
+-- A pass is the object's own, and the one of caller i.
+pub record IsOwnPass {T : Type 0} (is_own : T → Type 0) (caller : T → ℕ) (i : ℕ) (pass : T) : Type 0 where
+  pub own : is_own pass
+  pub of : caller pass ≡ i
+
+-- So it is, with no call made, and with a call for each operation of that caller.
+pub record IsUnusedPass {T : Type 0} (is_own : T → Type 0) (caller made cap : T → ℕ) (operations : List (List ℕ)) (i : ℕ) (pass : T) : Type 0 where
+  pub own : is_own pass
+  pub of : caller pass ≡ i
+  pub none : made pass ≡ 0
+  pub enough : length (operations_at operations i) ≤ cap pass

@@ -1,0 +1,30 @@
+-- The report of the callers of a plan, by the locals that they leave.
+use Rattle.std.specs.Prelude.{◌≡◌, ℕ, ◌<◌, List, [], ◌∷◌, Option, IfSome, length, map, slice_get, Some, slice_index}
+use Rattle.seq_objects.specs.declared.kind.Kind.{Kind}
+use Rattle.world_core.specs.Shape.{Shape}
+use Rattle.world_core.specs.Local.{Local}
+use Rattle.call_lines.specs.Lines.{made_of, lines_at, AreLinesOf}
+use Rattle.call_lines.specs.Phases.{IsTold, asked}
+use Rattle.call_lines.specs.Allotments.{phases_of}
+use Rattle.call_lines.specs.Lawful.{IsLawful}
+use Rattle.client_scripts.specs.Plans.{Plan}
+use Rattle.call_phases.specs.Ends.{Sequential, silent}
+use Rattle.reports.specs.Findings.{Findings}
+
+-- Findings are those of a plan's callers that were given these phases and left these locals: of its kind, with the lines of just these
+-- locals, and lawful.
+pub record IsReportOf (init : List ℕ) (next : List ℕ → ℕ → List ℕ × ℕ) (s : Shape) (locals : List Local) (plan : Plan) (allotments : List ℕ) (findings : Findings) : Type 0 where
+  pub kind : findings.kind ≡ plan.kind
+  pub lines : AreLinesOf init next locals findings.lines
+  pub lawful : IsLawful init next s plan.operations allotments findings.lines
+
+-- The sequential object that the first of some endings judges by.
+abbrev pub first_object : {E : Type 0} → (E → Sequential) → List E → Sequential
+first_object object [] = silent
+first_object object (ending ∷ endings) = object ending
+
+-- The pass of caller i was asked for exactly the calls that the caller's lines tell of, and tells, where it tells anything, an
+-- operation and a reply for each of them.
+pub record IsToldIn {T : Type 0} (made : T → ℕ) (told : T → Option (List (ℕ × ℕ))) (allotments : List ℕ) (findings : Findings) (i : ℕ) (pass : T) : Type 0 where
+  pub asked_for : made pass ≡ asked (phases_of (slice_index allotments i) (lines_at findings.lines i))
+  pub told_is : IfSome (told pass) (IsTold (phases_of (slice_index allotments i) (lines_at findings.lines i)) (map made_of (lines_at findings.lines i)))

@@ -1,0 +1,44 @@
+ghost use Rattle.std.specs.Prelude.{◌≡◌, vec_len, IfOk};
+ghost use Rattle.std.specs.List.{All};
+ghost use Rattle.call_phases.specs.Ends.{Sequential};
+ghost use Rattle.bench_clients.specs.Places.{AreInOrder};
+ghost use Rattle.bench_clients.specs.Starts.{IsFreshPass};
+ghost use Rattle.run_report.specs.Passes.{IsUnusedPass};
+
+use book_base::{NoMemory, SeqObject};
+use call_phases::Judging;
+use client_scripts::Script;
+use drv_wrapper::{BlackBox, ObjectPass};
+use frontier_check::Guide;
+use std::alloc::Global;
+
+// For each of so many callers a judgement of its calls by this object.
+pub(crate) fn make_judgements<'a, S: SeqObject>(
+    alloc: Global,
+    sequential: &'a S,
+    callers: u32,
+) -> Result<Vec<Judging<'a, S>>, NoMemory>
+    ghost object: { Sequential }
+    requires { object ≡ record { init = S.init sequential.now; next = S.next sequential.now } }
+    ensures all { IfOk result (λ endings. vec_len endings ≡ callers) }
+    ensures each { IfOk result (λ endings. All (λ e. record {
+      init = S.init e.sequential.now;
+      next = S.next e.sequential.now;
+    } ≡ object) endings.items) }
+{
+    let mut endings = Vec::with_capacity(alloc, callers as usize)?;
+    for _i in 0..callers {
+        let guide = Guide::new(alloc)?;
+        endings.push(Judging::new(alloc, sequential, guide))?;
+    }
+    Ok(endings)
+}
+
+// Passes with which no call was made tell of none.
+pub(crate) fn passes_are_fresh<B: BlackBox>(_object: &B, _passes: &Vec<B::Pass>, _script: &Script)
+    requires { AreInOrder (IsUnusedPass (B.is_own _object.now) B.Pass.caller B.Pass.made B.Pass.cap
+        _script.now.operations) _passes.now.items }
+    ensures { AreInOrder (IsFreshPass
+        (λ pass who. B.is_own _object.now pass × (B.Pass.caller pass ≡ who)) B.Pass.made B.Pass.cap
+        B.Pass.told _script.now.operations) _passes.now.items }
+{}

@@ -1,0 +1,71 @@
+ghost use Rattle.std.specs.Prelude.{◌≡◌, ℕ, ◌<◌, length, vec_len, IfOk};
+ghost use Rattle.call_lines.specs.Allotments.{allotments_of};
+ghost use Rattle.row_table.specs.Callers.{shape_of, locals_on, IsBenchOf, HoldsAll};
+ghost use Rattle.bench_clients.specs.Places.{AreInOrder};
+ghost use Rattle.bench_clients.specs.Starts.{course_of, AreRowsFor, IsUnused};
+ghost use Rattle.bench_clients.specs.Returns.{IsBackOn};
+ghost use Rattle.run_report.specs.Passes.{IsOwnPass, IsUnusedPass};
+ghost use Rattle.run_report.specs.Reporting.{IsReportOf, IsToldIn};
+
+use crate::judgements::{make_judgements, passes_are_fresh};
+use crate::report::read_replies;
+use bench_clients::run_all;
+use book_base::{NoMemory, SeqObject};
+use call_phases::{OutsideObject, Shared};
+use client_scripts::Script;
+use drv_wrapper::BlackBox;
+use reports::Report;
+use row_table::{Bench, Rows};
+use std::alloc::Global;
+use std::thread::Threads;
+use world_core::{Outside, Program};
+
+/// Runs all callers of a script, each in a thread of its own where one can be had: each calls the
+/// object by its pass, and judges each of its calls by the sequential object. The answer is their
+/// report, which is lawful.
+///
+/// Whatever the answer, the bench holds all callers again, the passes are in their order, and each
+/// caller has made some first part of its phases. Want of memory is answered before the first call,
+/// or where a judgement wanted it.
+pub fn run_over<R: Threads + Sync, S: SeqObject + Sync, B: BlackBox + Sync>(
+    rt: &R,
+    alloc: Global,
+    rows: &Rows,
+    bench: &mut Bench,
+    sequential: &S,
+    object: &B,
+    passes: &mut Vec<B::Pass>,
+    script: &Script,
+) -> Result<Report, NoMemory>
+where
+    B::Pass: Send,
+    requires rows { AreRowsFor script.now rows.now }
+    requires bench { IsBenchOf ⟦<Outside as Program>⟧.meaning rows.now bench.old }
+    requires unused { (i : ℕ) → i < length script.now.operations → IsUnused bench.old i }
+    requires all_passes { vec_len passes.old ≡ length script.now.operations }
+    requires passes { AreInOrder (IsUnusedPass (B.is_own object.now) B.Pass.caller B.Pass.made
+        B.Pass.cap script.now.operations) passes.old.items }
+    // For every answer.
+    ensures bench { IsBenchOf ⟦<Outside as Program>⟧.meaning rows.now bench.new × HoldsAll bench.new }
+    ensures all_passes { vec_len passes.new ≡ length script.now.operations }
+    ensures back { (i : ℕ) → i < length script.now.operations → IsBackOn
+        (λ pass who. B.is_own object.now pass × (B.Pass.caller pass ≡ who)) B.Pass.made B.Pass.told
+        (course_of script.now (allotments_of script.now.operations script.now.stops)
+        (record { init = S.init sequential.now; next = S.next sequential.now }))
+        bench.new passes.new.items i }
+    ensures passes { AreInOrder (IsOwnPass (B.is_own object.now) B.Pass.caller) passes.new.items }
+    // Where a report is answered.
+    ensures report { IfOk result (λ report. IsReportOf (S.init sequential.now) (S.next sequential.now)
+        (shape_of ⟦<Outside as Program>⟧.meaning rows.now) (locals_on bench.new) script.now
+        (allotments_of script.now.operations script.now.stops) report) }
+    ensures told { IfOk result (λ report. AreInOrder (IsToldIn B.Pass.made B.Pass.told
+        (allotments_of script.now.operations script.now.stops) report) passes.new.items) }
+{
+    passes_are_fresh(object, passes, script);
+    let endings = make_judgements(alloc, sequential, script.callers())?;
+    let asks = OutsideObject { object };
+    let shared = Shared { rows, asks: &asks };
+    let lines = run_all(rt, alloc, &shared, bench, passes, script, endings)?;
+    read_replies(&lines);
+    Ok(Report::of_lines(script.kind(), lines))
+}
