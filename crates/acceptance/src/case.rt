@@ -1,3 +1,4 @@
+use crate::alone::agrees;
 use crate::cuts::try_cuts;
 use anyhow::{Result, anyhow};
 use selfcheck::{MemorySink, MemorySource, Sink, Source, SteadySource, read_all};
@@ -49,19 +50,54 @@ impl Case {
         })
     }
 
-    /// Runs the case, and where a book is to be called legal, tries it at each of its smaller cuts too.
+    /// Runs the case, and tries its book in two further ways: by sets of calls that stand alone, which give the same verdict, and,
+    /// where it is to be called legal, at each of its smaller cuts too.
     pub fn run_with_cuts<R: AllocGlobal + Threads + Sync>(&self, rt: &R) -> Result<Outcome> {
         let outcome = self.run(rt)?;
-        if outcome.passed && !self.fronts && self.wanted.as_slice() == b"legal\n".as_slice() {
-            if let Err(fault) = try_cuts(rt.alloc(), &self.input) {
+        if !outcome.passed || self.fronts {
+            return Ok(outcome);
+        }
+        let Some(is_legal) = self.wanted_verdict() else {
+            return Ok(outcome);
+        };
+        match self.try_further(rt.alloc(), is_legal) {
+            Ok(()) => Ok(outcome),
+            Err(fault) => {
                 let report = format!(in rt.alloc(); "{}: {fault}", self.name)?;
-                return Ok(Outcome {
+                Ok(Outcome {
                     passed: false,
                     report,
-                });
+                })
             }
         }
-        Ok(outcome)
+    }
+
+    // Tries the book by sets, and at its smaller cuts.
+    fn try_further(&self, alloc: Global, is_legal: bool) -> Result<()> {
+        if !agrees(alloc, &self.input, is_legal)? {
+            return Err(anyhow!("by sets of single calls the verdict is another"));
+        }
+        if is_legal {
+            try_cuts(alloc, &self.input)?;
+        }
+        Ok(())
+    }
+
+    // Whether the case wants `verify` to call its input legal, or illegal.
+    fn wanted_verdict(&self) -> Option<bool> {
+        let [word] = self.words.as_slice() else {
+            return None;
+        };
+        if word.as_str() != "verify" {
+            return None;
+        }
+        if self.wanted.as_slice() == b"legal\n".as_slice() {
+            return Some(true);
+        }
+        if self.wanted.as_slice() == b"illegal\n".as_slice() {
+            return Some(false);
+        }
+        None
     }
 
     /// Runs the top call on the case: on its input, or on each front of it that isn't whole.

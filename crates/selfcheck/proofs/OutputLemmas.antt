@@ -13,25 +13,38 @@ use Rattle.sketch.proofs.Orderly.{books_have_one_sketch}
 use Rattle.text_fields.specs.Lines.{text_of}
 use Rattle.text_fields.specs.declared.version.Version.TheVariants.{Second}
 use Rattle.selfcheck.specs.declared.command.Command.{Command}
-use Rattle.selfcheck.specs.declared.command.Command.TheVariants.{Verify, Sketch}
+use Rattle.selfcheck.specs.declared.command.Command.TheVariants.{Verify, Sketch, Order, Upgrade, Sets}
 use Rattle.selfcheck.specs.declared.status.Status.{Status}
 use Rattle.selfcheck.specs.declared.status.Status.TheVariants.{Fine, Found, Usage, Refused, ReadFault, WriteFault, NoMemory}
 use Rattle.selfcheck.specs.declared.TheConstants.{INPUT_LIMIT}
 use Rattle.selfcheck.specs.Command.{command_of}
 use Rattle.selfcheck.specs.Input.{refusal_text}
-use Rattle.selfcheck.specs.Output.{Form, BookForm, form_of, IsTextOf, IsFirstFaultOf, IsTaken, IsVerdict, IsSketchText, IsDrawn, IsAnswerOf, IsRefusal, IsOutputOf, HasOneStatus, IsDetermined, RefuseWhatIsNotTaken, IsOutput, ReadsFor, Reads, Ends, EndsWriting, IsUnfinished, input_of}
+use Rattle.selfcheck.specs.Output.{Form, BookForm, CertificateForm, OldForm, SetForm, form_of, IsTextOf, IsFirstFaultOf, IsTaken, IsVerdict, IsSketchText, IsDrawn, IsJudgement, IsRewritten, IsSetVerdict, IsAnswerOf, IsRefusal, IsOutputOf, HasOneStatus, IsDetermined, RefuseWhatIsNotTaken, IsOutput, ReadsFor, Reads, Ends, EndsWriting, IsUnfinished, input_of}
+use Rattle.selfcheck.specs.Orders.{order_fault_text}
 use Rattle.selfcheck.specs.Told.{AppendsPart}
+use Rattle.selfcheck.specs.UpgradeLaws.{UpgradesSayTheSame, UpgradesKeepOrders}
 use Rattle.selfcheck.proofs.InputLemmas.{IsBookInput-from_told, IsBookInput-from_legal, IsBookInput-from_illegal, legal_or_illegal, book_or_fault, one_refusal}
+use Rattle.certificate_text.proofs.Readings.{one_fault}
+use Rattle.setbook_text.proofs.SharpSetBooks as set_books
+use Rattle.selfcheck.proofs.SetLemmas.{IsSetInput-from_legal, IsSetInput-from_illegal, set_input_or_fault, legal_or_illegal_sets}
+use Rattle.selfcheck.proofs.OrderLemmas.{IsCertificateInput-from_legal, IsCertificateInput-from_faulty, certificate_or_fault, legal_or_faulty, one_order_fault}
+use Rattle.selfcheck.proofs.UpgradeLemmas.{old_or_fault, one_old_fault, old-from_upgraded, one_upgraded, says_the_same, one_order}
 
 -- ---- forms of texts: one case a form
 
 -- a text of the form has no first fault
 text_or_fault : (form : Form) (bytes : List ℕ) (fault : TextFault) → IsTextOf form bytes → IsFirstFaultOf form bytes fault → ⊥
 text_or_fault BookForm bytes fault book first = book_or_fault bytes fault book first
+text_or_fault CertificateForm bytes fault certificate first = certificate_or_fault bytes fault certificate first
+text_or_fault OldForm bytes fault old first = old_or_fault bytes fault old first
+text_or_fault SetForm bytes fault told first = set_input_or_fault bytes fault told first
 
 -- bytes have one first fault
 one_fault_of : (form : Form) (bytes : List ℕ) (a b : TextFault) → IsFirstFaultOf form bytes a → IsFirstFaultOf form bytes b → a ≡ b
 one_fault_of BookForm bytes a b p q = one_first_fault Second bytes a b p q
+one_fault_of CertificateForm bytes a b p q = one_fault bytes a b p q
+one_fault_of OldForm bytes a b p q = one_old_fault bytes a b p q
+one_fault_of SetForm bytes a b p q = set_books.one_first_fault bytes a b p q
 
 -- ---- what commands answer: one case a command
 
@@ -42,6 +55,14 @@ answer_statuses Verify bytes Found text answer = inr refl
 answer_statuses Verify bytes _ text answer = absurd answer
 answer_statuses Sketch bytes Fine text answer = inl refl
 answer_statuses Sketch bytes _ text answer = absurd answer
+answer_statuses Order bytes Fine text answer = inl refl
+answer_statuses Order bytes Found text answer = inr refl
+answer_statuses Order bytes _ text answer = absurd answer
+answer_statuses Upgrade bytes Fine text answer = inl refl
+answer_statuses Upgrade bytes _ text answer = absurd answer
+answer_statuses Sets bytes Fine text answer = inl refl
+answer_statuses Sets bytes Found text answer = inr refl
+answer_statuses Sets bytes _ text answer = absurd answer
 
 -- what is answered is an input of the wanted form
 answered_is_wanted : (command : Command) (bytes : List ℕ) (status : Status) (text : List ℕ) → IsAnswerOf command bytes status text → IsTextOf (form_of command) bytes
@@ -50,6 +71,14 @@ answered_is_wanted Verify bytes Found text answer = IsBookInput-from_illegal byt
 answered_is_wanted Verify bytes _ text answer = absurd answer
 answered_is_wanted Sketch bytes Fine text answer = IsBookInput-from_told bytes answer.kind answer.book answer.told
 answered_is_wanted Sketch bytes _ text answer = absurd answer
+answered_is_wanted Order bytes Fine text answer = IsCertificateInput-from_legal bytes answer.0
+answered_is_wanted Order bytes Found text answer = IsCertificateInput-from_faulty bytes answer.0 answer.1
+answered_is_wanted Order bytes _ text answer = absurd answer
+answered_is_wanted Upgrade bytes Fine text answer = old-from_upgraded bytes text answer
+answered_is_wanted Upgrade bytes _ text answer = absurd answer
+answered_is_wanted Sets bytes Fine text answer = IsSetInput-from_legal bytes answer.0
+answered_is_wanted Sets bytes Found text answer = IsSetInput-from_illegal bytes answer.0
+answered_is_wanted Sets bytes _ text answer = absurd answer
 
 -- ---- outputs
 
@@ -137,6 +166,49 @@ one_drawing bytes _ other text text' a b = absurd a
 pub sketch_is_determined : IsDetermined Sketch
 sketch_is_determined = IsDetermined-from_answers Sketch one_drawing
 
+one_judgement : (bytes : List ℕ) (status other : Status) (text text' : List ℕ) → IsJudgement bytes status text → IsJudgement bytes other text' → (status ≡ other) × (text ≡ text')
+one_judgement bytes Fine Fine text text' a b = (refl, a.1 ∙ sym b.1)
+one_judgement bytes Fine Found text text' a b = absurd (legal_or_faulty bytes b.0 a.0 b.1)
+one_judgement bytes Fine _ text text' a b = absurd b
+one_judgement bytes Found Fine text text' a b = absurd (legal_or_faulty bytes a.0 b.0 a.1)
+one_judgement bytes Found Found text text' a b = (refl, a.2 ∙ ap order_fault_text (one_order_fault bytes a.0 b.0 a.1 b.1) ∙ sym b.2)
+one_judgement bytes Found _ text text' a b = absurd b
+one_judgement bytes _ other text text' a b = absurd a
+
+-- the bytes determine the output of `order`
+pub order_is_determined : IsDetermined Order
+order_is_determined = IsDetermined-from_answers Order one_judgement
+
+one_rewriting : (bytes : List ℕ) (status other : Status) (text text' : List ℕ) → IsRewritten bytes status text → IsRewritten bytes other text' → (status ≡ other) × (text ≡ text')
+one_rewriting bytes Fine Fine text text' a b = (refl, one_upgraded bytes text text' a b)
+one_rewriting bytes Fine _ text text' a b = absurd b
+one_rewriting bytes _ other text text' a b = absurd a
+
+-- the bytes determine the output of `upgrade`
+pub upgrade_is_determined : IsDetermined Upgrade
+upgrade_is_determined = IsDetermined-from_answers Upgrade one_rewriting
+
+-- what `upgrade` writes says the same as its input
+pub upgrades_say_the_same : UpgradesSayTheSame
+upgrades_say_the_same bytes text output = says_the_same bytes text output.1
+
+-- the book in the output has the legal orders of the book in the input
+pub upgrades_keep_orders : UpgradesKeepOrders
+upgrades_keep_orders bytes text kind other book another output old new order = one_order bytes text kind other book another output.1 old new order
+
+one_set_verdict : (bytes : List ℕ) (status other : Status) (text text' : List ℕ) → IsSetVerdict bytes status text → IsSetVerdict bytes other text' → (status ≡ other) × (text ≡ text')
+one_set_verdict bytes Fine Fine text text' h k = (refl, h.1 ∙ sym k.1)
+one_set_verdict bytes Found Found text text' h k = (refl, h.1 ∙ sym k.1)
+one_set_verdict bytes Fine Found text text' h k = absurd (legal_or_illegal_sets bytes h.0 k.0)
+one_set_verdict bytes Found Fine text text' h k = absurd (legal_or_illegal_sets bytes k.0 h.0)
+one_set_verdict bytes Fine _ text text' h k = absurd k
+one_set_verdict bytes Found _ text text' h k = absurd k
+one_set_verdict bytes _ other text text' h k = absurd h
+
+-- the bytes determine the output of `sets`
+pub sets_is_determined : IsDetermined Sets
+sets_is_determined = IsDetermined-from_answers Sets one_set_verdict
+
 -- ---- how a call that writes an output ends
 
 EndsWriting-whole : (IsOne : Status → List ℕ → Type 0) (status : Status) (taken taken' : Option (List ℕ)) (text : List ℕ)
@@ -174,6 +246,13 @@ IsOutput-named : (words : List (String Global)) (command : Command) (bytes : Lis
     → command_of words ≡ Some command → IsOutputOf command bytes status text → IsOutput words bytes status text
 IsOutput-named words command bytes status text named output = rw named output
 
+-- words name one command
+pub one_named : (words : List (String Global)) (a b : Command) → command_of words ≡ Some a → command_of words ≡ Some b → a ≡ b
+one_named words a b named also = same (sym named ∙ also)
+  where
+    same : ◌≡◌ {A = Option Command} (Some a) (Some b) → a ≡ b
+    same e = cc
+
 -- the program has ended as the command that its words name has
 pub Ends-answered : (words : List (String Global)) (command : Command) (result : Status) (left left' taken taken' : Option (List ℕ)) (bytes : List ℕ)
     → command_of words ≡ Some command → ReadsFor command left left' bytes → EndsWriting (IsOutputOf command bytes) result taken taken'
@@ -207,6 +286,9 @@ Ends-usage words result left taken taken' unnamed (inr part) =
 input_is : (command : Command) (held : List ℕ) (new : Option (List ℕ)) (bytes : List ℕ) → ReadsFor command (Some held) new bytes → bytes ≡ input_of command held
 input_is Verify held new bytes reads = reads.0
 input_is Sketch held new bytes reads = reads.0
+input_is Order held new bytes reads = reads.0
+input_is Upgrade held new bytes reads = reads.0
+input_is Sets held new bytes reads = reads.0
 
 -- where all outputs have one status, a call that wrote one has this status
 one_status : (IsOne : Status → List ℕ → Type 0) (status result : Status) (taken taken' : Option (List ℕ)) → EndsWriting IsOne result taken taken'

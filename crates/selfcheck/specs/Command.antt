@@ -1,31 +1,73 @@
 -- The commands, and the words that name them.
-use Rattle.std.specs.Prelude.{◌≡◌, ◌↔◌, ℕ, Bool, true, List, [], ◌∷◌, map, Option, Some, None, String, string_bytes, codes, if◌then◌else◌}
+use Rattle.std.specs.Prelude.{◌≡◌, ◌↔◌, ℕ, Bool, true, false, List, [], ◌∷◌, map, Option, Some, None, String, string_bytes, codes, if◌then◌else◌}
 use Rattle.std.specs.Str.{bytes_eq}
 use Rattle.std.specs.declared.alloc.Global.{Global}
 use Rattle.selfcheck.specs.declared.command.Command.{Command}
-use Rattle.selfcheck.specs.declared.command.Command.TheVariants.{Verify, Sketch}
+use Rattle.selfcheck.specs.declared.command.Command.TheVariants.{Verify, Sketch, Order, Upgrade, Sets}
 
 -- the words of a command
 abbrev pub words_of : Command → List (List ℕ)
 words_of Verify = codes "verify" ∷ []
 words_of Sketch = codes "sketch" ∷ []
+words_of Order = codes "order" ∷ []
+words_of Upgrade = codes "upgrade" ∷ []
+words_of Sets = codes "sets" ∷ []
+
+-- the commands that have no argument, each with its word
+abbrev pub lone_commands : List (List ℕ × Command)
+lone_commands =
+    (codes "verify", Verify)
+    ∷ (codes "sketch", Sketch)
+    ∷ (codes "order", Order)
+    ∷ (codes "upgrade", Upgrade)
+    ∷ (codes "sets", Sets)
+    ∷ []
+
+-- the first of these commands that has this word
+abbrev pub named_in : List (List ℕ × Command) → List ℕ → Option Command
+named_in [] word = None
+named_in (row ∷ rows) word = if bytes_eq word row.0 then Some row.1 else named_in rows word
 
 -- the command that a word names by itself
 unfoldable pub lone_command : List ℕ → Option Command
-lone_command word =
-    if bytes_eq word (codes "verify") then Some Verify
-    else (if bytes_eq word (codes "sketch") then Some Sketch else None)
+lone_command word = named_in lone_commands word
+
+-- the commands that have an argument, each with its word and with what reads the argument
+abbrev pub argued_commands : List (List ℕ × (List ℕ → Option Command))
+argued_commands = []
+
+-- whether one of these commands has this word
+abbrev pub names_argued : List (List ℕ × (List ℕ → Option Command)) → List ℕ → Bool
+names_argued [] word = false
+names_argued (row ∷ rows) word = if bytes_eq word row.0 then true else names_argued rows word
+
+-- the command that the first of these with this word has, with this argument
+abbrev pub argued_in : List (List ℕ × (List ℕ → Option Command)) → List ℕ → List ℕ → Option Command
+argued_in [] word argument = None
+argued_in (row ∷ rows) word argument = if bytes_eq word row.0 then row.1 argument else argued_in rows word argument
+
+-- whether the command with this word has an argument
+unfoldable pub has_argument : List ℕ → Bool
+has_argument word = names_argued argued_commands word
+
+-- the command that a word names with an argument
+unfoldable pub argued_command : List ℕ → List ℕ → Option Command
+argued_command word argument = argued_in argued_commands word argument
 
 -- the command that the command words name, where they are those of one
 unfoldable pub command_of : List (String Global) → Option Command
 command_of [] = None
 command_of (word ∷ []) = lone_command (string_bytes word)
-command_of (word ∷ second ∷ rest) = None
+command_of (word ∷ argument ∷ []) = argued_command (string_bytes word) (string_bytes argument)
+command_of (word ∷ argument ∷ third ∷ rest) = None
 
 -- whether a command works on what the source gives
 abbrev pub reads_source : Command → Bool
 reads_source Verify = true
 reads_source Sketch = true
+reads_source Order = true
+reads_source Upgrade = true
+reads_source Sets = true
 
 -- the command words name a command exactly where they are its words
 abbrev pub HaveTheirCommand : Type 0

@@ -6,36 +6,54 @@ use Rattle.book_base.specs.declared.fault.TextFault.{TextFault}
 use Rattle.book_base.specs.Book.{Page}
 use Rattle.book_text.specs.BookRules.{IsFirstBookFault}
 use Rattle.book_writer.specs.Sketches.{sketch_lines}
+use Rattle.certificate_text.specs.CertificateRules.{IsFirstCertificateFault}
+use Rattle.order_check.specs.declared.fault.OrderFault.{OrderFault}
 use Rattle.seq_objects.specs.declared.kind.Kind.{Kind}
+use Rattle.setbook_text.specs.SetBookRules.{IsFirstSetBookFault}
 use Rattle.sketch.specs.declared.event.Event.{Event}
 use Rattle.sketch.specs.Sketch.{IsSketch}
 use Rattle.text_fields.specs.Lines.{text_of}
 use Rattle.text_fields.specs.declared.version.Version.TheVariants.{Second}
 use Rattle.selfcheck.specs.declared.command.Command.{Command}
-use Rattle.selfcheck.specs.declared.command.Command.TheVariants.{Verify, Sketch}
+use Rattle.selfcheck.specs.declared.command.Command.TheVariants.{Verify, Sketch, Order, Upgrade, Sets}
 use Rattle.selfcheck.specs.declared.status.Status.{Status}
 use Rattle.selfcheck.specs.declared.status.Status.TheVariants.{Fine, Found, Usage, Refused, ReadFault, WriteFault, NoMemory}
 use Rattle.selfcheck.specs.declared.TheConstants.{INPUT_LIMIT}
 use Rattle.selfcheck.specs.Command.{command_of, reads_source}
 use Rattle.selfcheck.specs.Input.{Tells, IsBookInput, IsLegalInput, IsIllegalInput, IsRefusedFor, refusal_text}
+use Rattle.selfcheck.specs.Orders.{IsCertificateInput, IsLegalCertificate, IsFaultyCertificate, order_fault_text}
+use Rattle.selfcheck.specs.SetInput.{IsSetInput, IsLegalSetInput, IsIllegalSetInput}
 use Rattle.selfcheck.specs.Told.{HasRead, AppendsPart, read_of}
+use Rattle.selfcheck.specs.Upgrade.{IsOldInput, IsFirstOldFault, IsUpgraded}
 
 -- a form of texts that a command may want
 pub data Form : Type 0 where
   BookForm : Form
+  CertificateForm : Form
+  OldForm : Form
+  SetForm : Form
 
 -- the form of text that a command wants
 abbrev pub form_of : Command → Form
 form_of Verify = BookForm
 form_of Sketch = BookForm
+form_of Order = CertificateForm
+form_of Upgrade = OldForm
+form_of Sets = SetForm
 
 -- the bytes are a text of this form
 abbrev pub IsTextOf : Form → List ℕ → Type 0
 IsTextOf BookForm bytes = IsBookInput bytes
+IsTextOf CertificateForm bytes = IsCertificateInput bytes
+IsTextOf OldForm bytes = IsOldInput bytes
+IsTextOf SetForm bytes = IsSetInput bytes
 
 -- the first fault of bytes that are no text of this form
 abbrev pub IsFirstFaultOf : Form → List ℕ → TextFault → Type 0
 IsFirstFaultOf BookForm bytes fault = IsFirstBookFault Second bytes fault
+IsFirstFaultOf CertificateForm bytes fault = IsFirstCertificateFault bytes fault
+IsFirstFaultOf OldForm bytes fault = IsFirstOldFault bytes fault
+IsFirstFaultOf SetForm bytes fault = IsFirstSetBookFault bytes fault
 
 -- the command takes the bytes: there are few enough, and they are a text of the form that it wants
 abbrev pub IsTaken : Command → List ℕ → Type 0
@@ -61,10 +79,30 @@ abbrev pub IsDrawn : List ℕ → Status → List ℕ → Type 0
 IsDrawn bytes Fine text = IsSketchText bytes text
 IsDrawn bytes _ text = ⊥
 
+-- what `order` says of the text of a certificate: a status and a text
+abbrev pub IsJudgement : List ℕ → Status → List ℕ → Type 0
+IsJudgement bytes Fine text = IsLegalCertificate bytes × (text ≡ codes "legal\n")
+IsJudgement bytes Found text = (fault : OrderFault) × IsFaultyCertificate bytes fault × (text ≡ order_fault_text fault)
+IsJudgement bytes _ text = ⊥
+
+-- what `upgrade` says of a text of version 1: a status and a text
+abbrev pub IsRewritten : List ℕ → Status → List ℕ → Type 0
+IsRewritten bytes Fine text = IsUpgraded bytes text
+IsRewritten bytes _ text = ⊥
+
+-- what `sets` says of the text of a set book: a status and a text
+abbrev pub IsSetVerdict : List ℕ → Status → List ℕ → Type 0
+IsSetVerdict bytes Fine text = IsLegalSetInput bytes × (text ≡ codes "legal\n")
+IsSetVerdict bytes Found text = IsIllegalSetInput bytes × (text ≡ codes "illegal\n")
+IsSetVerdict bytes _ text = ⊥
+
 -- what a command says of an input that it takes: a status and a text, of which there may be more than one
 abbrev pub IsAnswerOf : Command → List ℕ → Status → List ℕ → Type 0
 IsAnswerOf Verify bytes status text = IsVerdict bytes status text
 IsAnswerOf Sketch bytes status text = IsDrawn bytes status text
+IsAnswerOf Order bytes status text = IsJudgement bytes status text
+IsAnswerOf Upgrade bytes status text = IsRewritten bytes status text
+IsAnswerOf Sets bytes status text = IsSetVerdict bytes status text
 
 -- the line and the name of the fault for which a command refuses the bytes
 abbrev pub IsRefusal : Command → List ℕ → List ℕ → Type 0

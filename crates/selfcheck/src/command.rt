@@ -1,4 +1,8 @@
-ghost use Rattle.std.specs.Prelude.{◌≡◌};
+ghost use Rattle.std.specs.Prelude.{◌≡◌, None, IfOk, IsOkAnd, IsTrue};
+
+use crate::subcommands::{may_be_parsed, parse};
+use book_base::NoMemory;
+use std::alloc::Global;
 
 /// What the program is to do.
 #[derive(Clone, Copy, Debug, PartialEq, Eq)]
@@ -7,31 +11,65 @@ pub enum Command {
     Verify,
     /// Write a book's sketch.
     Sketch,
+    /// Say whether a certificate's order is a legal order of its book.
+    Order,
+    /// Write a script or a book of version 1 in version 2.
+    Upgrade,
+    /// Say whether a set book has a legal set order.
+    Sets,
 }
 
 impl Command {
-    ghost use Rattle.selfcheck.specs.Command.{command_of, lone_command, reads_source};
+    ghost use Rattle.selfcheck.specs.Command.{argued_command, command_of, has_argument, lone_command, reads_source};
+    ghost use Rattle.selfcheck.specs.CommandLine.{is_parsed};
 
-    /// The command that the words name: those behind the program's name.
-    #[tactic(auto, unfolding(crate::specs::Command::command_of))]
-    pub fn from_words(words: &[String]) -> Option<Command>
-        ensures { result ≡ command_of words.now }
+    /// The command that the words name: those behind the program's name. Words that can't be those of a
+    /// command are answered before clap reads them.
+    pub fn from_words(alloc: Global, words: &[String]) -> Result<Option<Command>, NoMemory>
+        ensures command { IfOk result (λ command. command ≡ command_of words.now) }
+        ensures unparsed { ¬ IsTrue (is_parsed words.now)
+            → IsOkAnd result (λ command. command ≡ None) }
     {
-        match words {
-            [word] => Command::from_word(word.as_str()),
-            _ => None,
+        if may_be_parsed(words) {
+            parse(alloc, words)
+        } else {
+            Ok(None)
         }
     }
 
     /// The command that this word names by itself.
     #[tactic(auto, unfolding(crate::specs::Command::lone_command))]
-    fn from_word(word: &str) -> Option<Command>
+    pub(crate) fn from_word(word: &str) -> Option<Command>
         ensures { result ≡ lone_command word.now }
     {
         match word {
             "verify" => Some(Command::Verify),
             "sketch" => Some(Command::Sketch),
+            "order" => Some(Command::Order),
+            "upgrade" => Some(Command::Upgrade),
+            "sets" => Some(Command::Sets),
             _ => None,
+        }
+    }
+
+    /// The command that this word names with this argument: an arm for each command that has one, of which
+    /// there is none yet.
+    #[tactic(auto, unfolding(crate::specs::Command::argued_command))]
+    pub(crate) fn from_pair(word: &str, argument: &str) -> Option<Command>
+        ensures { result ≡ argued_command word.now argument.now }
+    {
+        match word {
+            _ => None,
+        }
+    }
+
+    /// Whether the command with this word has an argument.
+    #[tactic(auto, unfolding(crate::specs::Command::has_argument))]
+    pub(crate) fn has_argument(word: &str) -> bool
+        ensures { result ≡ has_argument word.now }
+    {
+        match word {
+            _ => false,
         }
     }
 
@@ -40,7 +78,8 @@ impl Command {
         ensures { result ≡ reads_source self }
     {
         match self {
-            Command::Verify | Command::Sketch => true,
+            Command::Verify | Command::Sketch | Command::Order | Command::Upgrade | Command::Sets =>
+                true,
         }
     }
 }

@@ -1,4 +1,7 @@
-ghost use Rattle.std.specs.Prelude.{◌≤◌, length, IfOk, IfErr};
+ghost use Rattle.std.specs.Prelude.{◌≡◌, ◌<◌, ◌≤◌, length, IfOk, IfErr};
+ghost use Rattle.book_base.specs.declared.fault.What.TheVariants.{Long};
+ghost use Rattle.book_text.specs.BookRules.{IsFirstBookFault};
+ghost use Rattle.text_fields.specs.declared.version.Version.TheVariants.{Second};
 ghost use Rattle.selfcheck.specs.Input.{Tells};
 ghost use Rattle.selfcheck.specs.Refusal.{IsReadFault};
 
@@ -8,17 +11,27 @@ use book_text::read_book;
 use seq_objects::Kind;
 use std::alloc::Global;
 
+/// Refuses an input that is too long.
+pub(crate) fn check_length(bytes: &[u8]) -> Result<(), TextFault>
+    ensures short { IfOk result (λ _. length bytes.now ≤ INPUT_LIMIT) }
+    ensures long { IfErr result (λ fault.
+        (INPUT_LIMIT < length bytes.now) × (fault ≡ record { line = 0; what = Long })) }
+{
+    if bytes.len() > INPUT_LIMIT {
+        return Err(TextFault {
+            line: 0,
+            what: What::Long,
+        });
+    }
+    Ok(())
+}
+
 /// The book that an input is the text of, and the kind of its object.
 pub(crate) fn read_input(alloc: Global, bytes: &[u8]) -> Result<(Kind, Book), ReadFault>
     ensures short { IfOk result (λ _. length bytes.now ≤ INPUT_LIMIT) }
     ensures book { IfOk result (λ read. Tells bytes.now read.0 read.1) }
-    ensures refused { IfErr result (IsReadFault bytes.now) }
+    ensures refused { IfErr result (IsReadFault (IsFirstBookFault Second) bytes.now) }
 {
-    if bytes.len() > INPUT_LIMIT {
-        return Err(ReadFault::Text(TextFault {
-            line: 0,
-            what: What::Long,
-        }));
-    }
+    check_length(bytes)?;
     read_book(alloc, bytes)
 }

@@ -1,8 +1,10 @@
 //! Laws of the commands.
 
-ghost use Rattle.selfcheck.specs.declared.command.Command.TheVariants.{Sketch, Verify};
+ghost use Rattle.selfcheck.specs.declared.command.Command.TheVariants.{Order, Sets, Sketch, Upgrade, Verify};
 ghost use Rattle.selfcheck.specs.Command.{HaveTheirCommand};
 ghost use Rattle.selfcheck.specs.Output.{IsDetermined, RefuseWhatIsNotTaken};
+ghost use Rattle.selfcheck.specs.Runs.{FormsWriteOneText};
+ghost use Rattle.selfcheck.specs.UpgradeLaws.{UpgradesSayTheSame, UpgradesKeepOrders};
 
 /// Words name a command exactly where they are its words.
 pub fn words_have_their_command()
@@ -24,4 +26,40 @@ pub fn verify_has_one_output()
 #[tactic(auto, using(crate::proofs::OutputLemmas::sketch_is_determined))]
 pub fn sketch_has_one_output()
     ensures { IsDetermined Sketch }
+{}
+
+/// The bytes read determine the output of `order`.
+#[tactic(auto, using(crate::proofs::OutputLemmas::order_is_determined))]
+pub fn order_has_one_output()
+    ensures { IsDetermined Order }
+{}
+
+/// The bytes read determine the output of `upgrade`.
+#[tactic(auto, using(crate::proofs::OutputLemmas::upgrade_is_determined))]
+pub fn upgrade_has_one_output()
+    ensures { IsDetermined Upgrade }
+{}
+
+/// What is read from the output of `upgrade` is what is read from its input: the same book, or the
+/// same script.
+#[tactic(auto, using(crate::proofs::OutputLemmas::upgrades_say_the_same))]
+pub fn an_upgrade_says_the_same()
+    ensures { UpgradesSayTheSame }
+{}
+
+/// The book that `upgrade` writes has the legal orders of the book that it reads.
+pub fn an_upgrade_keeps_the_legal_orders()
+    ensures { UpgradesKeepOrders }
+{}
+
+/// The bytes read determine the output of `sets`.
+#[tactic(auto, using(crate::proofs::OutputLemmas::sets_is_determined))]
+pub fn sets_has_one_output()
+    ensures { IsDetermined Sets }
+{}
+
+/// A form writes one text of a report.
+#[tactic(auto, using(crate::proofs::RunLemmas::forms_write_one_text))]
+pub fn a_form_writes_one_text()
+    ensures { FormsWriteOneText }
 {}

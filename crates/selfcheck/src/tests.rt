@@ -1,6 +1,7 @@
 ghost use Rattle.std.specs.Prelude.{◌≢◌};
 
 use super::*;
+use reports::cases::worked_report;
 use std::alloc::Global;
 use std::test::Fail;
 use std::thread::Threads;
@@ -156,5 +157,40 @@ fn standard_input_and_output_take_pieces(rt: HostRuntime) -> Result<(), Fail> {
     let mut sink = StdSink::new(&rt);
     assert_eq!(rt; source.read(&mut []), Ok(0));
     assert_eq!(rt; sink.write(b""), Ok(0));
+    Ok(())
+}
+
+// Four calls: one is delivered, one is an error, one wasn't judged, and one is under way.
+#[test]
+fn a_report_is_written_in_both_forms(rt: HostRuntime) -> Result<(), Fail> {
+    let alloc = rt.alloc();
+    let report = worked_report(alloc)?;
+    let mut sink = MemorySink::new(alloc, 1_000, Vec::new(alloc), 7)?;
+    let status = write_report(alloc, Form::Counts, &report, &mut sink);
+    assert_eq!(rt; status, Status::Found);
+    assert_eq!(rt;
+        str::from_utf8(sink.bytes()),
+        Ok("calls 4 delivered 1 errors 1\n")
+    );
+    let mut sink = MemorySink::new(alloc, 1_000, Vec::new(alloc), 7)?;
+    let status = write_report(alloc, Form::Report, &report, &mut sink);
+    assert_eq!(rt; status, Status::Found);
+    assert_eq!(rt;
+        str::from_utf8(sink.bytes()),
+        Ok(
+            "report 2\nobject queue\ncallers 3\ncalls 2 1 1\n0 0 #5 #50 view 0:1 ok seen 0:1\n0 1 #7 pending\n1 0 #6 #61 view 0:1 1:1 error seen 0:1 1:1\n2 0 #8 #80 view 0:1 1:1 2:1 unchecked\nend\nbook 2\nobject queue\ncallers 3\ncalls 1 1 0\n0 0 #5 #50 view 0:1\n1 0 #6 #61 view 0:1 1:1\nend\n"
+        )
+    );
+    Ok(())
+}
+
+#[test]
+fn a_report_is_written_up_to_a_fault(rt: HostRuntime) -> Result<(), Fail> {
+    let alloc = rt.alloc();
+    let report = worked_report(alloc)?;
+    let mut sink = MemorySink::new(alloc, 100, [2].to_vec(alloc)?, 8)?;
+    let status = write_report(alloc, Form::Report, &report, &mut sink);
+    assert_eq!(rt; status, Status::WriteFault);
+    assert_eq!(rt; sink.bytes(), b"report 2".as_slice());
     Ok(())
 }

@@ -3,38 +3,30 @@ ghost use Rattle.std.specs.Io.KnownBytes.{Appends};
 ghost use Rattle.selfcheck.specs.declared.command.Command.{Command};
 ghost use Rattle.selfcheck.specs.declared.status.Status.{Status};
 ghost use Rattle.selfcheck.specs.Command.{command_of, reads_source};
+ghost use Rattle.selfcheck.specs.CommandLine.{is_parsed};
 ghost use Rattle.selfcheck.specs.Fault.{Rose};
 ghost use Rattle.selfcheck.specs.Output.{IsTaken, IsOutputOf, HasOneStatus, ReadsFor, Ends, EndsWriting, IsUnfinished, input_of};
 ghost use Rattle.selfcheck.specs.Told.{AppendsPart};
 
 use crate::command::Command;
 use crate::draw::draw;
-use crate::failed::{Failed, ReadAllError};
+use crate::failed::ReadAllError;
+use crate::order::order;
+use crate::output::Output;
+use crate::sets::sets;
 use crate::sink::Sink;
 use crate::source::Source;
 use crate::status::Status;
-use crate::transfer::{read_all, write_all};
+use crate::transfer::read_all;
+use crate::upgrade::upgrade;
 use crate::verify::verify;
+use crate::write_output::write_output;
 use book_base::NoMemory;
 use std::alloc::Global;
 use std::thread::Threads;
 
 /// What is written where the command words aren't right.
 const USAGE: &[u8] = b"usage: selfcheck COMMAND\n";
-
-/// Writes a text, and answers its status where the sink took all of it.
-fn write_output<K: Sink>(sink: &mut K, status: Status, text: &[u8]) -> Status
-    ensures written { ((result ≡ status) × Appends (K.taken sink.old) (K.taken sink.new) text.now)
-        ⊎ ((result ≡ Status.WriteFault) × AppendsPart (K.taken sink.old) (K.taken sink.new) text.now
-        × Rose (K.faults sink.old) (K.faults sink.new)) }
-    ensures later { K.faults sink.old ≤ K.faults sink.new }
-    ensures calm { ¬ (result ≡ Status.WriteFault) → K.faults sink.new ≡ K.faults sink.old }
-{
-    match write_all(sink, text) {
-        Ok(()) => status,
-        Err(Failed) => Status::WriteFault,
-    }
-}
 
 /// The bytes that a command works on: the source's where it reads one, else none.
 fn read_for<S: Source>(
@@ -55,6 +47,19 @@ fn read_for<S: Source>(
     }
 }
 
+/// The output of a command for the bytes that it works on.
+fn output_of(alloc: Global, command: Command, bytes: &[u8]) -> Result<Output, NoMemory>
+    ensures { IfOk result (λ output. IsOutputOf command bytes.now output.status output.text.items) }
+{
+    match command {
+        Command::Verify => verify(alloc, bytes),
+        Command::Sketch => draw(alloc, bytes),
+        Command::Order => order(alloc, bytes),
+        Command::Upgrade => upgrade(alloc, bytes),
+        Command::Sets => sets(alloc, bytes),
+    }
+}
+
 /// Does what a command is for with the bytes that it works on, and writes its output.
 fn answer<R: Threads + Sync, K: Sink>(
     rt: &R,
@@ -70,11 +75,7 @@ fn answer<R: Threads + Sync, K: Sink>(
     ensures later { K.faults sink.old ≤ K.faults sink.new }
 {
     let _ = rt;
-    let output = match command {
-        Command::Verify => verify(alloc, bytes),
-        Command::Sketch => draw(alloc, bytes),
-    };
-    match output {
+    match output_of(alloc, command, bytes) {
         Ok(output) => write_output(sink, output.status, &output.text),
         Err(NoMemory) => Status::NoMemory,
     }
@@ -91,8 +92,11 @@ pub fn selfcheck<R: Threads + Sync, S: Source, K: Sink>(
     // What was read and written, by the status.
     ensures ends { Ends words.now result (S.left source.old) (S.left source.new) (K.taken sink.old) (K.taken sink.new) }
 
-    // Words that aren't right are answered whatever the input and the memory.
-    ensures usage { IsNone (command_of words.now) → (result ≡ Status.Usage) ⊎ (result ≡ Status.WriteFault) }
+    // Words that aren't right are answered whatever the input, and those that can be seen at once whatever the memory.
+    ensures usage { IsNone (command_of words.now) →
+        (result ≡ Status.Usage) ⊎ (result ≡ Status.WriteFault) ⊎ (result ≡ Status.NoMemory) }
+    ensures unparsed { ¬ IsTrue (is_parsed words.now) →
+        (result ≡ Status.Usage) ⊎ (result ≡ Status.WriteFault) }
     ensures unread { ¬ IsSomeAnd (command_of words.now) (λ command. IsTrue (reads_source command)) → source.new ≡ source.old }
 
     // Where all outputs for the bytes have one status, it is the answer, faults and want of memory aside.
@@ -115,7 +119,11 @@ pub fn selfcheck<R: Threads + Sync, S: Source, K: Sink>(
     ensures source_later { S.faults source.old ≤ S.faults source.new }
     ensures sink_later { K.faults sink.old ≤ K.faults sink.new }
 {
-    let Some(command) = Command::from_words(words) else {
+    let named = match Command::from_words(alloc, words) {
+        Ok(named) => named,
+        Err(NoMemory) => return Status::NoMemory,
+    };
+    let Some(command) = named else {
         return write_output(sink, Status::Usage, USAGE);
     };
     match read_for(command, alloc, source) {

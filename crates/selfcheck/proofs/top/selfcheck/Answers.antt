@@ -1,24 +1,24 @@
 use Rattle.std.proofs.Common.{◌≡◌, ◌∙◌, sym}
-use Rattle.selfcheck.proofs.OutputLemmas.{Ends-usage, Ends-answered, exact-from_ends, complete-from_ends}
+use Rattle.selfcheck.proofs.OutputLemmas.{Ends-usage, Ends-answered, one_named, exact-from_ends, complete-from_ends}
 use Rattle.selfcheck.proofs.top.selfcheck.Goals as goal
 
 pub returns-in_default-clause-ends : goal.returns-in_default-clause-ends
 returns-in_default-clause-ends g c =
-    Ends-usage c.args.words.now _ (g.S.Source.left c.args.source.now) _ _ (sym c.from_words.ensures ∙ c.in_default.is) c.write_output.ensures.written
+    Ends-usage c.args.words.now _ (g.S.Source.left c.args.source.now) _ _ (sym c.in-Ok.ensures.command ∙ c.in_default.is) c.write_output.ensures.written
 
-pub returns-in-Ok-clause-ends : goal.returns-in-Ok-clause-ends
-returns-in-Ok-clause-ends g c =
-    Ends-answered c.args.words.now c.in-Some.command _ _ _ _ _ c.in-Ok.bytes.items
-    (sym c.in-Some.ensures) c.in-Ok.ensures.read (rw c.deref.ensures.value at c.answer.ensures.ends)
+pub returns-in-Ok-read_for-clause-ends : goal.returns-in-Ok-read_for-clause-ends
+returns-in-Ok-read_for-clause-ends g c =
+    Ends-answered c.args.words.now c.in-Some.command _ _ _ _ _ c.in-Ok-read_for.bytes.items
+    (sym c.in-Ok.ensures.command ∙ c.in-Some.is) c.in-Ok-read_for.ensures.read (rw c.deref.ensures.value at c.answer.ensures.ends)
 
-pub returns-in-Ok-clause-exact : goal.returns-in-Ok-clause-exact
-returns-in-Ok-clause-exact g c = λ command held status named told one.
-    let same : command ≡ c.in-Some.command = cc in
-    exact-from_ends c.in-Some.command _ _ _ _ c.in-Ok.bytes.items held status _
-    c.in-Ok.ensures.read (rw c.deref.ensures.value at c.answer.ensures.ends) told (rw same at one)
+pub returns-in-Ok-read_for-clause-exact : goal.returns-in-Ok-read_for-clause-exact
+returns-in-Ok-read_for-clause-exact g c = λ command held status named told one.
+    let same : command ≡ c.in-Some.command = one_named c.args.words.now command c.in-Some.command named (sym c.in-Ok.ensures.command ∙ c.in-Some.is) in
+    exact-from_ends c.in-Some.command _ _ _ _ c.in-Ok-read_for.bytes.items held status _
+    c.in-Ok-read_for.ensures.read (rw c.deref.ensures.value at c.answer.ensures.ends) told (rw same at one)
 
-pub returns-in-Ok-clause-complete : goal.returns-in-Ok-clause-complete
-returns-in-Ok-clause-complete g c = λ command held named told wanted _ calm.
-    let same : command ≡ c.in-Some.command = cc in
-    complete-from_ends c.in-Some.command _ _ _ _ c.in-Ok.bytes.items held _
-    c.in-Ok.ensures.read (rw c.deref.ensures.value at c.answer.ensures.ends) told (rw same at wanted) (λ failed. calm (c.answer.ensures.fault failed))
+pub returns-in-Ok-read_for-clause-complete : goal.returns-in-Ok-read_for-clause-complete
+returns-in-Ok-read_for-clause-complete g c = λ command held named told wanted _ calm.
+    let same : command ≡ c.in-Some.command = one_named c.args.words.now command c.in-Some.command named (sym c.in-Ok.ensures.command ∙ c.in-Some.is) in
+    complete-from_ends c.in-Some.command _ _ _ _ c.in-Ok-read_for.bytes.items held _
+    c.in-Ok-read_for.ensures.read (rw c.deref.ensures.value at c.answer.ensures.ends) told (rw same at wanted) (λ failed. calm (c.answer.ensures.fault failed))

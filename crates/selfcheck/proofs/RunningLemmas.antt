@@ -1,0 +1,25 @@
+-- A bench has one report.
+use Rattle.std.proofs.Common.{◌≡◌, ap, subst, List, ℕ}
+use Rattle.std.specs.List.{list_any}
+use Rattle.world_core.specs.Shape.{Shape}
+use Rattle.world_core.specs.Local.{Local}
+use Rattle.call_lines.specs.declared.line.Line.{Line}
+use Rattle.call_lines.specs.Lines.{any_error}
+use Rattle.report_laws.proofs.Determined.{locals_determine_lines}
+use Rattle.seq_objects.specs.declared.kind.Kind.{Kind}
+use Rattle.seq_objects.specs.Objects.{kind_init, kind_next}
+use Rattle.client_scripts.specs.Plans.{Plan}
+use Rattle.reports.specs.Findings.{Findings}
+use Rattle.run_report.specs.Reporting.{IsReportOf}
+
+module _ (s : Shape) (locals : List Local) (plan : Plan) (allotments : List ℕ) where
+  -- the report by the object of the script's kind
+  pub by_its_kind : (kind : Kind) (f : Findings) → kind ≡ plan.kind → IsReportOf (kind_init kind) (kind_next kind) s locals plan allotments f
+      → IsReportOf (kind_init plan.kind) (kind_next plan.kind) s locals plan allotments f
+  by_its_kind kind f same is = subst (λ (k : Kind). IsReportOf (kind_init k) (kind_next k) s locals plan allotments f) same is
+
+  -- one report alone decides whether a line is an error
+  pub one_report : (init : List ℕ) (next : List ℕ → ℕ → List ℕ × ℕ) (f g : Findings) → IsReportOf init next s locals plan allotments f → IsReportOf init next s locals plan allotments g
+      → list_any any_error f.lines ≡ list_any any_error g.lines
+  one_report init next f g a b =
+      ap (λ (lines : List (List Line)). list_any any_error lines) (locals_determine_lines init next locals f.lines g.lines a.lines b.lines)

@@ -1,0 +1,32 @@
+-- What the output of `upgrade` keeps of its input.
+use Rattle.std.specs.Prelude.{◌↔◌, ℕ, List}
+use Rattle.book_base.specs.Book.{Page}
+use Rattle.book_base.specs.declared.call.Place.{Place}
+use Rattle.book_base.specs.Order.{IsLegalOrder}
+use Rattle.book_text.specs.BookRules.{IsBookText}
+use Rattle.client_scripts.specs.Plans.{Plan}
+use Rattle.client_scripts.specs.ScriptRules.{IsScriptText}
+use Rattle.seq_objects.specs.declared.kind.Kind.{Kind}
+use Rattle.seq_objects.specs.Objects.{kind_init, kind_next}
+use Rattle.text_fields.specs.declared.version.Version.TheVariants.{First, Second}
+use Rattle.selfcheck.specs.declared.command.Command.TheVariants.{Upgrade}
+use Rattle.selfcheck.specs.declared.status.Status.TheVariants.{Fine}
+use Rattle.selfcheck.specs.Output.{IsOutputOf}
+
+-- What is read in version 2 is what was read in version 1.
+pub record SaysTheSame (bytes text : List ℕ) : Type 0 where
+  pub books : (kind : Kind) (book : List Page) → IsBookText First bytes kind book ↔ IsBookText Second text kind book
+  pub scripts : (plan : Plan) → IsScriptText First bytes plan ↔ IsScriptText Second text plan
+
+-- what `upgrade` writes says the same as its input
+abbrev pub UpgradesSayTheSame : Type 0
+UpgradesSayTheSame = (bytes text : List ℕ) → IsOutputOf Upgrade bytes Fine text → SaysTheSame bytes text
+
+-- the orders are legal for both books, or for none
+abbrev pub HaveOneOrder : Kind → List Page → Kind → List Page → List Place → Type 0
+HaveOneOrder kind book other another order = IsLegalOrder (kind_init kind) (kind_next kind) book order ↔ IsLegalOrder (kind_init other) (kind_next other) another order
+
+-- the book in the output has the legal orders of the book in the input
+abbrev pub UpgradesKeepOrders : Type 0
+UpgradesKeepOrders = (bytes text : List ℕ) (kind other : Kind) (book another : List Page) → IsOutputOf Upgrade bytes Fine text
+    → IsBookText First bytes kind book → IsBookText Second text other another → (order : List Place) → HaveOneOrder kind book other another order
