@@ -7,6 +7,7 @@ pub mod OutputLemmas
 pub mod RunLemmas
 pub mod ToldLemmas
 mod SetLemmas
+mod ScriptLemmas
 pub mod UpgradeLemmas
 pub mod RunningLemmas
 pub mod FreshRuns

@@ -13,20 +13,23 @@ use Rattle.sketch.proofs.Orderly.{books_have_one_sketch}
 use Rattle.text_fields.specs.Lines.{text_of}
 use Rattle.text_fields.specs.declared.version.Version.TheVariants.{Second}
 use Rattle.selfcheck.specs.declared.command.Command.{Command}
-use Rattle.selfcheck.specs.declared.command.Command.TheVariants.{Verify, Sketch, Order, Upgrade, Sets}
+use Rattle.selfcheck.specs.declared.command.Command.TheVariants.{Verify, Sketch, Order, Upgrade, Sets, Run}
 use Rattle.selfcheck.specs.declared.status.Status.{Status}
 use Rattle.selfcheck.specs.declared.status.Status.TheVariants.{Fine, Found, Usage, Refused, ReadFault, WriteFault, NoMemory}
 use Rattle.selfcheck.specs.declared.TheConstants.{INPUT_LIMIT}
 use Rattle.selfcheck.specs.Command.{command_of}
 use Rattle.selfcheck.specs.Input.{refusal_text}
-use Rattle.selfcheck.specs.Output.{Form, BookForm, CertificateForm, OldForm, SetForm, form_of, IsTextOf, IsFirstFaultOf, IsTaken, IsVerdict, IsSketchText, IsDrawn, IsJudgement, IsRewritten, IsSetVerdict, IsAnswerOf, IsRefusal, IsOutputOf, HasOneStatus, IsDetermined, RefuseWhatIsNotTaken, IsOutput, ReadsFor, Reads, Ends, EndsWriting, IsUnfinished, input_of}
+use Rattle.selfcheck.specs.Output.{Form, BookForm, CertificateForm, OldForm, SetForm, ScriptForm, form_of, IsTextOf, IsFirstFaultOf, IsTaken, IsVerdict, IsSketchText, IsDrawn, IsJudgement, IsRewritten, IsSetVerdict, IsAnswerOf, IsRefusal, IsOutputOf, HasOneStatus, IsDetermined, RefuseWhatIsNotTaken, IsOutput, ReadsFor, Reads, Ends, IsUnfinished, input_of}
 use Rattle.selfcheck.specs.Orders.{order_fault_text}
 use Rattle.selfcheck.specs.Told.{AppendsPart}
+use Rattle.selfcheck.specs.Writing.{EndsWriting}
 use Rattle.selfcheck.specs.UpgradeLaws.{UpgradesSayTheSame, UpgradesKeepOrders}
 use Rattle.selfcheck.proofs.InputLemmas.{IsBookInput-from_told, IsBookInput-from_legal, IsBookInput-from_illegal, legal_or_illegal, book_or_fault, one_refusal}
 use Rattle.certificate_text.proofs.Readings.{one_fault}
+use Rattle.client_scripts.proofs.Readings as scripts
 use Rattle.setbook_text.proofs.SharpSetBooks as set_books
 use Rattle.selfcheck.proofs.SetLemmas.{IsSetInput-from_legal, IsSetInput-from_illegal, set_input_or_fault, legal_or_illegal_sets}
+use Rattle.selfcheck.proofs.ScriptLemmas.{IsScriptInput-from_told, script_input_or_fault, run_statuses}
 use Rattle.selfcheck.proofs.OrderLemmas.{IsCertificateInput-from_legal, IsCertificateInput-from_faulty, certificate_or_fault, legal_or_faulty, one_order_fault}
 use Rattle.selfcheck.proofs.UpgradeLemmas.{old_or_fault, one_old_fault, old-from_upgraded, one_upgraded, says_the_same, one_order}
 
@@ -38,6 +41,7 @@ text_or_fault BookForm bytes fault book first = book_or_fault bytes fault book f
 text_or_fault CertificateForm bytes fault certificate first = certificate_or_fault bytes fault certificate first
 text_or_fault OldForm bytes fault old first = old_or_fault bytes fault old first
 text_or_fault SetForm bytes fault told first = set_input_or_fault bytes fault told first
+text_or_fault ScriptForm bytes fault told first = script_input_or_fault bytes fault told first
 
 -- bytes have one first fault
 one_fault_of : (form : Form) (bytes : List ℕ) (a b : TextFault) → IsFirstFaultOf form bytes a → IsFirstFaultOf form bytes b → a ≡ b
@@ -45,6 +49,7 @@ one_fault_of BookForm bytes a b p q = one_first_fault Second bytes a b p q
 one_fault_of CertificateForm bytes a b p q = one_fault bytes a b p q
 one_fault_of OldForm bytes a b p q = one_old_fault bytes a b p q
 one_fault_of SetForm bytes a b p q = set_books.one_first_fault bytes a b p q
+one_fault_of ScriptForm bytes a b p q = scripts.one_first_fault Second bytes a b p q
 
 -- ---- what commands answer: one case a command
 
@@ -63,6 +68,7 @@ answer_statuses Upgrade bytes _ text answer = absurd answer
 answer_statuses Sets bytes Fine text answer = inl refl
 answer_statuses Sets bytes Found text answer = inr refl
 answer_statuses Sets bytes _ text answer = absurd answer
+answer_statuses (Run behaviour) bytes status text answer = run_statuses bytes status text answer
 
 -- what is answered is an input of the wanted form
 answered_is_wanted : (command : Command) (bytes : List ℕ) (status : Status) (text : List ℕ) → IsAnswerOf command bytes status text → IsTextOf (form_of command) bytes
@@ -79,6 +85,7 @@ answered_is_wanted Upgrade bytes _ text answer = absurd answer
 answered_is_wanted Sets bytes Fine text answer = IsSetInput-from_legal bytes answer.0
 answered_is_wanted Sets bytes Found text answer = IsSetInput-from_illegal bytes answer.0
 answered_is_wanted Sets bytes _ text answer = absurd answer
+answered_is_wanted (Run behaviour) bytes status text answer = IsScriptInput-from_told bytes answer.0 answer.1
 
 -- ---- outputs
 
@@ -289,6 +296,7 @@ input_is Sketch held new bytes reads = reads.0
 input_is Order held new bytes reads = reads.0
 input_is Upgrade held new bytes reads = reads.0
 input_is Sets held new bytes reads = reads.0
+input_is (Run behaviour) held new bytes reads = reads.0
 
 -- where all outputs have one status, a call that wrote one has this status
 one_status : (IsOne : Status → List ℕ → Type 0) (status result : Status) (taken taken' : Option (List ℕ)) → EndsWriting IsOne result taken taken'

@@ -19,7 +19,7 @@ use Rattle.selfcheck.specs.declared.form.Form.{Form}
 use Rattle.selfcheck.specs.declared.form.Form.TheVariants.{Report, Counts}
 use Rattle.selfcheck.specs.declared.status.Status.{Status}
 use Rattle.selfcheck.specs.declared.status.Status.TheVariants.{Fine, Found, Usage, Refused, ReadFault, WriteFault, NoMemory}
-use Rattle.selfcheck.specs.Output.{EndsWriting}
+use Rattle.selfcheck.specs.Writing.{EndsWriting}
 use Rattle.selfcheck.specs.Runs.{IsWitnessText, IsRunOutput, RunEnds, FormsWriteOneText}
 
 -- ---- how a call that writes ends

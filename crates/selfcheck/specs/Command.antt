@@ -1,9 +1,11 @@
 -- The commands, and the words that name them.
-use Rattle.std.specs.Prelude.{◌≡◌, ◌↔◌, ℕ, Bool, true, false, List, [], ◌∷◌, map, Option, Some, None, String, string_bytes, codes, if◌then◌else◌}
+use Rattle.std.specs.Prelude.{◌≡◌, ◌↔◌, ℕ, Bool, true, false, List, [], ◌∷◌, map, Option, Some, None, option_map, String, string_bytes, codes, if◌then◌else◌}
 use Rattle.std.specs.Str.{bytes_eq}
 use Rattle.std.specs.declared.alloc.Global.{Global}
 use Rattle.selfcheck.specs.declared.command.Command.{Command}
-use Rattle.selfcheck.specs.declared.command.Command.TheVariants.{Verify, Sketch, Order, Upgrade, Sets}
+use Rattle.selfcheck.specs.declared.command.Command.TheVariants.{Verify, Sketch, Order, Upgrade, Sets, Run}
+use Rattle.faulty_objects.specs.Names.{behaviour_name}
+use Rattle.selfcheck.specs.Arguments.{behaviour_named}
 
 -- the words of a command
 abbrev pub words_of : Command → List (List ℕ)
@@ -12,6 +14,7 @@ words_of Sketch = codes "sketch" ∷ []
 words_of Order = codes "order" ∷ []
 words_of Upgrade = codes "upgrade" ∷ []
 words_of Sets = codes "sets" ∷ []
+words_of (Run behaviour) = codes "run" ∷ behaviour_name behaviour ∷ []
 
 -- the commands that have no argument, each with its word
 abbrev pub lone_commands : List (List ℕ × Command)
@@ -34,7 +37,9 @@ lone_command word = named_in lone_commands word
 
 -- the commands that have an argument, each with its word and with what reads the argument
 abbrev pub argued_commands : List (List ℕ × (List ℕ → Option Command))
-argued_commands = []
+argued_commands =
+    (codes "run", λ argument. option_map Run (behaviour_named argument))
+    ∷ []
 
 -- whether one of these commands has this word
 abbrev pub names_argued : List (List ℕ × (List ℕ → Option Command)) → List ℕ → Bool
@@ -68,6 +73,7 @@ reads_source Sketch = true
 reads_source Order = true
 reads_source Upgrade = true
 reads_source Sets = true
+reads_source (Run behaviour) = true
 
 -- the command words name a command exactly where they are its words
 abbrev pub HaveTheirCommand : Type 0

@@ -9,10 +9,13 @@ pub mod Orders
 pub mod Output
 pub mod Refusal
 pub mod Runs
+pub mod ScriptInput
 pub mod SetInput
 pub mod Status
 pub mod Told
 pub mod Upgrade
 pub mod UpgradeLaws
+pub mod Writing
 pub mod Running
 pub mod BehaviourRuns
+pub mod BehaviourReplays

@@ -6,6 +6,7 @@ use Rattle.book_base.specs.declared.fault.TextFault.{TextFault}
 use Rattle.book_base.specs.Book.{Page}
 use Rattle.book_text.specs.BookRules.{IsFirstBookFault}
 use Rattle.book_writer.specs.Sketches.{sketch_lines}
+use Rattle.client_scripts.specs.ScriptRules.{IsFirstScriptFault}
 use Rattle.certificate_text.specs.CertificateRules.{IsFirstCertificateFault}
 use Rattle.order_check.specs.declared.fault.OrderFault.{OrderFault}
 use Rattle.seq_objects.specs.declared.kind.Kind.{Kind}
@@ -15,13 +16,14 @@ use Rattle.sketch.specs.Sketch.{IsSketch}
 use Rattle.text_fields.specs.Lines.{text_of}
 use Rattle.text_fields.specs.declared.version.Version.TheVariants.{Second}
 use Rattle.selfcheck.specs.declared.command.Command.{Command}
-use Rattle.selfcheck.specs.declared.command.Command.TheVariants.{Verify, Sketch, Order, Upgrade, Sets}
+use Rattle.selfcheck.specs.declared.command.Command.TheVariants.{Verify, Sketch, Order, Upgrade, Sets, Run}
 use Rattle.selfcheck.specs.declared.status.Status.{Status}
 use Rattle.selfcheck.specs.declared.status.Status.TheVariants.{Fine, Found, Usage, Refused, ReadFault, WriteFault, NoMemory}
 use Rattle.selfcheck.specs.declared.TheConstants.{INPUT_LIMIT}
 use Rattle.selfcheck.specs.Command.{command_of, reads_source}
 use Rattle.selfcheck.specs.Input.{Tells, IsBookInput, IsLegalInput, IsIllegalInput, IsRefusedFor, refusal_text}
 use Rattle.selfcheck.specs.Orders.{IsCertificateInput, IsLegalCertificate, IsFaultyCertificate, order_fault_text}
+use Rattle.selfcheck.specs.ScriptInput.{IsScriptInput, IsRunOf}
 use Rattle.selfcheck.specs.SetInput.{IsSetInput, IsLegalSetInput, IsIllegalSetInput}
 use Rattle.selfcheck.specs.Told.{HasRead, AppendsPart, read_of}
 use Rattle.selfcheck.specs.Upgrade.{IsOldInput, IsFirstOldFault, IsUpgraded}
@@ -32,6 +34,7 @@ pub data Form : Type 0 where
   CertificateForm : Form
   OldForm : Form
   SetForm : Form
+  ScriptForm : Form
 
 -- the form of text that a command wants
 abbrev pub form_of : Command → Form
@@ -40,6 +43,7 @@ form_of Sketch = BookForm
 form_of Order = CertificateForm
 form_of Upgrade = OldForm
 form_of Sets = SetForm
+form_of (Run behaviour) = ScriptForm
 
 -- the bytes are a text of this form
 abbrev pub IsTextOf : Form → List ℕ → Type 0
@@ -47,6 +51,7 @@ IsTextOf BookForm bytes = IsBookInput bytes
 IsTextOf CertificateForm bytes = IsCertificateInput bytes
 IsTextOf OldForm bytes = IsOldInput bytes
 IsTextOf SetForm bytes = IsSetInput bytes
+IsTextOf ScriptForm bytes = IsScriptInput bytes
 
 -- the first fault of bytes that are no text of this form
 abbrev pub IsFirstFaultOf : Form → List ℕ → TextFault → Type 0
@@ -54,6 +59,7 @@ IsFirstFaultOf BookForm bytes fault = IsFirstBookFault Second bytes fault
 IsFirstFaultOf CertificateForm bytes fault = IsFirstCertificateFault bytes fault
 IsFirstFaultOf OldForm bytes fault = IsFirstOldFault bytes fault
 IsFirstFaultOf SetForm bytes fault = IsFirstSetBookFault bytes fault
+IsFirstFaultOf ScriptForm bytes fault = IsFirstScriptFault Second bytes fault
 
 -- the command takes the bytes: there are few enough, and they are a text of the form that it wants
 abbrev pub IsTaken : Command → List ℕ → Type 0
@@ -103,6 +109,7 @@ IsAnswerOf Sketch bytes status text = IsDrawn bytes status text
 IsAnswerOf Order bytes status text = IsJudgement bytes status text
 IsAnswerOf Upgrade bytes status text = IsRewritten bytes status text
 IsAnswerOf Sets bytes status text = IsSetVerdict bytes status text
+IsAnswerOf (Run behaviour) bytes status text = IsRunOf bytes status text
 
 -- the line and the name of the fault for which a command refuses the bytes
 abbrev pub IsRefusal : Command → List ℕ → List ℕ → Type 0
@@ -158,13 +165,6 @@ Ends words WriteFault left left' taken taken' =
 -- the output with this status is written whole
 Ends words status left left' taken taken' =
     (bytes : List ℕ) × (text : List ℕ) × Reads words left left' bytes × IsOutput words bytes status text × Appends taken taken' text
-
--- A call that writes one of these outputs, and reads nothing, has ended with a status: what it wrote, after the bytes that the sink had taken.
-abbrev pub EndsWriting : (Status → List ℕ → Type 0) → Status → Option (List ℕ) → Option (List ℕ) → Type 0
-EndsWriting IsOne ReadFault taken taken' = ⊥
-EndsWriting IsOne NoMemory taken taken' = Keeps taken taken'
-EndsWriting IsOne WriteFault taken taken' = (status : Status) × (text : List ℕ) × IsOne status text × AppendsPart taken taken' text
-EndsWriting IsOne status taken taken' = (text : List ℕ) × IsOne status text × Appends taken taken' text
 
 -- a status that says that the output was not written whole
 abbrev pub IsUnfinished : Status → Type 0

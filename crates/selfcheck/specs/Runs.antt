@@ -13,7 +13,7 @@ use Rattle.selfcheck.specs.declared.form.Form.{Form}
 use Rattle.selfcheck.specs.declared.form.Form.TheVariants.{Report, Counts as Numbers}
 use Rattle.selfcheck.specs.declared.status.Status.{Status}
 use Rattle.selfcheck.specs.declared.status.Status.TheVariants.{Fine, Found}
-use Rattle.selfcheck.specs.Output.{EndsWriting}
+use Rattle.selfcheck.specs.Writing.{EndsWriting}
 
 -- The rest of what is written behind a report: where a line is an error, the text of the book that the first error saw, else nothing.
 abbrev pub IsWitnessText : Findings → List ℕ → Type 0

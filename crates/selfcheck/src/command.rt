@@ -1,7 +1,9 @@
 ghost use Rattle.std.specs.Prelude.{◌≡◌, None, IfOk, IsOkAnd, IsTrue};
 
+use crate::arguments::behaviour_named;
 use crate::subcommands::{may_be_parsed, parse};
 use book_base::NoMemory;
+use faulty_objects::Behaviour;
 use std::alloc::Global;
 
 /// What the program is to do.
@@ -17,6 +19,8 @@ pub enum Command {
     Upgrade,
     /// Say whether a set book has a legal set order.
     Sets,
+    /// Run a script over the object of a behaviour, and write the report.
+    Run(Behaviour),
 }
 
 impl Command {
@@ -52,13 +56,13 @@ impl Command {
         }
     }
 
-    /// The command that this word names with this argument: an arm for each command that has one, of which
-    /// there is none yet.
+    /// The command that this word names with this argument: an arm for each command that has one.
     #[tactic(auto, unfolding(crate::specs::Command::argued_command))]
     pub(crate) fn from_pair(word: &str, argument: &str) -> Option<Command>
         ensures { result ≡ argued_command word.now argument.now }
     {
         match word {
+            "run" => Some(Command::Run(behaviour_named(argument)?)),
             _ => None,
         }
     }
@@ -69,6 +73,7 @@ impl Command {
         ensures { result ≡ has_argument word.now }
     {
         match word {
+            "run" => true,
             _ => false,
         }
     }
@@ -78,8 +83,12 @@ impl Command {
         ensures { result ≡ reads_source self }
     {
         match self {
-            Command::Verify | Command::Sketch | Command::Order | Command::Upgrade | Command::Sets =>
-                true,
+            Command::Verify
+            | Command::Sketch
+            | Command::Order
+            | Command::Upgrade
+            | Command::Sets
+            | Command::Run(_) => true,
         }
     }
 }

@@ -2,12 +2,14 @@
 #![tactic(auto)]
 
 mod arguments;
+mod behaviour_replay;
 mod behaviour_run;
 mod command;
 mod draw;
 mod failed;
 mod fault_name;
 mod form;
+mod fresh_replay;
 mod fresh_run;
 mod input;
 mod laws;
@@ -17,9 +19,9 @@ mod order;
 mod order_fault;
 mod output;
 mod pieces;
-mod replay;
 mod report_output;
 mod run;
+mod run_script;
 mod sets;
 mod sink;
 mod source;
@@ -34,10 +36,12 @@ mod upgrade;
 mod verify;
 mod write_output;
 
+pub use behaviour_replay::replay_behaviour;
 pub use behaviour_run::run_behaviour;
 pub use command::Command;
 pub use failed::{Failed, ReadAllError};
 pub use form::Form;
+pub use fresh_replay::{replay_and_write, replay_fresh};
 pub use fresh_run::run_fresh;
 pub use laws::{
     a_form_writes_one_text, an_upgrade_keeps_the_legal_orders, an_upgrade_says_the_same,
@@ -46,7 +50,6 @@ pub use laws::{
 };
 pub use memory_sink::MemorySink;
 pub use memory_source::MemorySource;
-pub use replay::replay_and_write;
 pub use report_output::write_report;
 pub use run::run_and_write;
 pub use sink::Sink;
@@ -61,5 +64,7 @@ pub use transfer::{read_all, write_all};
 /// The greatest length of an input, in bytes.
 pub const INPUT_LIMIT: usize = 1_048_576;
 
+#[cfg(test)]
+mod behaviour_tests;
 #[cfg(test)]
 mod tests;

@@ -59,6 +59,7 @@ fn command_line<'a>(alloc: Global) -> Result<clap::Command<'a>, AllocError>
     let line = with_lone(line, alloc, "order")?;
     let line = with_lone(line, alloc, "upgrade")?;
     let line = with_lone(line, alloc, "sets")?;
+    let line = with_argued(line, alloc, "run")?;
     Ok(line)
 }
 

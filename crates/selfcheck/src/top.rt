@@ -5,14 +5,15 @@ ghost use Rattle.selfcheck.specs.declared.status.Status.{Status};
 ghost use Rattle.selfcheck.specs.Command.{command_of, reads_source};
 ghost use Rattle.selfcheck.specs.CommandLine.{is_parsed};
 ghost use Rattle.selfcheck.specs.Fault.{Rose};
-ghost use Rattle.selfcheck.specs.Output.{IsTaken, IsOutputOf, HasOneStatus, ReadsFor, Ends, EndsWriting, IsUnfinished, input_of};
+ghost use Rattle.selfcheck.specs.Output.{IsTaken, IsOutputOf, HasOneStatus, ReadsFor, Ends, IsUnfinished, input_of};
 ghost use Rattle.selfcheck.specs.Told.{AppendsPart};
+ghost use Rattle.selfcheck.specs.Writing.{EndsWriting};
 
 use crate::command::Command;
 use crate::draw::draw;
 use crate::failed::ReadAllError;
 use crate::order::order;
-use crate::output::Output;
+use crate::run_script::run_script;
 use crate::sets::sets;
 use crate::sink::Sink;
 use crate::source::Source;
@@ -20,7 +21,7 @@ use crate::status::Status;
 use crate::transfer::read_all;
 use crate::upgrade::upgrade;
 use crate::verify::verify;
-use crate::write_output::write_output;
+use crate::write_output::{write_output, write_told};
 use book_base::NoMemory;
 use std::alloc::Global;
 use std::thread::Threads;
@@ -47,19 +48,6 @@ fn read_for<S: Source>(
     }
 }
 
-/// The output of a command for the bytes that it works on.
-fn output_of(alloc: Global, command: Command, bytes: &[u8]) -> Result<Output, NoMemory>
-    ensures { IfOk result (λ output. IsOutputOf command bytes.now output.status output.text.items) }
-{
-    match command {
-        Command::Verify => verify(alloc, bytes),
-        Command::Sketch => draw(alloc, bytes),
-        Command::Order => order(alloc, bytes),
-        Command::Upgrade => upgrade(alloc, bytes),
-        Command::Sets => sets(alloc, bytes),
-    }
-}
-
 /// Does what a command is for with the bytes that it works on, and writes its output.
 fn answer<R: Threads + Sync, K: Sink>(
     rt: &R,
@@ -74,10 +62,13 @@ fn answer<R: Threads + Sync, K: Sink>(
     ensures unwritten { result ≡ Status.NoMemory → sink.new ≡ sink.old }
     ensures later { K.faults sink.old ≤ K.faults sink.new }
 {
-    let _ = rt;
-    match output_of(alloc, command, bytes) {
-        Ok(output) => write_output(sink, output.status, &output.text),
-        Err(NoMemory) => Status::NoMemory,
+    match command {
+        Command::Verify => write_told(verify(alloc, bytes), sink),
+        Command::Sketch => write_told(draw(alloc, bytes), sink),
+        Command::Order => write_told(order(alloc, bytes), sink),
+        Command::Upgrade => write_told(upgrade(alloc, bytes), sink),
+        Command::Sets => write_told(sets(alloc, bytes), sink),
+        Command::Run(behaviour) => run_script(rt, alloc, behaviour, bytes, sink),
     }
 }
 

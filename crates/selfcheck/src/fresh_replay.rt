@@ -1,4 +1,4 @@
-//! Replays of a script by its turns, and what is written of them.
+//! Whole replays of a script by its turns, and what is written of them.
 
 ghost use Rattle.std.specs.Prelude.{◌≡◌, ◌⊎◌, ◌≤◌, ◌<◌, ℕ, true, false, length, vec_len};
 ghost use Rattle.std.specs.List.{list_any};
@@ -10,13 +10,13 @@ ghost use Rattle.run_report.specs.Passes.{IsOwnPass, IsUnusedPass};
 ghost use Rattle.reports.specs.Findings.{Findings};
 ghost use Rattle.selfcheck.specs.Fault.{Rose};
 ghost use Rattle.selfcheck.specs.Runs.{RunEnds};
-ghost use Rattle.selfcheck.specs.Running.{IsReplayReport};
+ghost use Rattle.selfcheck.specs.BehaviourReplays.{IsReplayReport, IsFreshReplayReport};
 
 use crate::form::Form;
 use crate::report_output::write_report;
 use crate::sink::Sink;
 use crate::status::Status;
-use book_base::NoMemory;
+use book_base::{MAX_CALLS, NoMemory};
 use client_scripts::Script;
 use drv_wrapper::{BlackBox, ObjectPass};
 use row_table::{Bench, Rows};
@@ -24,12 +24,11 @@ use run_report::replay_over;
 use std::alloc::Global;
 use world_core::{Outside, Program};
 
-/// Runs all callers of a script over any object behind the trait in one thread, by the script's
-/// turns, and writes what the form shows of their report, which is lawful as that of
-/// [`run_and_write`](crate::run_and_write) is: a schedule that can be repeated.
+/// Lets all callers of a script take its turns over any object behind the trait, in one thread, and writes what the form shows of
+/// their report, which is lawful.
 ///
-/// The bench holds all callers, unused, and each has its pass of the object, unused too; afterwards
-/// it holds them all again, and the passes are in their order, whatever the answer.
+/// The bench holds all callers, unused, and each has its pass of the object, unused too; afterwards it holds them all again, and
+/// the passes are in their order, whatever the answer.
 pub fn replay_and_write<B: BlackBox, K: Sink>(
     alloc: Global,
     rows: &Rows,
@@ -52,13 +51,12 @@ pub fn replay_and_write<B: BlackBox, K: Sink>(
     ensures all_passes { vec_len passes.new ≡ length script.now.operations }
     ensures passes { AreInOrder (IsOwnPass (B.is_own object.now) B.Pass.caller) passes.new.items }
 
-    // What was written, by the status, is of a lawful report of the locals on the bench.
+    // The headline: what was written, by the status, is of a lawful report of the locals on the bench.
     ensures ends { RunEnds
         (IsReplayReport ⟦<Outside as Program>⟧.meaning rows.now bench.new script.now)
         form result (K.taken sink.old) (K.taken sink.new) }
 
-    // Whether a line of that report is an error decides the status, failed writes and want of
-    // memory aside.
+    // Whether a line of that report is an error decides the status, failed writes and want of memory aside.
     ensures found { (report : Findings)
         → IsReplayReport ⟦<Outside as Program>⟧.meaning rows.now bench.new script.now report
         → list_any any_error report.lines ≡ true
@@ -68,8 +66,7 @@ pub fn replay_and_write<B: BlackBox, K: Sink>(
         → list_any any_error report.lines ≡ false
         → (result ≡ Status.Fine) ⊎ (result ≡ Status.WriteFault) ⊎ (result ≡ Status.NoMemory) }
 
-    // A fault has its cause in a count that rose in this call, and every other answer comes where
-    // none rose.
+    // A fault has its cause in a count that rose in this call, and every other answer comes where none rose.
     ensures fault { result ≡ Status.WriteFault → Rose (K.faults sink.old) (K.faults sink.new) }
     ensures calm { ¬ (result ≡ Status.WriteFault) → K.faults sink.new ≡ K.faults sink.old }
     ensures unwritten { result ≡ Status.NoMemory → sink.new ≡ sink.old }
@@ -80,4 +77,44 @@ pub fn replay_and_write<B: BlackBox, K: Sink>(
         Ok(report) => write_report(alloc, form, &report, sink),
         Err(NoMemory) => Status::NoMemory,
     }
+}
+
+/// Lets all callers of a script take its turns over an object, in one thread, and writes what the form shows of their report, which
+/// is lawful. The table of rows is opened for the replay, with the greatest cap, and closed behind it.
+///
+/// Each caller has its pass of the object, unused. Afterwards the passes are in their order, whatever the answer.
+pub fn replay_fresh<B: BlackBox, K: Sink>(
+    alloc: Global,
+    script: &Script,
+    object: &B,
+    passes: &mut Vec<B::Pass>,
+    form: Form,
+    sink: &mut K,
+) -> Status
+    requires all_passes { vec_len passes.old ≡ length script.now.operations }
+    requires passes { AreInOrder (IsUnusedPass (B.is_own object.now) B.Pass.caller B.Pass.made
+        B.Pass.cap script.now.operations) passes.old.items }
+
+    // What stands afterwards, whatever the answer.
+    ensures all_passes { vec_len passes.new ≡ length script.now.operations }
+    ensures passes { AreInOrder (IsOwnPass (B.is_own object.now) B.Pass.caller) passes.new.items }
+
+    // The headline: what was written, by the status, is of a lawful report.
+    ensures ends { RunEnds (IsFreshReplayReport script.now)
+        form result (K.taken sink.old) (K.taken sink.new) }
+
+    // A fault has its cause in a count that rose in this call, and every other answer comes where none rose.
+    ensures fault { result ≡ Status.WriteFault → Rose (K.faults sink.old) (K.faults sink.new) }
+    ensures calm { ¬ (result ≡ Status.WriteFault) → K.faults sink.new ≡ K.faults sink.old }
+    ensures unwritten { result ≡ Status.NoMemory → sink.new ≡ sink.old }
+    ensures later { K.faults sink.old ≤ K.faults sink.new }
+{
+    let (rows, mut bench) = match Rows::open(alloc, Outside, script.callers(), MAX_CALLS) {
+        Ok(opened) => opened,
+        Err(NoMemory) => return Status::NoMemory,
+    };
+    let status = replay_and_write(alloc, &rows, &mut bench, object, passes, script, form, sink);
+    // What was written stands, also where no memory is left for the words of the closed table.
+    let _world = rows.close(alloc, bench);
+    status
 }

@@ -1,7 +1,7 @@
 use Rattle.std.proofs.Common.{◌∙◌}
 use Rattle.selfcheck.proofs.RunLemmas.{RunEnds-from_report}
 use Rattle.selfcheck.proofs.RunningLemmas.{by_its_kind, one_report}
-use Rattle.selfcheck.proofs.replay.replay_and_write.Goals as goal
+use Rattle.selfcheck.proofs.fresh_replay.replay_and_write.Goals as goal
 
 pub returns-in-Ok-clause-ends : goal.returns-in-Ok-clause-ends
 returns-in-Ok-clause-ends g c =

@@ -1,0 +1,54 @@
+ghost use Rattle.std.specs.Prelude.{◌≡◌, ◌≤◌, length, IfOk, IfErr};
+ghost use Rattle.client_scripts.specs.ScriptRules.{IsFirstScriptFault, IsScriptText};
+ghost use Rattle.text_fields.specs.declared.version.Version.TheVariants.{Second};
+ghost use Rattle.selfcheck.specs.declared.TheConstants.{INPUT_LIMIT};
+ghost use Rattle.selfcheck.specs.Fault.{Rose};
+ghost use Rattle.selfcheck.specs.Output.{IsOutputOf};
+ghost use Rattle.selfcheck.specs.Refusal.{IsReadFault};
+ghost use Rattle.selfcheck.specs.Writing.{EndsWriting};
+
+use crate::behaviour_run::run_behaviour;
+use crate::command::Command;
+use crate::form::Form;
+use crate::input::check_length;
+use crate::output::Output;
+use crate::sink::Sink;
+use crate::status::Status;
+use crate::write_output::write_told;
+use book_base::ReadFault;
+use client_scripts::{Script, read_script};
+use faulty_objects::Behaviour;
+use std::alloc::Global;
+use std::thread::Threads;
+
+/// Does what `run` is for with the bytes read: runs their script over the object of a behaviour, and writes the report.
+pub(crate) fn run_script<R: Threads + Sync, K: Sink>(
+    rt: &R,
+    alloc: Global,
+    behaviour: Behaviour,
+    bytes: &[u8],
+    sink: &mut K,
+) -> Status
+    ensures ends { EndsWriting (IsOutputOf (Command.Run behaviour) bytes.now)
+        result (K.taken sink.old) (K.taken sink.new) }
+    ensures fault { result ≡ Status.WriteFault → Rose (K.faults sink.old) (K.faults sink.new) }
+    ensures calm { ¬ (result ≡ Status.WriteFault) → K.faults sink.new ≡ K.faults sink.old }
+    ensures unwritten { result ≡ Status.NoMemory → sink.new ≡ sink.old }
+    ensures later { K.faults sink.old ≤ K.faults sink.new }
+{
+    match read_input_script(alloc, bytes) {
+        Ok(script) => run_behaviour(rt, alloc, behaviour, &script, Form::Report, sink),
+        Err(ReadFault::Text(fault)) => write_told(Output::refusal(alloc, fault), sink),
+        Err(ReadFault::NoMemory) => Status::NoMemory,
+    }
+}
+
+/// The script that an input is the text of.
+fn read_input_script(alloc: Global, bytes: &[u8]) -> Result<Script, ReadFault>
+    ensures short { IfOk result (λ _. length bytes.now ≤ INPUT_LIMIT) }
+    ensures script { IfOk result (λ script. IsScriptText Second bytes.now script) }
+    ensures refused { IfErr result (IsReadFault (IsFirstScriptFault Second) bytes.now) }
+{
+    check_length(bytes)?;
+    read_script(alloc, bytes)
+}
