@@ -15,8 +15,8 @@ use Rattle.certificate_text.specs.CertificateRules.{IsCertificateText, IsFirstCe
 use Rattle.certificate_text.proofs.Readings.{one_certificate, no_fault}
 use Rattle.selfcheck.specs.declared.command.Command.TheVariants.{Order}
 use Rattle.selfcheck.specs.declared.output.Output.{Output}
-use Rattle.selfcheck.specs.declared.status.Status.TheVariants.{Fine, Found}
-use Rattle.selfcheck.specs.declared.TheConstants.{INPUT_LIMIT}
+use Rattle.byte_streams.specs.declared.status.Status.TheVariants.{Fine, Found}
+use Rattle.byte_streams.specs.declared.TheConstants.{INPUT_LIMIT}
 use Rattle.selfcheck.specs.Orders.{IsCertificateInput, IsLegalCertificate, IsFaultyCertificate, order_fault_text}
 use Rattle.selfcheck.specs.Output.{IsOutputOf}
 

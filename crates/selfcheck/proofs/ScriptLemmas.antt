@@ -7,19 +7,19 @@ use Rattle.client_scripts.specs.Plans.{Plan}
 use Rattle.client_scripts.specs.ScriptRules.{IsScriptText, IsFirstScriptFault}
 use Rattle.client_scripts.proofs.Readings.{no_first_fault}
 use Rattle.text_fields.specs.declared.version.Version.TheVariants.{Second}
-use Rattle.selfcheck.specs.declared.status.Status.{Status}
-use Rattle.selfcheck.specs.declared.status.Status.TheVariants.{Fine, Found}
-use Rattle.selfcheck.specs.declared.status.Status.TheVariants.{Refused}
+use Rattle.byte_streams.specs.declared.status.Status.{Status}
+use Rattle.byte_streams.specs.declared.status.Status.TheVariants.{Fine, Found}
+use Rattle.byte_streams.specs.declared.status.Status.TheVariants.{Refused}
 use Rattle.selfcheck.specs.declared.command.Command.TheVariants.{Run}
-use Rattle.selfcheck.specs.declared.form.Form.TheVariants.{Report}
-use Rattle.selfcheck.specs.declared.TheConstants.{INPUT_LIMIT}
+use Rattle.run_writer.specs.declared.form.Form.TheVariants.{Report}
+use Rattle.byte_streams.specs.declared.TheConstants.{INPUT_LIMIT}
 use Rattle.faulty_objects.specs.declared.behaviour.Behaviour.{Behaviour}
-use Rattle.selfcheck.specs.BehaviourRuns.{IsFreshRunReport}
+use Rattle.named_runs.specs.BehaviourRuns.{IsFreshRunReport}
 use Rattle.selfcheck.specs.Output.{IsOutputOf}
-use Rattle.selfcheck.specs.Runs.{IsRunOutput, RunEnds}
+use Rattle.run_writer.specs.Runs.{IsRunOutput, RunEnds}
 use Rattle.selfcheck.specs.ScriptInput.{IsScriptInput, IsRunOf}
-use Rattle.selfcheck.specs.Writing.{EndsWriting}
-use Rattle.selfcheck.proofs.RunLemmas.{EndsWriting-weaker}
+use Rattle.byte_streams.specs.Writing.{EndsWriting}
+use Rattle.byte_streams.proofs.WritingLemmas.{EndsWriting-weaker}
 
 pub IsScriptInput-from_told : (bytes : List ℕ) (plan : Plan) → IsScriptText Second bytes plan → IsScriptInput bytes
 unfolding IsScriptInput

@@ -9,7 +9,7 @@ use Rattle.book_text.specs.BookRules.{IsBookText}
 use Rattle.seq_objects.specs.declared.kind.Kind.{Kind}
 use Rattle.seq_objects.specs.Objects.{kind_init, kind_next}
 use Rattle.text_fields.specs.declared.version.Version.TheVariants.{Second}
-use Rattle.selfcheck.specs.declared.TheConstants.{INPUT_LIMIT}
+use Rattle.byte_streams.specs.declared.TheConstants.{INPUT_LIMIT}
 
 -- the bytes are the text of this book, whose calls are of an object of this kind
 abbrev pub Tells : List ℕ → Kind → List Page → Type 0

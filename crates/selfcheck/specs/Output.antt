@@ -17,15 +17,15 @@ use Rattle.text_fields.specs.Lines.{text_of}
 use Rattle.text_fields.specs.declared.version.Version.TheVariants.{Second}
 use Rattle.selfcheck.specs.declared.command.Command.{Command}
 use Rattle.selfcheck.specs.declared.command.Command.TheVariants.{Verify, Sketch, Order, Upgrade, Sets, Run}
-use Rattle.selfcheck.specs.declared.status.Status.{Status}
-use Rattle.selfcheck.specs.declared.status.Status.TheVariants.{Fine, Found, Usage, Refused, ReadFault, WriteFault, NoMemory}
-use Rattle.selfcheck.specs.declared.TheConstants.{INPUT_LIMIT}
+use Rattle.byte_streams.specs.declared.status.Status.{Status}
+use Rattle.byte_streams.specs.declared.status.Status.TheVariants.{Fine, Found, Usage, Refused, ReadFault, WriteFault, NoMemory}
+use Rattle.byte_streams.specs.declared.TheConstants.{INPUT_LIMIT}
 use Rattle.selfcheck.specs.Command.{command_of, reads_source}
 use Rattle.selfcheck.specs.Input.{Tells, IsBookInput, IsLegalInput, IsIllegalInput, IsRefusedFor, refusal_text}
 use Rattle.selfcheck.specs.Orders.{IsCertificateInput, IsLegalCertificate, IsFaultyCertificate, order_fault_text}
 use Rattle.selfcheck.specs.ScriptInput.{IsScriptInput, IsRunOf}
 use Rattle.selfcheck.specs.SetInput.{IsSetInput, IsLegalSetInput, IsIllegalSetInput}
-use Rattle.selfcheck.specs.Told.{HasRead, AppendsPart, read_of}
+use Rattle.byte_streams.specs.Told.{HasRead, AppendsPart, read_of}
 use Rattle.selfcheck.specs.Upgrade.{IsOldInput, IsFirstOldFault, IsUpgraded}
 
 -- a form of texts that a command may want

@@ -3,10 +3,10 @@ use Rattle.std.specs.Prelude.{ℕ, List}
 use Rattle.client_scripts.specs.Plans.{Plan}
 use Rattle.client_scripts.specs.ScriptRules.{IsScriptText}
 use Rattle.text_fields.specs.declared.version.Version.TheVariants.{Second}
-use Rattle.selfcheck.specs.declared.form.Form.TheVariants.{Report}
-use Rattle.selfcheck.specs.declared.status.Status.{Status}
-use Rattle.selfcheck.specs.BehaviourRuns.{IsFreshRunReport}
-use Rattle.selfcheck.specs.Runs.{IsRunOutput}
+use Rattle.run_writer.specs.declared.form.Form.TheVariants.{Report}
+use Rattle.byte_streams.specs.declared.status.Status.{Status}
+use Rattle.named_runs.specs.BehaviourRuns.{IsFreshRunReport}
+use Rattle.run_writer.specs.Runs.{IsRunOutput}
 
 -- the bytes are the text of a script
 unfoldable pub IsScriptInput : List ℕ → Type 0

@@ -10,7 +10,7 @@ use Rattle.seq_objects.specs.declared.kind.Kind.{Kind}
 use Rattle.seq_objects.specs.Objects.{kind_init, kind_next}
 use Rattle.text_fields.specs.declared.version.Version.TheVariants.{First, Second}
 use Rattle.selfcheck.specs.declared.command.Command.TheVariants.{Upgrade}
-use Rattle.selfcheck.specs.declared.status.Status.TheVariants.{Fine}
+use Rattle.byte_streams.specs.declared.status.Status.TheVariants.{Fine}
 use Rattle.selfcheck.specs.Output.{IsOutputOf}
 
 -- What is read in version 2 is what was read in version 1.

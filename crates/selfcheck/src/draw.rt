@@ -4,9 +4,9 @@ ghost use Rattle.selfcheck.specs.Output.{IsOutputOf};
 use crate::command::Command;
 use crate::input::read_input;
 use crate::output::Output;
-use crate::status::Status;
 use book_base::{NoMemory, ReadFault};
 use book_writer::events_text;
+use byte_streams::Status;
 use sketch::sketch;
 use std::alloc::Global;
 

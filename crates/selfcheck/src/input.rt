@@ -5,9 +5,9 @@ ghost use Rattle.text_fields.specs.declared.version.Version.TheVariants.{Second}
 ghost use Rattle.selfcheck.specs.Input.{Tells};
 ghost use Rattle.selfcheck.specs.Refusal.{IsReadFault};
 
-use crate::INPUT_LIMIT;
 use book_base::{Book, ReadFault, TextFault, What};
 use book_text::read_book;
+use byte_streams::INPUT_LIMIT;
 use seq_objects::Kind;
 use std::alloc::Global;
 

@@ -3,7 +3,6 @@
 ghost use Rattle.selfcheck.specs.declared.command.Command.TheVariants.{Order, Sets, Sketch, Upgrade, Verify};
 ghost use Rattle.selfcheck.specs.Command.{HaveTheirCommand};
 ghost use Rattle.selfcheck.specs.Output.{IsDetermined, RefuseWhatIsNotTaken};
-ghost use Rattle.selfcheck.specs.Runs.{FormsWriteOneText};
 ghost use Rattle.selfcheck.specs.UpgradeLaws.{UpgradesSayTheSame, UpgradesKeepOrders};
 
 /// Words name a command exactly where they are its words.
@@ -56,10 +55,4 @@ pub fn an_upgrade_keeps_the_legal_orders()
 #[tactic(auto, using(crate::proofs::OutputLemmas::sets_is_determined))]
 pub fn sets_has_one_output()
     ensures { IsDetermined Sets }
-{}
-
-/// A form writes one text of a report.
-#[tactic(auto, using(crate::proofs::RunLemmas::forms_write_one_text))]
-pub fn a_form_writes_one_text()
-    ensures { FormsWriteOneText }
 {}

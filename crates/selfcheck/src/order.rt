@@ -3,12 +3,11 @@ ghost use Rattle.certificate_text.specs.CertificateRules.{IsCertificateText};
 ghost use Rattle.selfcheck.specs.Orders.{IsOrderReadFault};
 ghost use Rattle.selfcheck.specs.Output.{IsOutputOf};
 
-use crate::INPUT_LIMIT;
 use crate::command::Command;
 use crate::order_fault::fault_text;
 use crate::output::Output;
-use crate::status::Status;
 use book_base::{NoMemory, ReadFault, TextFault, What};
+use byte_streams::{INPUT_LIMIT, Status};
 use certificate_text::{Certificate, read_certificate};
 use order_check::check_order;
 use std::alloc::Global;

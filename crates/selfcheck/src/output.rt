@@ -2,8 +2,8 @@ ghost use Rattle.std.specs.Prelude.{◌≡◌, IfOk};
 ghost use Rattle.selfcheck.specs.Input.{refusal_text};
 
 use crate::fault_name::name_of;
-use crate::status::Status;
 use book_base::{NoMemory, TextFault};
+use byte_streams::Status;
 use seq_objects::put_number;
 use std::alloc::Global;
 

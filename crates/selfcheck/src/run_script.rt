@@ -1,23 +1,22 @@
 ghost use Rattle.std.specs.Prelude.{◌≡◌, ◌≤◌, length, IfOk, IfErr};
 ghost use Rattle.client_scripts.specs.ScriptRules.{IsFirstScriptFault, IsScriptText};
 ghost use Rattle.text_fields.specs.declared.version.Version.TheVariants.{Second};
-ghost use Rattle.selfcheck.specs.declared.TheConstants.{INPUT_LIMIT};
-ghost use Rattle.selfcheck.specs.Fault.{Rose};
+ghost use Rattle.byte_streams.specs.declared.TheConstants.{INPUT_LIMIT};
+ghost use Rattle.byte_streams.specs.Fault.{Rose};
 ghost use Rattle.selfcheck.specs.Output.{IsOutputOf};
 ghost use Rattle.selfcheck.specs.Refusal.{IsReadFault};
-ghost use Rattle.selfcheck.specs.Writing.{EndsWriting};
+ghost use Rattle.byte_streams.specs.Writing.{EndsWriting};
 
-use crate::behaviour_run::run_behaviour;
 use crate::command::Command;
-use crate::form::Form;
 use crate::input::check_length;
 use crate::output::Output;
-use crate::sink::Sink;
-use crate::status::Status;
 use crate::write_output::write_told;
 use book_base::ReadFault;
+use byte_streams::{Sink, Status};
 use client_scripts::{Script, read_script};
 use faulty_objects::Behaviour;
+use named_runs::run_behaviour;
+use run_writer::Form;
 use std::alloc::Global;
 use std::thread::Threads;
 

@@ -1,14 +1,14 @@
 ghost use Rattle.std.specs.Prelude.{◌≤◌, length, IfOk, IfErr};
 ghost use Rattle.setbook_text.specs.SetBookRules.{IsFirstSetBookFault, IsSetBookText};
-ghost use Rattle.selfcheck.specs.declared.TheConstants.{INPUT_LIMIT};
+ghost use Rattle.byte_streams.specs.declared.TheConstants.{INPUT_LIMIT};
 ghost use Rattle.selfcheck.specs.Output.{IsOutputOf};
 ghost use Rattle.selfcheck.specs.Refusal.{IsReadFault};
 
 use crate::command::Command;
 use crate::input::check_length;
 use crate::output::Output;
-use crate::status::Status;
 use book_base::{Book, NoMemory, ReadFault};
+use byte_streams::Status;
 use set_order::{Joins, SetVerdict, check_sets};
 use setbook_text::read_setbook;
 use std::alloc::Global;

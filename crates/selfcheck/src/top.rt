@@ -1,28 +1,24 @@
 ghost use Rattle.std.specs.Prelude.{◌≡◌, ℕ, ◌⊎◌, ◌≤◌, List, Some, IsNone, IsSomeAnd, IfOk, IsErrOf, IsTrue};
 ghost use Rattle.std.specs.Io.KnownBytes.{Appends};
 ghost use Rattle.selfcheck.specs.declared.command.Command.{Command};
-ghost use Rattle.selfcheck.specs.declared.status.Status.{Status};
+ghost use Rattle.byte_streams.specs.declared.status.Status.{Status};
 ghost use Rattle.selfcheck.specs.Command.{command_of, reads_source};
 ghost use Rattle.selfcheck.specs.CommandLine.{is_parsed};
-ghost use Rattle.selfcheck.specs.Fault.{Rose};
+ghost use Rattle.byte_streams.specs.Fault.{Rose};
 ghost use Rattle.selfcheck.specs.Output.{IsTaken, IsOutputOf, HasOneStatus, ReadsFor, Ends, IsUnfinished, input_of};
-ghost use Rattle.selfcheck.specs.Told.{AppendsPart};
-ghost use Rattle.selfcheck.specs.Writing.{EndsWriting};
+ghost use Rattle.byte_streams.specs.Told.{AppendsPart};
+ghost use Rattle.byte_streams.specs.Writing.{EndsWriting};
 
 use crate::command::Command;
 use crate::draw::draw;
-use crate::failed::ReadAllError;
 use crate::order::order;
 use crate::run_script::run_script;
 use crate::sets::sets;
-use crate::sink::Sink;
-use crate::source::Source;
-use crate::status::Status;
-use crate::transfer::read_all;
 use crate::upgrade::upgrade;
 use crate::verify::verify;
-use crate::write_output::{write_output, write_told};
+use crate::write_output::write_told;
 use book_base::NoMemory;
+use byte_streams::{ReadAllError, Sink, Source, Status, read_all, write_text};
 use std::alloc::Global;
 use std::thread::Threads;
 
@@ -115,7 +111,7 @@ pub fn selfcheck<R: Threads + Sync, S: Source, K: Sink>(
         Err(NoMemory) => return Status::NoMemory,
     };
     let Some(command) = named else {
-        return write_output(sink, Status::Usage, USAGE);
+        return write_text(sink, Status::Usage, USAGE);
     };
     match read_for(command, alloc, source) {
         Ok(bytes) => answer(rt, alloc, command, &bytes, sink),

@@ -4,7 +4,7 @@ ghost use Rattle.std.specs.Prelude.{◌↔◌, ◌≤◌, length, IsTrue, IfOk, 
 ghost use Rattle.book_text.specs.BookRules.{IsFirstBookFault};
 ghost use Rattle.client_scripts.specs.ScriptRules.{IsFirstScriptFault};
 ghost use Rattle.text_fields.specs.declared.version.Version.TheVariants.{First};
-ghost use Rattle.selfcheck.specs.declared.TheConstants.{INPUT_LIMIT};
+ghost use Rattle.byte_streams.specs.declared.TheConstants.{INPUT_LIMIT};
 ghost use Rattle.selfcheck.specs.Output.{IsOutputOf};
 ghost use Rattle.selfcheck.specs.Refusal.{IsFaultOf, IsReadFault};
 ghost use Rattle.selfcheck.specs.Upgrade.{BeginsAsScript, IsFirstOldFault, IsUpgradedScript, IsUpgradedBook, IsUpgraded};
@@ -12,10 +12,10 @@ ghost use Rattle.selfcheck.specs.Upgrade.{BeginsAsScript, IsFirstOldFault, IsUpg
 use crate::command::Command;
 use crate::input::check_length;
 use crate::output::Output;
-use crate::status::Status;
 use book_base::{NoMemory, ReadFault};
 use book_text::read_book1;
 use book_writer::write_book;
+use byte_streams::Status;
 use client_scripts::{read_script1, write_script};
 use std::alloc::Global;
 

@@ -4,8 +4,8 @@ ghost use Rattle.selfcheck.specs.Output.{IsOutputOf};
 use crate::command::Command;
 use crate::input::read_input;
 use crate::output::Output;
-use crate::status::Status;
 use book_base::{NoMemory, ReadFault};
+use byte_streams::Status;
 use frontier_check::{Verdict, check};
 use std::alloc::Global;
 

@@ -1,0 +1,5 @@
+pub mod Fault
+pub mod Memory
+pub mod Status
+pub mod Told
+pub mod Writing

@@ -1,0 +1,58 @@
+-- Sources and sinks in memory.
+use Rattle.std.specs.Prelude.{◌≡◌, ◌⊎◌, ℕ, ◌-◌, ◌<◌, ◌++◌, List, length, min, drop, Contains}
+use Rattle.byte_streams.specs.Fault.{next_count}
+
+-- A source in memory: the bytes that are left, the numbers of the calls that fail, the most bytes that a read gives,
+-- the number of the last call, and the faults so far.
+pub record SourceState : Type 0 where
+  pub left : List ℕ
+  pub fails : List ℕ
+  pub most : ℕ
+  pub calls : ℕ
+  pub faults : ℕ
+
+-- the source's next call fails
+abbrev pub ReadFails : SourceState → Type 0
+ReadFails s = Contains s.fails (next_count s.calls)
+
+-- after a call that failed: nothing is given
+abbrev pub after_failed_read : SourceState → SourceState
+after_failed_read s = record s { calls = next_count s.calls; faults = next_count s.faults }
+
+-- how many bytes a read gives: as many as the piece, the most and the bytes left allow
+abbrev pub given_count : SourceState → ℕ → ℕ
+given_count s room = min (min room s.most) (length s.left)
+
+-- after a call that gave this many bytes
+abbrev pub after_read : SourceState → ℕ → SourceState
+after_read s count = record s { left = drop count s.left; calls = next_count s.calls }
+
+-- A sink in memory: the bytes that it has taken, the room for them, the numbers of the calls that fail,
+-- the most bytes that a write takes, the number of the last call, and the faults so far.
+pub record SinkState : Type 0 where
+  pub taken : List ℕ
+  pub room : ℕ
+  pub fails : List ℕ
+  pub most : ℕ
+  pub calls : ℕ
+  pub faults : ℕ
+
+-- the room that is left
+abbrev pub room_left : SinkState → ℕ
+room_left s = s.room - length s.taken
+
+-- the sink's next call fails: its number says so, or no room is left for a piece that isn't empty
+abbrev pub WriteFails : SinkState → List ℕ → Type 0
+WriteFails s piece = Contains s.fails (next_count s.calls) ⊎ ((0 < length piece) × (room_left s ≡ 0))
+
+-- after a call that failed: nothing is taken
+abbrev pub after_failed_write : SinkState → SinkState
+after_failed_write s = record s { calls = next_count s.calls; faults = next_count s.faults }
+
+-- how many bytes a write takes: as many as the piece, the most and the room left allow
+abbrev pub taken_count : SinkState → ℕ → ℕ
+taken_count s offered = min (min offered s.most) (room_left s)
+
+-- after a call that took these bytes
+abbrev pub after_write : SinkState → List ℕ → SinkState
+after_write s bytes = record s { taken = s.taken ++ bytes; calls = next_count s.calls }

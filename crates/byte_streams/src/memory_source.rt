@@ -1,0 +1,81 @@
+ghost use Rattle.std.specs.Prelude.{◌≡◌, ◌≤◌, ◌↔◌, ◌++◌, [], length, take, drop, Some, IsErr, IfOk, OnOk, OnErr};
+ghost use Rattle.std.specs.Io.KnownBytes.{ReadConsumes};
+ghost use Rattle.byte_streams.specs.Fault.{Rose};
+ghost use Rattle.byte_streams.specs.Memory.{SourceState, ReadFails, after_failed_read, given_count, after_read};
+
+use crate::failed::Failed;
+use crate::pieces::fill;
+use crate::source::Source;
+use std::marker::Model;
+
+/// A source in memory that fails at the calls that it is told, and gives a limited number of bytes at a time.
+#[derive(Debug, Drop)]
+pub struct MemorySource {
+    bytes: Vec<u8>,
+    at: usize,
+    fails: Vec<u64>,
+    most: usize,
+    calls: u64,
+    faults: u64,
+}
+
+impl Model for MemorySource {
+    ghost use Rattle.std.specs.Prelude.{◌≤◌, drop, length};
+    ghost use Rattle.byte_streams.specs.Memory.{SourceState};
+
+    ghost Value = { SourceState };
+
+    ghost view = { λ s. record { left = drop s.at s.bytes.items; fails = s.fails.items; most = s.most; calls = s.calls; faults = s.faults } };
+
+    ghost invariant = { λ s. (s.at ≤ length s.bytes.items) × (1 ≤ s.most) };
+}
+
+impl MemorySource {
+    /// A source of these bytes. A read gives at most `most` bytes, and fails exactly where the number of the
+    /// call, counted from 1, is in `fails`.
+    pub fn new(bytes: Vec<u8>, fails: Vec<u64>, most: usize) -> MemorySource
+        requires { 1 ≤ most }
+        ensures { result ≡ record { left = bytes.items; fails = fails.items; most = most; calls = 0; faults = 0 } }
+    {
+        MemorySource {
+            bytes,
+            at: 0,
+            fails,
+            most,
+            calls: 0,
+            faults: 0,
+        }
+    }
+}
+
+impl Source for MemorySource {
+    ghost left = { λ s. Some s.left };
+
+    ghost faults = { λ s. s.faults };
+
+    fn read(&mut self, piece: &mut [u8]) -> Result<usize, Failed>
+        ensures bound { IfOk result (λ count. count ≤ length piece.old) }
+        ensures bytes { ReadConsumes (Some self.old.left) (Some self.new.left) result piece.new }
+        ensures later { self.old.faults ≤ self.new.faults }
+        ensures cause { OnErr result (Rose self.old.faults self.new.faults) }
+        ensures calm { OnOk result (self.new.faults ≡ self.old.faults) }
+
+        // It fails exactly where the number of the call says so.
+        ensures fails { IsErr result ↔ ReadFails self.old }
+        ensures failed { OnErr result (self.new ≡ after_failed_read self.old) }
+
+        // What it gives, how much, and what is left.
+        ensures count { IfOk result (λ count. count ≡ given_count self.old (length piece.old)) }
+        ensures given { IfOk result (λ count. piece.new ≡ take count self.old.left ++ drop count piece.old) }
+        ensures after { IfOk result (λ count. self.new ≡ after_read self.old count) }
+    {
+        self.calls = self.calls.saturating_add(1);
+        if self.fails.contains(&self.calls) {
+            self.faults = self.faults.saturating_add(1);
+            return Err(Failed);
+        }
+        let count = fill(piece, &self.bytes[self.at..], self.most);
+        self.at += count;
+        Ok(count)
+    }
+}

@@ -1,0 +1,68 @@
+-- Runs that open the table of rows themselves.
+use Rattle.std.proofs.Common.{◌≡◌, ℕ, zero, suc, ◌≤◌, List, [], ◌∷◌, Option, Some, length, get_or, refl, sym, subst, arith}
+use Rattle.world_core.specs.Shape.{Shape}
+use Rattle.world_core.specs.Programs.{outside}
+use Rattle.world_core.specs.Local.{Local, fresh}
+use Rattle.call_lines.specs.Allotments.{operations_at}
+use Rattle.call_lines.specs.Lawful.{IsLawful}
+use Rattle.text_fields.specs.Counts.{AreAtMost}
+use Rattle.text_fields.specs.declared.version.Version.TheVariants.{Second}
+use Rattle.client_scripts.specs.Plans.{Plan, IsPlan, sizes}
+use Rattle.seq_objects.specs.Objects.{kind_init, kind_next}
+use Rattle.row_table.specs.Benches.{fresh_stance}
+use Rattle.row_table.specs.Callers.{on_bench, stance_on}
+use Rattle.row_table.specs.declared.rows.Rows.{Rows}
+use Rattle.row_table.specs.declared.bench.Bench.{Bench}
+use Rattle.bench_clients.specs.Places.{AreInOrder}
+use Rattle.bench_clients.specs.Starts.{AreRowsFor, IsUnused}
+use Rattle.reports.specs.Findings.{Findings}
+use Rattle.run_report.specs.Passes.{IsOwnPass, IsUnusedPass}
+use Rattle.run_report.specs.Reporting.{IsReportOf}
+use Rattle.run_writer.specs.declared.form.Form.{Form}
+use Rattle.byte_streams.specs.declared.status.Status.{Status}
+use Rattle.run_writer.specs.Runs.{RunEnds, IsRunOutput}
+use Rattle.named_runs.specs.BehaviourRuns.{outside_shape, IsLawfulReport}
+use Rattle.byte_streams.proofs.WritingLemmas.{EndsWriting-weaker}
+
+-- a caller has at most so many calls where all have
+pub calls_within : (most : ℕ) (operations : List (List ℕ)) (i : ℕ) → AreAtMost most (sizes operations) → length (get_or operations i []) ≤ most
+calls_within most [] i h = omega arith
+calls_within most (own ∷ operations) zero h = h.0
+calls_within most (own ∷ operations) (suc i) h = calls_within most operations i h.1
+
+module _ {P : Type 0} where
+  -- rows with the greatest cap are wide enough
+  pub wide_rows : (plan : Plan) (r : Rows P) → r.callers ≡ length plan.operations → r.cap ≡ 256 → IsPlan Second plan → AreRowsFor plan r
+  wide_rows plan r callers cap h =
+      record { callers = callers; cap = λ i. subst (λ (n : ℕ). length (operations_at plan.operations i) ≤ n) (sym cap) (calls_within 256 plan.operations i h.calls) }
+
+  -- a caller that is on the bench as it was opened is unused
+  pub opened_unused : (b : Bench P) (i : ℕ) → (on_bench b i ≡ Some fresh) × (stance_on b i ≡ Some fresh_stance) → IsUnused b i
+  opened_unused b i h = record { local = fresh; here = h.0; stance = h.1; idle = record { announcing = refl; unstaged = refl }; none = refl }
+
+-- unused passes are own
+pub unused_own : {T : Type 0} (is_own : T → Type 0) (caller made cap : T → ℕ) (operations : List (List ℕ)) (passes : List T)
+    → AreInOrder (IsUnusedPass is_own caller made cap operations) passes → AreInOrder (IsOwnPass is_own caller) passes
+unused_own is_own caller made cap operations passes h i pass there =
+    let one = h i pass there in
+    record { own = one.own; of = one.of }
+
+-- the shape of the world of rows with the greatest cap
+pub outside_shapes : (callers cap n : ℕ) → callers ≡ n → cap ≡ 256 → ◌≡◌ {A = Shape} (record { callers = callers; cap = cap; program = outside }) (outside_shape n)
+outside_shapes callers cap n all most = λ i. record { callers = all i; cap = most i; program = outside }
+
+-- a report of the locals that are on the bench is lawful
+pub report_lawful : (plan : Plan) (s : Shape) (locals : List Local) (allotments : List ℕ) (findings : Findings) → s ≡ outside_shape (length plan.operations)
+    → IsReportOf (kind_init plan.kind) (kind_next plan.kind) s locals plan allotments findings → IsLawfulReport plan allotments findings
+report_lawful plan s locals allotments findings shape is =
+    record {
+      kind = is.kind;
+      lawful = subst (λ (t : Shape). IsLawful (kind_init plan.kind) (kind_next plan.kind) t plan.operations allotments findings.lines) shape is.lawful;
+    }
+
+-- a run with one of some reports is a run with one of any reports that have them among them
+pub RunEnds-weaker : (A B : Findings → Type 0) (form : Form) (result : Status) (taken taken' : Option (List ℕ)) → ((report : Findings) → A report → B report)
+    → RunEnds A form result taken taken' → RunEnds B form result taken taken'
+RunEnds-weaker A B form result taken taken' weaker ends =
+    EndsWriting-weaker (IsRunOutput A form) (IsRunOutput B form) result taken taken'
+    (λ status text output. (output.0, weaker output.0 output.1, output.2, output.3)) ends

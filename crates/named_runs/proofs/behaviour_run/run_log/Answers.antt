@@ -1,0 +1,22 @@
+use Rattle.std.proofs.Common.{arith}
+use Rattle.named_runs.proofs.OpenedPasses.{passes_count, opened_passes, own_passes, callers_in_order}
+use Rattle.named_runs.proofs.behaviour_run.run_log.Goals as goal
+
+pub run_fresh-status-requires-clause-all_passes : goal.run_fresh-status-requires-clause-all_passes
+run_fresh-status-requires-clause-all_passes g c κs within =
+    omega (arith, passes_count _ _ _ c.in-Ok.ensures.passes.callers, c.in-Ok.ensures.log.0, c.callers.ensures.count, c.in-Ok.opened.1.ok.0)
+
+pub run_fresh-status-requires-clause-passes : goal.run_fresh-status-requires-clause-passes
+run_fresh-status-requires-clause-passes g c κs within =
+    opened_passes _ _ _ _ _ _ c.args.script.now c.in-Ok.ensures.passes.callers c.in-Ok.ensures.passes.each
+    (λ k d low. let new = c.in-Ok.ensures.fresh k d low in (new.made, new.cap)) c.callers.ensures.plan
+
+pub close-requires : goal.close-requires
+close-requires g c =
+    let after = c.run_fresh-status.ensures in
+    record {
+      passes = record {
+        callers = callers_in_order _ _ _ _ (omega (arith, after.all_passes, c.callers.ensures.count, c.in-Ok.ensures.log.0, c.run_fresh-status.new.passes.ok.0)) after.passes;
+        each = own_passes _ _ _ after.passes;
+      };
+    }

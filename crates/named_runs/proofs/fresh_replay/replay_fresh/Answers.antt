@@ -1,0 +1,20 @@
+use Rattle.std.proofs.Common.{◌∙◌, arith}
+use Rattle.named_runs.proofs.FreshRuns.{wide_rows, opened_unused, unused_own, outside_shapes, report_lawful, RunEnds-weaker}
+use Rattle.named_runs.proofs.fresh_replay.replay_fresh.Goals as goal
+
+pub returns-in-Err-clause-passes : goal.returns-in-Err-clause-passes
+returns-in-Err-clause-passes g c = unused_own _ _ _ _ _ _ c.requires.passes
+
+pub replay_and_write-status-requires-clause-rows : goal.replay_and_write-status-requires-clause-rows
+replay_and_write-status-requires-clause-rows g c =
+    wide_rows c.args.script.now c.in-Ok.opened.0 (c.in-Ok.ensures.rows.0 ∙ c.callers.ensures.count) c.in-Ok.ensures.rows.1 c.callers.ensures.plan
+
+pub replay_and_write-status-requires-clause-unused : goal.replay_and_write-status-requires-clause-unused
+replay_and_write-status-requires-clause-unused g c i low =
+    opened_unused c.in-Ok.opened.1 i (c.in-Ok.ensures.fresh i (omega (arith, low, c.callers.ensures.count)))
+
+pub returns-clause-ends : goal.returns-clause-ends
+returns-clause-ends g c =
+    RunEnds-weaker _ _ _ _ _ _
+    (λ report is. report_lawful c.args.script.now _ _ _ report (outside_shapes _ _ _ (c.in-Ok.ensures.rows.0 ∙ c.callers.ensures.count) c.in-Ok.ensures.rows.1) is)
+    c.replay_and_write-status.ensures.ends

@@ -1,0 +1,2 @@
+pub mod BehaviourReplays
+pub mod BehaviourRuns

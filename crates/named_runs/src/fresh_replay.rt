@@ -1,0 +1,57 @@
+//! Whole replays of a script that open the table of rows themselves.
+
+ghost use Rattle.std.specs.Prelude.{◌≡◌, ◌≤◌, length, vec_len};
+ghost use Rattle.bench_clients.specs.Places.{AreInOrder};
+ghost use Rattle.run_report.specs.Passes.{IsOwnPass, IsUnusedPass};
+ghost use Rattle.byte_streams.specs.Fault.{Rose};
+ghost use Rattle.run_writer.specs.Runs.{RunEnds};
+ghost use Rattle.named_runs.specs.BehaviourReplays.{IsFreshReplayReport};
+
+use book_base::{MAX_CALLS, NoMemory};
+use byte_streams::{Sink, Status};
+use client_scripts::Script;
+use drv_wrapper::{BlackBox, ObjectPass};
+use row_table::Rows;
+use run_writer::{Form, replay_and_write};
+use std::alloc::Global;
+use world_core::Outside;
+
+/// Lets all callers of a script take its turns over an object, in one thread, and writes what the form shows of their report, which
+/// is lawful. The table of rows is opened for the replay, with the greatest cap, and closed behind it.
+///
+/// Each caller has its pass of the object, unused. Afterwards the passes are in their order, whatever the answer.
+pub fn replay_fresh<B: BlackBox, K: Sink>(
+    alloc: Global,
+    script: &Script,
+    object: &B,
+    passes: &mut Vec<B::Pass>,
+    form: Form,
+    sink: &mut K,
+) -> Status
+    requires all_passes { vec_len passes.old ≡ length script.now.operations }
+    requires passes { AreInOrder (IsUnusedPass (B.is_own object.now) B.Pass.caller B.Pass.made
+        B.Pass.cap script.now.operations) passes.old.items }
+
+    // What stands afterwards, whatever the answer.
+    ensures all_passes { vec_len passes.new ≡ length script.now.operations }
+    ensures passes { AreInOrder (IsOwnPass (B.is_own object.now) B.Pass.caller) passes.new.items }
+
+    // The headline: what was written, by the status, is of a lawful report.
+    ensures ends { RunEnds (IsFreshReplayReport script.now)
+        form result (K.taken sink.old) (K.taken sink.new) }
+
+    // A fault has its cause in a count that rose in this call, and every other answer comes where none rose.
+    ensures fault { result ≡ Status.WriteFault → Rose (K.faults sink.old) (K.faults sink.new) }
+    ensures calm { ¬ (result ≡ Status.WriteFault) → K.faults sink.new ≡ K.faults sink.old }
+    ensures unwritten { result ≡ Status.NoMemory → sink.new ≡ sink.old }
+    ensures later { K.faults sink.old ≤ K.faults sink.new }
+{
+    let (rows, mut bench) = match Rows::open(alloc, Outside, script.callers(), MAX_CALLS) {
+        Ok(opened) => opened,
+        Err(NoMemory) => return Status::NoMemory,
+    };
+    let status = replay_and_write(alloc, &rows, &mut bench, object, passes, script, form, sink);
+    // What was written stands, also where no memory is left for the words of the closed table.
+    let _world = rows.close(alloc, bench);
+    status
+}

@@ -1,0 +1,63 @@
+//! Whole runs of a script that open the table of rows themselves.
+
+ghost use Rattle.std.specs.Prelude.{◌≡◌, ◌≤◌, length, vec_len};
+ghost use Rattle.bench_clients.specs.Places.{AreInOrder};
+ghost use Rattle.run_report.specs.Passes.{IsOwnPass, IsUnusedPass};
+ghost use Rattle.byte_streams.specs.Fault.{Rose};
+ghost use Rattle.run_writer.specs.Runs.{RunEnds};
+ghost use Rattle.named_runs.specs.BehaviourRuns.{IsFreshRunReport};
+
+use book_base::{MAX_CALLS, NoMemory};
+use byte_streams::{Sink, Status};
+use client_scripts::Script;
+use drv_wrapper::{BlackBox, ObjectPass};
+use row_table::Rows;
+use run_writer::{Form, run_and_write};
+use std::alloc::Global;
+use std::thread::Threads;
+use world_core::Outside;
+
+/// Runs all callers of a script over an object, each in a thread of its own where one can be had, and writes what the form shows
+/// of their report, which is lawful. The table of rows is opened for the run, with the greatest cap, and closed behind it.
+///
+/// Each caller has its pass of the object, unused. Afterwards the passes are in their order, whatever the answer.
+pub fn run_fresh<R: Threads + Sync, B: BlackBox + Sync, K: Sink>(
+    rt: &R,
+    alloc: Global,
+    script: &Script,
+    object: &B,
+    passes: &mut Vec<B::Pass>,
+    form: Form,
+    sink: &mut K,
+) -> Status
+where
+    B::Pass: Send,
+    requires all_passes { vec_len passes.old ≡ length script.now.operations }
+    requires passes { AreInOrder (IsUnusedPass (B.is_own object.now) B.Pass.caller B.Pass.made
+        B.Pass.cap script.now.operations) passes.old.items }
+
+    // What stands afterwards, whatever the answer.
+    ensures all_passes { vec_len passes.new ≡ length script.now.operations }
+    ensures passes { AreInOrder (IsOwnPass (B.is_own object.now) B.Pass.caller) passes.new.items }
+
+    // The headline: what was written, by the status, is of a lawful report.
+    ensures ends { RunEnds (IsFreshRunReport script.now)
+        form result (K.taken sink.old) (K.taken sink.new) }
+
+    // A fault has its cause in a count that rose in this call, and every other answer comes where none rose.
+    ensures fault { result ≡ Status.WriteFault → Rose (K.faults sink.old) (K.faults sink.new) }
+    ensures calm { ¬ (result ≡ Status.WriteFault) → K.faults sink.new ≡ K.faults sink.old }
+    ensures unwritten { result ≡ Status.NoMemory → sink.new ≡ sink.old }
+    ensures later { K.faults sink.old ≤ K.faults sink.new }
+{
+    let (rows, mut bench) = match Rows::open(alloc, Outside, script.callers(), MAX_CALLS) {
+        Ok(opened) => opened,
+        Err(NoMemory) => return Status::NoMemory,
+    };
+    let status = run_and_write(
+        rt, alloc, &rows, &mut bench, object, passes, script, form, sink,
+    );
+    // What was written stands, also where no memory is left for the words of the closed table.
+    let _world = rows.close(alloc, bench);
+    status
+}

@@ -1,0 +1,15 @@
+//! Runs and replays of a script over the objects that have a name.
+#![tactic(auto)]
+
+mod behaviour_replay;
+mod behaviour_run;
+mod fresh_replay;
+mod fresh_run;
+
+pub use behaviour_replay::replay_behaviour;
+pub use behaviour_run::run_behaviour;
+pub use fresh_replay::replay_fresh;
+pub use fresh_run::run_fresh;
+
+#[cfg(test)]
+mod tests;

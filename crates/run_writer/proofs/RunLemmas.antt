@@ -1,0 +1,80 @@
+-- Lemmas on what is written of a run.
+use Rattle.std.proofs.Common.{◌≡◌, ◌⊎◌, ℕ, zero, suc, false, List, [], ◌∷◌, ◌++◌, Option, Some, None, slice_get, refl, sym, ap, ◌∙◌, inl, inr, subst, arith}
+use Rattle.std.specs.List.{list_any}
+use Rattle.std.specs.Option.{option_and_then}
+use Rattle.std.proofs.lemmas.Bool.{or_parts}
+use Rattle.std.proofs.lemmas.Option.{none-some}
+use Rattle.list_laws.proofs.Options.{none_from_is_some}
+use Rattle.book_base.specs.declared.call.Call.{Call}
+use Rattle.book_base.specs.Book.{Page}
+use Rattle.book_base.specs.BookAt.{IsBookAt}
+use Rattle.book_laws.proofs.BookAt.{books_at_are_one}
+use Rattle.book_text.specs.Grammar.{book_lines}
+use Rattle.call_lines.specs.declared.line.Line.{Line}
+use Rattle.call_lines.specs.Lines.{book_of_lines, lines_at, error_in, error_at, is_error, any_error}
+use Rattle.reports.specs.Findings.{Findings, StandsBefore, IsFirstError, IsWitness}
+use Rattle.text_fields.specs.declared.version.Version.TheVariants.{Second}
+use Rattle.text_fields.specs.Lines.{text_of}
+use Rattle.run_writer.specs.declared.form.Form.{Form}
+use Rattle.run_writer.specs.declared.form.Form.TheVariants.{Report, Counts}
+use Rattle.byte_streams.specs.declared.status.Status.{Status}
+use Rattle.byte_streams.proofs.WritingLemmas.{EndsWriting-weaker}
+use Rattle.run_writer.specs.Runs.{IsWitnessText, IsRunOutput, RunEnds, FormsWriteOneText}
+
+-- what is written of a report is written of a run with such a report
+pub RunEnds-from_report : (IsReportOf : Findings → Type 0) (form : Form) (report : Findings) (result : Status) (taken taken' : Option (List ℕ)) → IsReportOf report
+    → RunEnds (λ other. other ≡ report) form result taken taken' → RunEnds IsReportOf form result taken taken'
+RunEnds-from_report IsReportOf form report result taken taken' is ends =
+    EndsWriting-weaker (IsRunOutput (λ other. other ≡ report) form) (IsRunOutput IsReportOf form) result taken taken'
+    (λ status text output. (output.0, subst IsReportOf (sym output.1) is, output.2, output.3)) ends
+
+-- ---- a form writes one text of a report
+
+-- where none of some lines is an error, none of them saw a cut as one
+no_error_in : (own : List Line) (k : ℕ) → any_error own ≡ false → option_and_then (λ (line : Line). error_in line.end) (slice_get own k) ≡ None
+no_error_in [] k none = refl
+no_error_in (line ∷ own) zero none = none_from_is_some (error_in line.end) (or_parts (is_error line) (any_error own) none).0
+no_error_in (line ∷ own) (suc k) none = no_error_in own k (or_parts (is_error line) (any_error own) none).1
+
+no_error_of : (lines : List (List Line)) (i : ℕ) → list_any any_error lines ≡ false → any_error (lines_at lines i) ≡ false
+no_error_of [] i none = refl
+no_error_of (own ∷ lines) zero none = (or_parts (any_error own) (list_any any_error lines) none).0
+no_error_of (own ∷ lines) (suc i) none = no_error_of lines i (or_parts (any_error own) (list_any any_error lines) none).1
+
+-- a report without an error has no witness
+no_witness : (lines : List (List Line)) (book : List Page) → list_any any_error lines ≡ false → IsWitness lines book → ⊥
+no_witness lines book none witness =
+    none-some witness.cut (sym (no_error_in (lines_at lines witness.call.caller) witness.call.number (no_error_of lines witness.call.caller none)) ∙ witness.error.error)
+
+-- of two calls one stands before the other, or they are one
+order_of : (a b : Call) → StandsBefore a b ⊎ (StandsBefore b a ⊎ (a ≡ b))
+order_of a b = grind (arith)
+
+-- the first error saw one cut
+one_first_error : (lines : List (List Line)) (a b : Call) (cut other : List ℕ) → IsFirstError lines a cut → IsFirstError lines b other → cut ≡ other
+one_first_error lines a b cut other first second =
+    elim (order_of a b) [
+      | inl before ↦ absurd (none-some cut (sym (second.first a before) ∙ first.error))
+      | inr (inl behind) ↦ absurd (none-some other (sym (first.first b behind) ∙ second.error))
+      | inr (inr same) ↦ let both : ◌≡◌ {A = Option (List ℕ)} (Some cut) (Some other) = sym first.error ∙ ap (error_at lines) same ∙ second.error in cc
+    ]
+
+-- a report has one witness
+one_witness : (lines : List (List Line)) (a b : List Page) → IsWitness lines a → IsWitness lines b → a ≡ b
+one_witness lines a b first second =
+    let same = one_first_error lines first.call second.call first.cut second.cut first.error second.error in
+    books_at_are_one (book_of_lines lines) second.cut a b (subst (λ (cut : List ℕ). IsBookAt (book_of_lines lines) cut a) same first.at) second.at
+
+one_witness_text : (report : Findings) (a b : List ℕ) → IsWitnessText report a → IsWitnessText report b → a ≡ b
+one_witness_text report a b (inl none) (inl also) = none.1 ∙ sym also.1
+one_witness_text report a b (inl none) (inr some) = absurd (no_witness report.lines some.0 none.0 some.1)
+one_witness_text report a b (inr some) (inl none) = absurd (no_witness report.lines some.0 none.0 some.1)
+one_witness_text report a b (inr one) (inr other) =
+    one.2.text ∙ ap (λ (book : List Page). text_of (book_lines Second report.kind book)) (one_witness report.lines one.0 other.0 one.1 other.1) ∙ sym other.2.text
+
+-- a form writes one text of a report
+pub forms_write_one_text : FormsWriteOneText
+forms_write_one_text Report report a b one other =
+    let shown : one.0 ≡ other.0 = one.2.text ∙ sym other.2.text in
+    one.4 ∙ ap (λ (text : List ℕ). text ++ one.1) shown ∙ ap (λ (text : List ℕ). other.0 ++ text) (one_witness_text report one.1 other.1 one.3 other.3) ∙ sym other.4
+forms_write_one_text Counts report a b one other = one ∙ sym other

@@ -1,0 +1,16 @@
+use Rattle.std.proofs.Common.{◌∙◌}
+use Rattle.run_writer.proofs.RunLemmas.{RunEnds-from_report}
+use Rattle.run_writer.proofs.RunningLemmas.{by_its_kind, one_report}
+use Rattle.run_writer.proofs.replay.replay_and_write.Goals as goal
+
+pub returns-in-Ok-clause-ends : goal.returns-in-Ok-clause-ends
+returns-in-Ok-clause-ends g c =
+    RunEnds-from_report _ _ _ _ _ _ (by_its_kind _ _ _ _ _ _ c.kind-kind.ensures c.in-Ok.ensures.report) c.write_report.ensures.ends
+
+pub returns-in-Ok-clause-found : goal.returns-in-Ok-clause-found
+returns-in-Ok-clause-found g c report is error =
+    c.write_report.ensures.found (one_report _ _ _ _ _ _ _ _ (by_its_kind _ _ _ _ _ _ c.kind-kind.ensures c.in-Ok.ensures.report) is ∙ error)
+
+pub returns-in-Ok-clause-fine : goal.returns-in-Ok-clause-fine
+returns-in-Ok-clause-fine g c report is none =
+    c.write_report.ensures.fine (one_report _ _ _ _ _ _ _ _ (by_its_kind _ _ _ _ _ _ c.kind-kind.ensures c.in-Ok.ensures.report) is ∙ none)

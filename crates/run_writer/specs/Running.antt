@@ -1,0 +1,23 @@
+-- What a run of a script's callers reports, by the bench that it leaves.
+use Rattle.std.specs.Prelude.{ℕ}
+use Rattle.seq_objects.specs.Objects.{kind_init, kind_next}
+use Rattle.world_core.specs.Shape.{Meaning}
+use Rattle.call_lines.specs.Allotments.{allotments_of, allotments_by_turns}
+use Rattle.row_table.specs.declared.rows.Rows.{Rows}
+use Rattle.row_table.specs.declared.bench.Bench.{Bench}
+use Rattle.row_table.specs.Callers.{shape_of, locals_on}
+use Rattle.client_scripts.specs.Plans.{Plan}
+use Rattle.reports.specs.Findings.{Findings}
+use Rattle.run_report.specs.Reporting.{IsReportOf}
+
+-- The report of a plan's callers that each went on by themselves, judged by the object of the plan's kind: of the locals that are on
+-- this bench, and lawful.
+abbrev pub IsRunReport : {P : Type 0} → (P → ℕ → ℕ → Meaning) → Rows P → Bench P → Plan → Findings → Type 0
+IsRunReport meaning rows bench plan findings =
+    IsReportOf (kind_init plan.kind) (kind_next plan.kind) (shape_of meaning rows) (locals_on bench) plan (allotments_of plan.operations plan.stops) findings
+
+-- The report of a plan's callers that took its turns, judged by the object of the plan's kind: of the locals that are on this bench,
+-- and lawful.
+abbrev pub IsReplayReport : {P : Type 0} → (P → ℕ → ℕ → Meaning) → Rows P → Bench P → Plan → Findings → Type 0
+IsReplayReport meaning rows bench plan findings =
+    IsReportOf (kind_init plan.kind) (kind_next plan.kind) (shape_of meaning rows) (locals_on bench) plan (allotments_by_turns plan.operations plan.stops plan.turns) findings

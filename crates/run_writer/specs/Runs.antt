@@ -1,0 +1,49 @@
+-- What is written of a run: its report in one of two forms, and the status that comes with it.
+use Rattle.std.specs.Prelude.{◌≡◌, ◌⊎◌, ℕ, List, [], ◌++◌, false, codes, decimal, Option, if◌then◌else◌}
+use Rattle.std.specs.List.{list_any}
+use Rattle.book_base.specs.Book.{Page}
+use Rattle.book_text.specs.Grammar as books
+use Rattle.call_lines.specs.Lines.{any_error}
+use Rattle.reports.specs.declared.counts.Counts.{Counts}
+use Rattle.reports.specs.Findings.{Findings, IsWitness}
+use Rattle.reports.specs.Grammar as reports
+use Rattle.reports.specs.Tally.{counts_of}
+use Rattle.text_fields.specs.declared.version.Version.TheVariants.{Second}
+use Rattle.run_writer.specs.declared.form.Form.{Form}
+use Rattle.run_writer.specs.declared.form.Form.TheVariants.{Report, Counts as Numbers}
+use Rattle.byte_streams.specs.declared.status.Status.{Status}
+use Rattle.byte_streams.specs.declared.status.Status.TheVariants.{Fine, Found}
+use Rattle.byte_streams.specs.Writing.{EndsWriting}
+
+-- The rest of what is written behind a report: where a line is an error, the text of the book that the first error saw, else nothing.
+abbrev pub IsWitnessText : Findings → List ℕ → Type 0
+IsWitnessText report rest =
+    ((list_any any_error report.lines ≡ false) × (rest ≡ []))
+    ⊎ ((book : List Page) × IsWitness report.lines book × books.IsWrittenText Second rest report.kind book)
+
+-- the line of a report's three counts
+abbrev pub counts_text : Counts → List ℕ
+counts_text counts =
+    codes "calls " ++ decimal counts.calls ++ codes " delivered " ++ decimal counts.delivered ++ codes " errors " ++ decimal counts.errors ++ codes "\n"
+
+-- What a form writes of a report.
+abbrev pub IsWritten : Form → Findings → List ℕ → Type 0
+IsWritten Report report text = (shown : List ℕ) × (rest : List ℕ) × reports.IsWrittenText shown report × IsWitnessText report rest × (text ≡ shown ++ rest)
+IsWritten Numbers report text = text ≡ counts_text (counts_of report.lines)
+
+-- the status that comes with a report: whether a line of it is an error
+abbrev pub status_of : Findings → Status
+status_of report = if list_any any_error report.lines then Found else Fine
+
+-- The output of a run with one of these reports: a status and a text.
+abbrev pub IsRunOutput : (Findings → Type 0) → Form → Status → List ℕ → Type 0
+IsRunOutput IsReportOf form status text = (report : Findings) × IsReportOf report × IsWritten form report text × (status ≡ status_of report)
+
+-- A call that writes what a form shows of a run with one of these reports has ended with a status: what it wrote, after the bytes
+-- that the sink had taken.
+abbrev pub RunEnds : (Findings → Type 0) → Form → Status → Option (List ℕ) → Option (List ℕ) → Type 0
+RunEnds IsReportOf form status taken taken' = EndsWriting (IsRunOutput IsReportOf form) status taken taken'
+
+-- A form writes one text of a report.
+abbrev pub FormsWriteOneText : Type 0
+FormsWriteOneText = (form : Form) (report : Findings) (a b : List ℕ) → IsWritten form report a → IsWritten form report b → a ≡ b

@@ -1,0 +1,17 @@
+//! Whole runs and replays of a script over any object behind the trait, and what is written of them.
+#![tactic(auto)]
+
+mod form;
+mod laws;
+mod replay;
+mod report_output;
+mod run;
+
+pub use form::Form;
+pub use laws::a_form_writes_one_text;
+pub use replay::replay_and_write;
+pub use report_output::write_report;
+pub use run::run_and_write;
+
+#[cfg(test)]
+mod tests;

@@ -1,0 +1,91 @@
+//! What is written of a run.
+
+ghost use Rattle.std.specs.Prelude.{◌≡◌, ◌⊎◌, ◌≤◌, ◌++◌, ℕ, List, true, false, IfOk, OnOk};
+ghost use Rattle.std.specs.List.{list_any};
+ghost use Rattle.call_lines.specs.Lines.{any_error};
+ghost use Rattle.byte_streams.specs.Fault.{Rose};
+ghost use Rattle.run_writer.specs.Runs.{IsWitnessText, IsWritten, IsRunOutput, RunEnds, counts_text, status_of};
+
+use crate::form::Form;
+use book_base::NoMemory;
+use book_writer::write_book;
+use byte_streams::{Sink, Status, write_text};
+use report_writer::report_text;
+use reports::{Counts, Report};
+use seq_objects::put_number;
+use std::alloc::Global;
+
+/// Writes what a form shows of a report. All of it is built before its first byte is written.
+pub fn write_report<K: Sink>(alloc: Global, form: Form, report: &Report, sink: &mut K) -> Status
+    // What was written, by the status.
+    ensures ends { RunEnds (λ other. other ≡ report.now) form result
+        (K.taken sink.old) (K.taken sink.new) }
+
+    // Whether a line is an error decides the status, failed writes and want of memory aside.
+    ensures found { list_any any_error report.now.lines ≡ true →
+        (result ≡ Status.Found) ⊎ (result ≡ Status.WriteFault) ⊎ (result ≡ Status.NoMemory) }
+    ensures fine { list_any any_error report.now.lines ≡ false →
+        (result ≡ Status.Fine) ⊎ (result ≡ Status.WriteFault) ⊎ (result ≡ Status.NoMemory) }
+
+    // A fault has its cause in a count that rose in this call, and every other answer comes where none rose.
+    ensures fault { result ≡ Status.WriteFault → Rose (K.faults sink.old) (K.faults sink.new) }
+    ensures calm { ¬ (result ≡ Status.WriteFault) → K.faults sink.new ≡ K.faults sink.old }
+    ensures unwritten { result ≡ Status.NoMemory → sink.new ≡ sink.old }
+    ensures later { K.faults sink.old ≤ K.faults sink.new }
+{
+    match shown(alloc, form, report) {
+        Ok(text) => write_text(sink, status_of(report), &text),
+        Err(NoMemory) => Status::NoMemory,
+    }
+}
+
+/// The status that comes with a report.
+fn status_of(report: &Report) -> Status
+    ensures { result ≡ status_of report.now }
+{
+    if report.has_error() {
+        Status::Found
+    } else {
+        Status::Fine
+    }
+}
+
+/// What a form shows of a report.
+fn shown(alloc: Global, form: Form, report: &Report) -> Result<Vec<u8>, NoMemory>
+    ensures { IfOk result (λ text. IsWritten form report.now text.items) }
+{
+    match form {
+        Form::Report => {
+            let mut text = report_text(alloc, report)?;
+            put_witness(alloc, &mut text, report)?;
+            Ok(text)
+        }
+        Form::Counts => counts_text(alloc, report.counts()),
+    }
+}
+
+/// Appends the text of a report's witness, where a line is an error.
+fn put_witness(alloc: Global, text: &mut Vec<u8>, report: &Report) -> Result<(), NoMemory>
+    ensures { OnOk result ((rest : List ℕ) × IsWitnessText report.now rest
+        × (text.new.items ≡ text.old.items ++ rest)) }
+{
+    if let Some(book) = report.witness(alloc)? {
+        let rest = write_book(alloc, report.kind(), &book)?;
+        text.extend_from_slice(&rest)?;
+    }
+    Ok(())
+}
+
+/// The line of a report's three counts.
+fn counts_text(alloc: Global, counts: Counts) -> Result<Vec<u8>, NoMemory>
+    ensures { IfOk result (λ text. text.items ≡ counts_text counts) }
+{
+    let mut text = b"calls ".to_vec(alloc)?;
+    put_number(&mut text, counts.calls)?;
+    text.extend_from_slice(b" delivered ")?;
+    put_number(&mut text, counts.delivered)?;
+    text.extend_from_slice(b" errors ")?;
+    put_number(&mut text, counts.errors)?;
+    text.extend_from_slice(b"\n")?;
+    Ok(text)
+}
