@@ -8,18 +8,22 @@ use Rattle.list_laws.proofs.Options.{none_from_is_some}
 use Rattle.book_base.specs.declared.call.Call.{Call}
 use Rattle.book_base.specs.Book.{Page}
 use Rattle.book_base.specs.BookAt.{IsBookAt}
+use Rattle.book_base.specs.Order.{IsLegalOrder}
 use Rattle.book_laws.proofs.BookAt.{books_at_are_one}
 use Rattle.book_text.specs.Grammar.{book_lines}
 use Rattle.call_lines.specs.declared.line.Line.{Line}
 use Rattle.call_lines.specs.Lines.{book_of_lines, lines_at, error_in, error_at, is_error, any_error}
 use Rattle.reports.specs.Findings.{Findings, StandsBefore, IsFirstError, IsWitness}
+use Rattle.report_certificates.proofs.CertificateLaws.{certificates_are_read, certificates_have_one_book}
+use Rattle.seq_objects.specs.declared.kind.Kind.{Kind}
+use Rattle.seq_objects.specs.Objects.{kind_init, kind_next}
 use Rattle.text_fields.specs.declared.version.Version.TheVariants.{Second}
 use Rattle.text_fields.specs.Lines.{text_of}
 use Rattle.run_writer.specs.declared.form.Form.{Form}
-use Rattle.run_writer.specs.declared.form.Form.TheVariants.{Report, Counts}
+use Rattle.run_writer.specs.declared.form.Form.TheVariants.{Report, Counts, Certificate}
 use Rattle.byte_streams.specs.declared.status.Status.{Status}
 use Rattle.byte_streams.proofs.WritingLemmas.{EndsWriting-weaker}
-use Rattle.run_writer.specs.Runs.{IsWitnessText, IsRunOutput, RunEnds, FormsWriteOneText}
+use Rattle.run_writer.specs.Runs.{IsWitnessText, IsRunOutput, RunEnds, FormsWriteOneText, CertificatesAreLegal, CertificatesTellOneBook}
 
 -- what is written of a report is written of a run with such a report
 pub RunEnds-from_report : (IsReportOf : Findings → Type 0) (form : Form) (report : Findings) (result : Status) (taken taken' : Option (List ℕ)) → IsReportOf report
@@ -28,7 +32,7 @@ RunEnds-from_report IsReportOf form report result taken taken' is ends =
     EndsWriting-weaker (IsRunOutput (λ other. other ≡ report) form) (IsRunOutput IsReportOf form) result taken taken'
     (λ status text output. (output.0, subst IsReportOf (sym output.1) is, output.2, output.3)) ends
 
--- ---- a form writes one text of a report
+-- ---- a form but the certificate writes one text of a report
 
 -- where none of some lines is an error, none of them saw a cut as one
 no_error_in : (own : List Line) (k : ℕ) → any_error own ≡ false → option_and_then (λ (line : Line). error_in line.end) (slice_get own k) ≡ None
@@ -72,9 +76,25 @@ one_witness_text report a b (inr some) (inl none) = absurd (no_witness report.li
 one_witness_text report a b (inr one) (inr other) =
     one.2.text ∙ ap (λ (book : List Page). text_of (book_lines Second report.kind book)) (one_witness report.lines one.0 other.0 one.1 other.1) ∙ sym other.2.text
 
--- a form writes one text of a report
+-- a form but the certificate writes one text of a report
 pub forms_write_one_text : FormsWriteOneText
-forms_write_one_text Report report a b one other =
+forms_write_one_text Report report a b other_form one other =
     let shown : one.0 ≡ other.0 = one.2.text ∙ sym other.2.text in
     one.4 ∙ ap (λ (text : List ℕ). text ++ one.1) shown ∙ ap (λ (text : List ℕ). other.0 ++ text) (one_witness_text report one.1 other.1 one.3 other.3) ∙ sym other.4
-forms_write_one_text Counts report a b one other = one ∙ sym other
+forms_write_one_text Counts report a b other_form one other = one ∙ sym other
+forms_write_one_text Certificate report a b other_form one other = absurd (other_form refl)
+
+-- ---- certificates are legal, and tell one book
+
+pub certificates_are_legal : CertificatesAreLegal
+certificates_are_legal report text kind book order written read =
+    let told = certificates_are_read (kind_init report.kind) (kind_next report.kind) report text kind book order written read in
+    subst (λ (k : Kind). IsLegalOrder (kind_init k) (kind_next k) book order) (sym told.kinds) told.legal
+
+pub certificates_tell_one_book : CertificatesTellOneBook
+certificates_tell_one_book report a b k l p q order other one two read read_too =
+    let init : List ℕ = kind_init report.kind in
+    let next : List ℕ → ℕ → List ℕ × ℕ = kind_next report.kind in
+    let first = certificates_are_read init next report a k p order one read in
+    let second = certificates_are_read init next report b l q other two read_too in
+    (first.kinds ∙ sym second.kinds, certificates_have_one_book init next report k l p q order other first second)

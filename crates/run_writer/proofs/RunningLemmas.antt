@@ -1,5 +1,5 @@
--- A bench has one report.
-use Rattle.std.proofs.Common.{◌≡◌, ap, subst, List, ℕ}
+-- A bench has one report, and that has each form.
+use Rattle.std.proofs.Common.{◌≡◌, sym, ap, subst, List, ℕ}
 use Rattle.std.specs.List.{list_any}
 use Rattle.world_core.specs.Shape.{Shape}
 use Rattle.world_core.specs.Local.{Local}
@@ -11,6 +11,11 @@ use Rattle.seq_objects.specs.Objects.{kind_init, kind_next}
 use Rattle.client_scripts.specs.Plans.{Plan}
 use Rattle.reports.specs.Findings.{Findings}
 use Rattle.run_report.specs.Reporting.{IsReportOf}
+use Rattle.report_certificates.specs.Certificates.{HasDeliveredOrder}
+use Rattle.report_certificates.proofs.CertificateLaws.{lawful_reports_have_an_order}
+use Rattle.run_writer.specs.declared.form.Form.{Form}
+use Rattle.run_writer.specs.declared.form.Form.TheVariants.{Report, Counts, Certificate}
+use Rattle.run_writer.specs.Runs.{HasForm}
 
 module _ (s : Shape) (locals : List Local) (plan : Plan) (allotments : List ℕ) where
   -- the report by the object of the script's kind
@@ -23,3 +28,11 @@ module _ (s : Shape) (locals : List Local) (plan : Plan) (allotments : List ℕ)
       → list_any any_error f.lines ≡ list_any any_error g.lines
   one_report init next f g a b =
       ap (λ (lines : List (List Line)). list_any any_error lines) (locals_determine_lines init next locals f.lines g.lines a.lines b.lines)
+
+  -- a lawful report has each form
+  pub has_form : (form : Form) (f : Findings) → IsReportOf (kind_init plan.kind) (kind_next plan.kind) s locals plan allotments f → HasForm form f
+  has_form Report f is = tt
+  has_form Counts f is = tt
+  has_form Certificate f is =
+      subst (λ (kind : Kind). HasDeliveredOrder (kind_init kind) (kind_next kind) f.lines) (sym is.kind)
+      (lawful_reports_have_an_order (kind_init plan.kind) (kind_next plan.kind) s plan.operations allotments f.lines is.lawful)

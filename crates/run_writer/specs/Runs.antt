@@ -1,16 +1,22 @@
--- What is written of a run: its report in one of two forms, and the status that comes with it.
-use Rattle.std.specs.Prelude.{◌≡◌, ◌⊎◌, ℕ, List, [], ◌++◌, false, codes, decimal, Option, if◌then◌else◌}
+-- What is written of a run: its report in one of three forms, and the status that comes with it.
+use Rattle.std.specs.Prelude.{◌≡◌, ◌≢◌, ◌⊎◌, ℕ, List, [], ◌++◌, false, codes, decimal, Option, if◌then◌else◌}
 use Rattle.std.specs.List.{list_any}
+use Rattle.book_base.specs.declared.call.Place.{Place}
 use Rattle.book_base.specs.Book.{Page}
+use Rattle.book_base.specs.Order.{IsLegalOrder}
 use Rattle.book_text.specs.Grammar as books
 use Rattle.call_lines.specs.Lines.{any_error}
+use Rattle.seq_objects.specs.declared.kind.Kind.{Kind}
+use Rattle.seq_objects.specs.Objects.{kind_init, kind_next}
 use Rattle.reports.specs.declared.counts.Counts.{Counts}
 use Rattle.reports.specs.Findings.{Findings, IsWitness}
 use Rattle.reports.specs.Grammar as reports
 use Rattle.reports.specs.Tally.{counts_of}
+use Rattle.certificate_text.specs.CertificateRules.{IsCertificateText}
+use Rattle.report_certificates.specs.Certificates.{HasDeliveredOrder, IsCertificate}
 use Rattle.text_fields.specs.declared.version.Version.TheVariants.{Second}
 use Rattle.run_writer.specs.declared.form.Form.{Form}
-use Rattle.run_writer.specs.declared.form.Form.TheVariants.{Report, Counts as Numbers}
+use Rattle.run_writer.specs.declared.form.Form.TheVariants.{Report, Counts as Numbers, Certificate}
 use Rattle.byte_streams.specs.declared.status.Status.{Status}
 use Rattle.byte_streams.specs.declared.status.Status.TheVariants.{Fine, Found}
 use Rattle.byte_streams.specs.Writing.{EndsWriting}
@@ -30,6 +36,13 @@ counts_text counts =
 abbrev pub IsWritten : Form → Findings → List ℕ → Type 0
 IsWritten Report report text = (shown : List ℕ) × (rest : List ℕ) × reports.IsWrittenText shown report × IsWitnessText report rest × (text ≡ shown ++ rest)
 IsWritten Numbers report text = text ≡ counts_text (counts_of report.lines)
+IsWritten Certificate report text = IsCertificate (kind_init report.kind) (kind_next report.kind) report text
+
+-- A report has a form: a certificate wants a legal order of what was delivered, as every lawful report has.
+abbrev pub HasForm : Form → Findings → Type 0
+HasForm Report report = Unit {0}
+HasForm Numbers report = Unit {0}
+HasForm Certificate report = HasDeliveredOrder (kind_init report.kind) (kind_next report.kind) report.lines
 
 -- the status that comes with a report: whether a line of it is an error
 abbrev pub status_of : Findings → Status
@@ -44,6 +57,16 @@ IsRunOutput IsReportOf form status text = (report : Findings) × IsReportOf repo
 abbrev pub RunEnds : (Findings → Type 0) → Form → Status → Option (List ℕ) → Option (List ℕ) → Type 0
 RunEnds IsReportOf form status taken taken' = EndsWriting (IsRunOutput IsReportOf form) status taken taken'
 
--- A form writes one text of a report.
+-- A form but the certificate writes one text of a report.
 abbrev pub FormsWriteOneText : Type 0
-FormsWriteOneText = (form : Form) (report : Findings) (a b : List ℕ) → IsWritten form report a → IsWritten form report b → a ≡ b
+FormsWriteOneText = (form : Form) (report : Findings) (a b : List ℕ) → form ≢ Certificate → IsWritten form report a → IsWritten form report b → a ≡ b
+
+-- Whoever reads a certificate reads a legal order of its book, for the kind that it names.
+abbrev pub CertificatesAreLegal : Type 0
+CertificatesAreLegal = (report : Findings) (text : List ℕ) (kind : Kind) (book : List Page) (order : List Place)
+    → IsWritten Certificate report text → IsCertificateText text kind book order → IsLegalOrder (kind_init kind) (kind_next kind) book order
+
+-- Certificates of a report may differ in their orders alone: whoever reads two of them reads one kind and one book.
+abbrev pub CertificatesTellOneBook : Type 0
+CertificatesTellOneBook = (report : Findings) (a b : List ℕ) (k l : Kind) (p q : List Page) (order other : List Place)
+    → IsWritten Certificate report a → IsWritten Certificate report b → IsCertificateText a k p order → IsCertificateText b l q other → (k ≡ l) × (p ≡ q)

@@ -5,4 +5,6 @@ pub enum Form {
     Report,
     /// One line: how many calls have a line, how many of these are delivered, and how many are errors.
     Counts,
+    /// A certificate: the text of the book at the greatest seen cut of a delivered line, and of a legal order of it.
+    Certificate,
 }

@@ -8,7 +8,7 @@ mod report_output;
 mod run;
 
 pub use form::Form;
-pub use laws::a_form_writes_one_text;
+pub use laws::{a_report_and_its_counts_have_one_text, certificates_are_legal_and_tell_one_book};
 pub use replay::replay_and_write;
 pub use report_output::write_report;
 pub use run::run_and_write;

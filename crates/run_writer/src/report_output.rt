@@ -4,19 +4,23 @@ ghost use Rattle.std.specs.Prelude.{◌≡◌, ◌⊎◌, ◌≤◌, ◌++◌, �
 ghost use Rattle.std.specs.List.{list_any};
 ghost use Rattle.call_lines.specs.Lines.{any_error};
 ghost use Rattle.byte_streams.specs.Fault.{Rose};
-ghost use Rattle.run_writer.specs.Runs.{IsWitnessText, IsWritten, IsRunOutput, RunEnds, counts_text, status_of};
+ghost use Rattle.run_writer.specs.Runs.{IsWitnessText, IsWritten, HasForm, IsRunOutput, RunEnds, counts_text, status_of};
 
 use crate::form::Form;
 use book_base::NoMemory;
 use book_writer::write_book;
 use byte_streams::{Sink, Status, write_text};
+use report_certificates::report_certificate;
 use report_writer::report_text;
 use reports::{Counts, Report};
 use seq_objects::put_number;
 use std::alloc::Global;
 
-/// Writes what a form shows of a report. All of it is built before its first byte is written.
+/// Writes what a form shows of a report, which every lawful report has. All of it is built before
+/// its first byte is written.
 pub fn write_report<K: Sink>(alloc: Global, form: Form, report: &Report, sink: &mut K) -> Status
+    requires form { HasForm form report.now }
+
     // What was written, by the status.
     ensures ends { RunEnds (λ other. other ≡ report.now) form result
         (K.taken sink.old) (K.taken sink.new) }
@@ -52,6 +56,7 @@ fn status_of(report: &Report) -> Status
 
 /// What a form shows of a report.
 fn shown(alloc: Global, form: Form, report: &Report) -> Result<Vec<u8>, NoMemory>
+    requires { HasForm form report.now }
     ensures { IfOk result (λ text. IsWritten form report.now text.items) }
 {
     match form {
@@ -61,6 +66,7 @@ fn shown(alloc: Global, form: Form, report: &Report) -> Result<Vec<u8>, NoMemory
             Ok(text)
         }
         Form::Counts => counts_text(alloc, report.counts()),
+        Form::Certificate => certificate(alloc, report),
     }
 }
 
@@ -74,6 +80,17 @@ fn put_witness(alloc: Global, text: &mut Vec<u8>, report: &Report) -> Result<(),
         text.extend_from_slice(&rest)?;
     }
     Ok(())
+}
+
+/// A certificate of a report that has one.
+fn certificate(alloc: Global, report: &Report) -> Result<Vec<u8>, NoMemory>
+    requires { HasForm Form.Certificate report.now }
+    ensures { IfOk result (λ text. IsWritten Form.Certificate report.now text.items) }
+{
+    match report_certificate(alloc, &report.kind(), report)? {
+        Some(text) => Ok(text),
+        None => unreachable!(),
+    }
 }
 
 /// The line of a report's three counts.

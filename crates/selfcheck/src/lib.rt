@@ -29,7 +29,10 @@ pub use laws::{
     what_is_not_taken_is_refused, words_have_their_command,
 };
 pub use named_runs::{replay_behaviour, replay_fresh, run_behaviour, run_fresh};
-pub use run_writer::{Form, a_form_writes_one_text, replay_and_write, run_and_write, write_report};
+pub use run_writer::{
+    Form, a_report_and_its_counts_have_one_text, certificates_are_legal_and_tell_one_book,
+    replay_and_write, run_and_write, write_report,
+};
 pub use top::selfcheck;
 
 #[cfg(test)]

@@ -1,7 +1,11 @@
 use Rattle.std.proofs.Common.{◌∙◌}
 use Rattle.run_writer.proofs.RunLemmas.{RunEnds-from_report}
-use Rattle.run_writer.proofs.RunningLemmas.{by_its_kind, one_report}
+use Rattle.run_writer.proofs.RunningLemmas.{by_its_kind, one_report, has_form}
 use Rattle.run_writer.proofs.replay.replay_and_write.Goals as goal
+
+pub write_report-requires : goal.write_report-requires
+write_report-requires g c =
+    has_form _ _ _ _ _ _ (by_its_kind _ _ _ _ _ _ c.kind-kind.ensures c.in-Ok.ensures.report)
 
 pub returns-in-Ok-clause-ends : goal.returns-in-Ok-clause-ends
 returns-in-Ok-clause-ends g c =
