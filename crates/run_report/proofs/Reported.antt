@@ -1,5 +1,5 @@
 -- What the callers of a plan that are back have left is their report.
-use Rattle.std.proofs.Common.{◌≡◌, ◌∙◌, sym, subst, ap, refl, ℕ, ◌<◌, false, List, Some, length, slice_get, arith}
+use Rattle.std.proofs.Common.{◌≡◌, sym, subst, refl, ℕ, false, List, length, arith}
 use Rattle.std.specs.Prelude.{Option}
 use Rattle.std.specs.List.{AllByRecursion}
 use Rattle.std.proofs.lemmas.Option.{slice_get_within}
@@ -41,7 +41,7 @@ module _ {P T : Type 0} (meaning : P → ℕ → ℕ → Meaning) (r : Rows P) (
   lawful = workers_are_lawful object.init object.next (shape_of meaning r) plan.operations allotments (locals_on b) lines together have
 
   pub reported : (f : Findings) → f ≡ record { kind = plan.kind; lines = lines } → IsReportOf object.init object.next (shape_of meaning r) (locals_on b) plan allotments f
-  reported f same = subst (λ (h : Findings). IsReportOf object.init object.next (shape_of meaning r) (locals_on b) plan allotments h) (sym same) (record { kind = refl; lines = of; lawful = lawful })
+  reported f same = subst (λ (h : Findings). IsReportOf object.init object.next (shape_of meaning r) (locals_on b) plan allotments h) (sym same) (record { kind = refl; lines = of; made = λ i low. (have.worked i low).made; lawful = lawful })
 
   pub fits : AllByRecursion (AllByRecursion (λ (line : Line). HasWord line.end)) lines → IsReport (record { kind = plan.kind; lines = lines })
   fits words = is_report object.init object.next (shape_of meaning r) (locals_on b) plan allotments lines valid rows.callers together of lawful words

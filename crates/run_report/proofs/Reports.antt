@@ -1,6 +1,6 @@
 -- The lines of a lawful report are such as texts can have.
-use Rattle.std.proofs.Common.{◌≡◌, ◌∙◌, sym, subst, ap, refl, inl, inr, ℕ, zero, suc, ◌+◌, ◌<◌, ◌≤◌, ◌^◌, min, List, [], ◌∷◌, ◌++◌, Some, None, length, map, take, slice_get, slice_index, arith}
-use Rattle.std.specs.Prelude.{IsSome, slice_index_or}
+use Rattle.std.proofs.Common.{◌≡◌, sym, subst, ap, refl, inl, inr, ℕ, zero, suc, ◌+◌, ◌<◌, ◌≤◌, ◌^◌, List, [], ◌∷◌, Some, length, map, take, slice_index, arith}
+use Rattle.std.specs.Prelude.{IsSome}
 use Rattle.std.specs.List.{All, AllByRecursion}
 use Rattle.std.proofs.lemmas.List.Elements.{All-head, All-tail}
 use Rattle.reports.specs.declared.report.Own.{Own}
@@ -24,11 +24,11 @@ use Rattle.call_lines.specs.declared.line.LineEnd.TheVariants.{Pending, Unchecke
 use Rattle.call_lines.specs.Lines.{made_of, lines_at, line_at, book_of_lines, delivered_in, AreLinesOf}
 use Rattle.call_lines.specs.Phases.{operations_of}
 use Rattle.call_lines.specs.Allotments.{operations_at}
-use Rattle.call_lines.specs.Lawful.{IsAllotted, IsLawful}
+use Rattle.call_lines.specs.Lawful.{IsLawful}
 use Rattle.report_laws.proofs.Fitting.{seen_cuts_are_in_the_book, lines_before_the_last_are_delivered}
 use Rattle.client_scripts.specs.Plans as plans
 use Rattle.client_scripts.specs.Plans.{Plan, IsPlan}
-use Rattle.reports.specs.Findings.{Findings, IsReport, sizes}
+use Rattle.reports.specs.Findings.{IsReport, sizes}
 use Rattle.run_report.specs.Replies.{HasWord}
 
 -- what holds of the lines of each caller holds of all

@@ -13,7 +13,7 @@ use Rattle.call_lines.specs.Workers.{HasWorked}
 use Rattle.report_laws.specs.Working.{HaveWorked}
 use Rattle.row_table.specs.Seats.{View, has, the}
 use Rattle.row_table.specs.declared.bench.Bench.{Bench}
-use Rattle.row_table.specs.Callers.{on_bench, locals_on, Holds}
+use Rattle.row_table.specs.Callers.{locals_on, Holds}
 use Rattle.call_phases.specs.Ends.{Sequential, silent, SaysJudged}
 use Rattle.call_phases.proofs.Worked.{judging_clients_have_worked}
 use Rattle.std.specs.List.{All}

@@ -1,3 +1,4 @@
 pub mod Passes
 pub mod Reporting
 pub mod Replies
+pub mod Cases

@@ -1,21 +1,23 @@
 -- The report of the callers of a plan, by the locals that they leave.
-use Rattle.std.specs.Prelude.{◌≡◌, ℕ, ◌<◌, List, [], ◌∷◌, Option, IfSome, length, map, slice_get, Some, slice_index}
-use Rattle.seq_objects.specs.declared.kind.Kind.{Kind}
+use Rattle.std.specs.Prelude.{◌≡◌, ℕ, ◌<◌, List, [], ◌∷◌, Option, IfSome, map, slice_index}
 use Rattle.world_core.specs.Shape.{Shape}
 use Rattle.world_core.specs.Local.{Local}
+use Rattle.world_core.specs.Calls.{local_at}
 use Rattle.call_lines.specs.Lines.{made_of, lines_at, AreLinesOf}
-use Rattle.call_lines.specs.Phases.{IsTold, asked}
-use Rattle.call_lines.specs.Allotments.{phases_of}
+use Rattle.call_lines.specs.Phases.{HasMade, IsTold, asked}
+use Rattle.call_lines.specs.Allotments.{operations_at, phases_of}
 use Rattle.call_lines.specs.Lawful.{IsLawful}
 use Rattle.client_scripts.specs.Plans.{Plan}
 use Rattle.call_phases.specs.Ends.{Sequential, silent}
 use Rattle.reports.specs.Findings.{Findings}
 
 -- Findings are those of a plan's callers that were given these phases and left these locals: of its kind, with the lines of just these
--- locals, and lawful.
+-- locals, and lawful; and each caller has made just the phases that its lines tell of, so that one which stopped behind its publish
+-- has published.
 pub record IsReportOf (init : List ℕ) (next : List ℕ → ℕ → List ℕ × ℕ) (s : Shape) (locals : List Local) (plan : Plan) (allotments : List ℕ) (findings : Findings) : Type 0 where
   pub kind : findings.kind ≡ plan.kind
   pub lines : AreLinesOf init next locals findings.lines
+  pub made : (i : ℕ) → i < s.callers → HasMade (operations_at plan.operations i) (phases_of (slice_index allotments i) (lines_at findings.lines i)) (local_at locals i)
   pub lawful : IsLawful init next s plan.operations allotments findings.lines
 
 -- The sequential object that the first of some endings judges by.

@@ -1,6 +1,7 @@
 //! Whole runs: all callers of a script call an object, and their report is lawful.
 #![tactic(auto)]
 
+pub mod cases;
 mod judgements;
 mod replay;
 mod report;

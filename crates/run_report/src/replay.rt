@@ -69,8 +69,9 @@ fn replay_judged<S: SeqObject, B: BlackBox>(
 /// judged by the sequential object. The answer is the callers' report, which is lawful.
 ///
 /// Whatever the answer, the bench holds all callers again, the passes are in their order, and each
-/// caller has made some first part of its phases. Want of memory is answered before the first call,
-/// or where a judgement wanted it.
+/// caller has made some first part of its phases: all of them where a report is answered, but for
+/// those behind an error. Want of memory is answered before the first call, or where a judgement
+/// wanted it.
 pub fn replay_over<S: SeqObject, B: BlackBox>(
     alloc: Global,
     rows: &Rows,

@@ -4,11 +4,10 @@ use Rattle.std.proofs.lemmas.List.{length-map}
 use Rattle.reports.specs.declared.report.Own.{Own}
 use Rattle.run_report.specs.Replies.{HasWord}
 use Rattle.seq_objects.specs.declared.kind.Kind.{Kind}
-use Rattle.call_lines.specs.Allotments.{allotments_of, allotments_by_turns}
-use Rattle.row_table.specs.Callers.{shape_of, locals_on}
+use Rattle.call_lines.specs.Allotments.{allotments_by_turns}
 use Rattle.reports.specs.Findings.{Findings, IsReport}
 use Rattle.reports.specs.ReportLayout.{findings_in}
-use Rattle.run_report.specs.Reporting.{IsReportOf, IsToldIn}
+use Rattle.run_report.specs.Reporting.{IsToldIn}
 use Rattle.bench_clients.specs.Places.{AreInOrder}
 use Rattle.run_report.proofs.Workers.{holds_back, own_passes}
 use Rattle.run_report.proofs.Reports.{words_of_all}

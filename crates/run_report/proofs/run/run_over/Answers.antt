@@ -3,15 +3,14 @@ use denote.Param.Send.{sendable}
 use Rattle.std.specs.List.{All}
 use Rattle.std.proofs.lemmas.List.{length-map}
 use Rattle.seq_objects.specs.declared.kind.Kind.{Kind}
-use Rattle.call_lines.specs.Allotments.{allotments_of, allotments_by_turns}
-use Rattle.row_table.specs.Callers.{shape_of, locals_on}
+use Rattle.call_lines.specs.Allotments.{allotments_of}
 use Rattle.reports.specs.Findings.{Findings, IsReport}
 use Rattle.reports.specs.declared.report.Own.{Own}
 use Rattle.reports.specs.ReportLayout.{findings_in}
 use Rattle.bench_clients.specs.Places.{AreInOrder}
 use Rattle.bench_clients.proofs.Returns.{unused_back}
 use Rattle.run_report.specs.Replies.{HasWord}
-use Rattle.run_report.specs.Reporting.{IsReportOf, IsToldIn}
+use Rattle.run_report.specs.Reporting.{IsToldIn}
 use Rattle.call_phases.specs.Ends.{Sequential}
 use Rattle.run_report.proofs.Workers.{holds_back, own_passes, all_by_first, first_is, other_object, back_by}
 use Rattle.run_report.proofs.Sending.{judging_send}

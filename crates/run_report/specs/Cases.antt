@@ -1,0 +1,23 @@
+-- Worked reports of two callers that stop.
+use Rattle.std.specs.Prelude.{ℕ, List, [], ◌∷◌, Option, Some}
+use Rattle.seq_objects.specs.declared.kind.Kind.TheVariants.{Queue}
+use Rattle.world_core.specs.World.{Step}
+use Rattle.world_core.specs.Schedules.{pair, silent}
+use Rattle.world_books.specs.Cases.{locals_after}
+use Rattle.call_lines.specs.Allotments.{allotments_of}
+use Rattle.client_scripts.specs.Plans.{Plan}
+use Rattle.report_laws.specs.Cases.{five_and_six, stopped}
+use Rattle.run_report.specs.Reporting.{IsReportOf}
+
+-- The first caller stops after so many phases, and the second after two.
+abbrev pub stops_after : ℕ → List (Option ℕ)
+stops_after phases = Some phases ∷ Some 2 ∷ []
+
+abbrev pub plan_to : ℕ → Plan
+plan_to phases = record { kind = Queue; operations = five_and_six; stops = stops_after phases; turns = [] }
+
+-- That the first caller has its record, and the second has announced its call, is the report of this plan and of the locals after
+-- these steps.
+abbrev pub IsStoppedReport : ℕ → List Step → Type 0
+IsStoppedReport phases steps =
+    IsReportOf [] silent pair (locals_after steps) (plan_to phases) (allotments_of five_and_six (stops_after phases)) (record { kind = Queue; lines = stopped })

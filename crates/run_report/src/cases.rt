@@ -1,0 +1,15 @@
+//! Worked reports of two callers that stop.
+
+ghost use Rattle.std.specs.Prelude.{◌++◌, take};
+ghost use Rattle.world_core.specs.Schedules.{announced_both, published_one, two_calls};
+ghost use Rattle.run_report.specs.Cases.{IsStoppedReport};
+
+/// A stop is kept to the phase, though the lines tell less. A caller that stops after its third
+/// phase has its record, and one that stops after its fourth has published it too: their lines are
+/// the same, and neither's report is the other's.
+pub fn stops_are_kept_to_the_phase()
+    ensures recorded { IsStoppedReport 3 (take 24 two_calls) }
+    ensures published { IsStoppedReport 4 (announced_both ++ published_one) }
+    ensures unpublished { ¬ IsStoppedReport 4 (take 24 two_calls) }
+    ensures published_too_soon { ¬ IsStoppedReport 3 (announced_both ++ published_one) }
+{}
