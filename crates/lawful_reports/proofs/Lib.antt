@@ -1,0 +1,3 @@
+pub mod Books
+pub mod Orders
+pub mod Errors

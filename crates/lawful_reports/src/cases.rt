@@ -1,0 +1,90 @@
+//! Worked reports of a run of two whole calls: what the laws say of it, and wrong reports.
+
+ghost use Rattle.std.specs.Prelude.{◌≡◌, true, [], ◌∷◌, map, take};
+ghost use Rattle.std.specs.List.{list_any};
+ghost use Rattle.world_core.specs.Schedules.{pair, two_calls, tenfold, silent};
+ghost use Rattle.world_core.specs.World.{IsRun};
+ghost use Rattle.world_core.specs.History.{IsLinearizable, history_of};
+ghost use Rattle.world_core.specs.Calls.{calls_in};
+ghost use Rattle.world_books.specs.Cases.{locals_after};
+ghost use Rattle.call_lines.specs.Cases.{answer, pending, unchecked, delivered};
+ghost use Rattle.call_lines.specs.Lines.{calls_of, any_error, AreLinesOf};
+ghost use Rattle.call_lines.specs.Lawful.{IsLawful};
+ghost use Rattle.report_laws.specs.Cases.{five_and_six, fifty, sixty, both_delivered, both_failed, first_failed, nothing};
+ghost use Rattle.lawful_reports.specs.Errors.{NoLinearizableRunHasTheseCalls, NoLinearizableRunHasTheseLines};
+ghost use Rattle.lawful_reports.specs.Cases.{with_second, with_first, behind_an_error, AreNoReport, StandInOrder, first_place};
+
+/// The delivered lines of the run stand in the order of their calls, and in none that leaves one
+/// out or has another reply. Lines of which none is delivered stand in the empty order.
+pub fn delivered_lines_stand_in_an_order()
+    ensures both { StandInOrder both_delivered (first_place 0 50 ∷ first_place 1 60 ∷ []) }
+    ensures none { StandInOrder both_failed [] }
+    ensures one_left_out { ¬ StandInOrder both_delivered (first_place 0 50 ∷ []) }
+    ensures another_reply { ¬ StandInOrder both_delivered (first_place 0 50 ∷ first_place 1 61 ∷ []) }
+{}
+
+/// False errors. The run is one over linearizable calls of an object that gives ten times the
+/// operation, and its lines as errors are no lawful report. That no such run ends with these lines,
+/// verdicts included, doesn't refuse them: it is so of every false error. That none ends with their
+/// calls does.
+pub fn false_errors_are_refused()
+    ensures errors { list_any any_error both_failed ≡ true }
+    ensures run { IsRun pair two_calls }
+    ensures calls { map calls_in (locals_after two_calls) ≡ calls_of both_failed }
+    ensures linearizable { IsLinearizable [] tenfold (history_of pair two_calls) }
+    ensures no_report { AreNoReport [] tenfold both_failed }
+    ensures of_the_lines { NoLinearizableRunHasTheseLines [] tenfold both_failed }
+    ensures of_the_calls { ¬ NoLinearizableRunHasTheseCalls [] tenfold both_failed }
+    // They are true errors of an object that gives 0.
+    ensures lawful { IsLawful [] silent pair five_and_six (5 ∷ 5 ∷ []) both_failed }
+    ensures of_lawful_calls { NoLinearizableRunHasTheseCalls [] silent both_failed }
+{}
+
+/// Lines that are not those of the run's locals, nor of the locals of its first part, in which the
+/// first caller has its record and the second has announced its call.
+pub fn other_lines_are_refused()
+    // A call left out, a record left out, all calls left out.
+    ensures call_left_out { ¬ AreLinesOf [] silent (locals_after (take 24 two_calls))
+        ((unchecked 5 fifty ∷ []) ∷ [] ∷ []) }
+    ensures record_left_out { ¬ AreLinesOf [] silent (locals_after (take 24 two_calls))
+        ((pending 5 ∷ []) ∷ (pending 6 ∷ []) ∷ []) }
+    ensures all_left_out { ¬ AreLinesOf [] tenfold (locals_after two_calls) nothing }
+    // Another operation, reply, view or seen cut, no seen cut, and a call more.
+    ensures operation { ¬ AreLinesOf [] tenfold (locals_after two_calls)
+        (with_second (delivered 7 sixty (1 ∷ 1 ∷ []) ∷ [])) }
+    ensures reply { ¬ AreLinesOf [] tenfold (locals_after two_calls)
+        (with_second (delivered 6 fifty (1 ∷ 1 ∷ []) ∷ [])) }
+    ensures seen_view { ¬ AreLinesOf [] tenfold (locals_after two_calls)
+        (with_second (delivered 6 (answer 60 (0 ∷ 1 ∷ [])) (1 ∷ 1 ∷ []) ∷ [])) }
+    ensures seen_cut { ¬ AreLinesOf [] tenfold (locals_after two_calls)
+        (with_second (delivered 6 sixty (0 ∷ 1 ∷ []) ∷ [])) }
+    ensures cut_left_out { ¬ AreLinesOf [] tenfold (locals_after two_calls)
+        (with_second (unchecked 6 sixty ∷ [])) }
+    ensures call_more { ¬ AreLinesOf [] tenfold (locals_after two_calls)
+        (with_second (delivered 6 sixty (1 ∷ 1 ∷ []) ∷ pending 7 ∷ [])) }
+    // Another verdict, though all calls are right.
+    ensures false_error { ¬ AreLinesOf [] tenfold (locals_after two_calls) first_failed }
+    ensures missed_error { ¬ AreLinesOf [] silent (locals_after two_calls) both_delivered }
+{}
+
+/// Reports that are not lawful, each by one part: `report_laws` has such a case for each part that
+/// has none here and doesn't follow from the others.
+pub fn wrong_reports_are_refused()
+    // The lines have other operations than the callers were given, or more.
+    ensures operations { ¬ IsLawful [] tenfold pair ((5 ∷ []) ∷ (7 ∷ []) ∷ []) (5 ∷ 5 ∷ [])
+        both_delivered }
+    ensures beyond_operations { ¬ IsLawful [] tenfold pair five_and_six (6 ∷ 5 ∷ [])
+        (with_first (delivered 5 fifty (1 ∷ 0 ∷ []) ∷ pending 0 ∷ [])) }
+    // A call is judged that its caller's stop leaves unjudged; a caller goes on behind an error.
+    ensures beyond_stop { ¬ IsLawful [] tenfold pair five_and_six (4 ∷ 5 ∷ []) both_delivered }
+    ensures error_beyond_stop { ¬ IsLawful [] silent pair five_and_six (4 ∷ 5 ∷ []) both_failed }
+    ensures behind_error { ¬ IsLawful [] silent pair ((5 ∷ 7 ∷ []) ∷ (6 ∷ []) ∷ []) (10 ∷ 5 ∷ [])
+        behind_an_error }
+    // A view doesn't hold its own call.
+    ensures view_without_call { AreNoReport [] tenfold
+        (with_first (delivered 5 (answer 50 (0 ∷ 1 ∷ [])) (1 ∷ 0 ∷ []) ∷ [])) }
+    // A seen cut has no count for a caller, or doesn't hold its own call.
+    ensures narrow_cut { AreNoReport [] tenfold (with_first (delivered 5 fifty (1 ∷ []) ∷ [])) }
+    ensures cut_without_call { AreNoReport [] tenfold
+        (with_second (delivered 6 sixty (1 ∷ 0 ∷ []) ∷ [])) }
+{}
