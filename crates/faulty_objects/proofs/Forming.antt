@@ -1,13 +1,14 @@
 -- Calls one after the other, and the forms of their replies.
-use Rattle.std.proofs.Common.{◌≡◌, ◌≢◌, ℕ, suc, ◌+◌, ◌-◌, ◌%◌, ◌^◌, ◌<◌, ◌≤◌, ◌⊎◌, inl, inr, eqb, true, false, min, List, [], ◌∷◌, ◌++◌, refl, sym, ap, ◌∙◌, subst, arith}
+use Rattle.std.proofs.Common.{◌≡◌, ◌≢◌, ℕ, suc, ◌+◌, ◌-◌, ◌%◌, ◌^◌, ◌<◌, ◌≤◌, ◌⊎◌, inl, inr, eqb, true, false, min, List, [], ◌∷◌, ◌++◌, length, map, Some, refl, sym, ap, ◌∙◌, subst, arith}
 use Rattle.std.specs.List.{All}
-use Rattle.std.proofs.lemmas.List.{append_assoc}
-use Rattle.std.proofs.lemmas.List.Elements.{All-nil, All-cons}
+use Rattle.std.proofs.lemmas.List.{append_assoc, append-nil, length-append, map-append}
+use Rattle.std.proofs.lemmas.List.Elements.{All-nil, All-cons, All-push, All-pop}
 use Rattle.std.proofs.lemmas.Bool.Decides.{eqb_tells}
+use Rattle.book_base.specs.declared.TheConstants.{BAD}
 use Rattle.seq_objects.specs.Replies.{reply_done, reply_none, reply_value}
 use Rattle.lawful_objects.specs.Forms.{increment, IsTallyReply}
 use Rattle.faulty_objects.specs.Deeds.{Deed, Added, Stored, Loaded, Swapped, AreCalls}
-use Rattle.faulty_objects.specs.Forms.{IsSplit, SplitsAreFormed, dequeue, item_index, empty_places, IsEnqueued, IsDequeued, IsOnePass, IsQueueReply, OnePassesAreFormed}
+use Rattle.faulty_objects.specs.Forms.{IsSplit, SplitsAreFormed, dequeue, item_index, empty_places, IsEnqueued, IsDequeued, IsOnePass, IsQueueReply, OnePassesAreFormed, up, IsMissed, IsMeeting, IsMeetingReply, MeetingsAreFormed, other_caller, LastLoadsTellReplies}
 
 -- one more call at the end
 pub AreCalls-push : (call : ℕ → ℕ → List Deed → List Deed → Type 0) (pairs : List (ℕ × ℕ)) (op reply : ℕ) (before between after : List Deed)
@@ -132,3 +133,59 @@ enqueued places place index word value before between after low added at is stor
       stored = λ _. stored ∙ (λ i. added i ++ Stored (at i) (is i) ∷ []) ∙ append_assoc before (Added 0 1 place ∷ []) (Stored (item_index place) (value + 1) ∷ []);
       beyond = λ past. absurd (omega arith);
     }
+
+-- no load, and one more that missed the flag
+pub none_missed : (flag : ℕ) (deeds : List Deed) → IsMissed flag 0 deeds deeds
+none_missed flag deeds = record { found = []; many = refl; each = All-nil (λ (word : ℕ). word ≢ up); loaded = sym (append-nil deeds) }
+
+pub one_missed : (flag count found : ℕ) (before between after : List Deed) → IsMissed flag count before between → after ≡ between ++ Loaded flag found ∷ [] → found ≢ up → IsMissed flag (count + 1) before after
+one_missed flag count found before between after so_far loaded isnt =
+    record {
+      found = so_far.found ++ found ∷ [];
+      many = omega (arith, length-append so_far.found (found ∷ []), so_far.many);
+      each = All-push (λ (word : ℕ). word ≢ up) so_far.found found so_far.each isnt;
+      loaded =
+          loaded
+          ∙ ap (λ (d : List Deed). d ++ Loaded flag found ∷ []) so_far.loaded
+          ∙ append_assoc before (map (Loaded flag) so_far.found) (Loaded flag found ∷ [])
+          ∙ ap (λ (d : List Deed). before ++ d) (sym (map-append (Loaded flag) so_far.found (found ∷ [])));
+    }
+
+-- the form of a meeting's reply
+pub meeting_form : (caller reply : ℕ) (before after : List Deed) → IsMeeting caller reply before after → IsMeetingReply reply
+meeting_form caller reply before after call = elim call.waited [ inl seen ↦ inl seen.1 | inr missed ↦ inr missed.1 ]
+
+pub meetings_are_formed : MeetingsAreFormed
+meetings_are_formed caller = formed (λ _. IsMeeting caller) (λ _. IsMeetingReply) (λ _. meeting_form caller)
+
+-- the last of a list that has one
+last_of : (x : ℕ) (xs : List ℕ) → (front : List ℕ) × (last : ℕ) × (x ∷ xs ≡ front ++ last ∷ [])
+last_of x [] = ([], x, refl)
+last_of x (y ∷ ys) = let h = last_of y ys in (x ∷ h.0, h.1, ap (λ (l : List ℕ). x ∷ l) h.2)
+
+-- the last of some loads that missed a flag
+last_missed : (flag : ℕ) (words : List ℕ) (before after : List Deed) → 0 < length words → All (λ (word : ℕ). word ≢ up) words → after ≡ before ++ map (Loaded flag) words
+    → (between : List Deed) × (found : ℕ) × (found ≢ up) × (after ≡ between ++ Loaded flag found ∷ [])
+last_missed flag [] before after some each loaded = absurd (omega arith)
+last_missed flag (x ∷ xs) before after some each loaded =
+    let l = last_of x xs in (
+      before ++ map (Loaded flag) l.0,
+      l.1,
+      (All-pop (λ (word : ℕ). word ≢ up) (x ∷ xs) l.0 (Some l.1) l.2 each).1,
+      loaded
+          ∙ ap (λ (ws : List ℕ). before ++ map (Loaded flag) ws) l.2
+          ∙ ap (λ (d : List Deed). before ++ d) (map-append (Loaded flag) l.0 (l.1 ∷ []))
+          ∙ sym (append_assoc before (map (Loaded flag) l.0) (Loaded flag l.1 ∷ [])),
+    )
+
+done_is_not_bad : (reply : ℕ) → reply ≡ BAD → reply ≢ reply_done
+done_is_not_bad reply bad done = absurd (omega arith)
+
+pub last_loads_tell_replies : LastLoadsTellReplies
+last_loads_tell_replies caller reply before after call =
+    elim call.waited [
+      | inl seen ↦ (seen.0.between, up, seen.0.seen, (λ _. refl, λ _. seen.1))
+      | inr missed ↦
+          let m = last_missed (other_caller caller) missed.0.found call.between after (omega (arith, missed.0.many)) missed.0.each missed.0.loaded in
+          (m.0, m.1, m.3, (λ done. absurd (done_is_not_bad reply missed.1 done), λ is. absurd (m.2 is)))
+    ]

@@ -1,5 +1,5 @@
 -- What a call of each object does, and which form its reply has.
-use Rattle.std.specs.Prelude.{◌≡◌, ◌≢◌, ℕ, zero, suc, ◌+◌, ◌-◌, ◌%◌, ◌^◌, ◌<◌, ◌≤◌, ◌⊎◌, min, List, [], ◌∷◌, ◌++◌, All}
+use Rattle.std.specs.Prelude.{◌≡◌, ◌≢◌, ℕ, zero, suc, ◌+◌, ◌-◌, ◌%◌, ◌^◌, ◌<◌, ◌≤◌, ◌⊎◌, ◌↔◌, min, List, [], ◌∷◌, ◌++◌, All, length, map}
 use Rattle.book_base.specs.declared.TheConstants.{BAD}
 use Rattle.seq_objects.specs.Replies.{reply_done, reply_none, reply_value}
 use Rattle.lawful_objects.specs.Forms.{operation, increment, IsTallyReply}
@@ -66,3 +66,50 @@ pub record IsQueueReply (op reply : ℕ) : Type 0 where
 -- The pairs of its calls have this form.
 abbrev pub OnePassesAreFormed : Type 0
 OnePassesAreFormed = (places : ℕ) (pairs : List (ℕ × ℕ)) (before after : List Deed) → AreCalls (IsOnePass places) pairs before after → All (λ pair. IsQueueReply pair.0 pair.1) pairs
+
+-- The flag of a caller at a meeting is up.
+abbrev pub up : ℕ
+up = 1
+
+-- The other one of two callers.
+abbrev pub other_caller : ℕ → ℕ
+other_caller caller = 1 - caller
+
+-- How often a call of a meeting loads the other caller's flag at most.
+abbrev pub most_loads : ℕ
+most_loads = 100000000
+
+-- So many loads of a flag, none of which found it up.
+pub record IsMissed (flag count : ℕ) (before after : List Deed) : Type 0 where
+  pub found : List ℕ
+  pub many : length found ≡ count
+  pub each : All (λ word. word ≢ up) found
+  pub loaded : after ≡ before ++ map (Loaded flag) found
+
+-- Fewer loads of a flag than the most miss it, and the next one finds it up.
+pub record IsSeen (flag : ℕ) (before after : List Deed) : Type 0 where
+  pub misses : ℕ
+  pub few : misses < most_loads
+  pub between : List Deed
+  pub missed : IsMissed flag misses before between
+  pub seen : after ≡ between ++ Loaded flag up ∷ []
+
+-- A call of a caller at a meeting, whatever it asks: it raises its own flag, and then loads the other caller's. The reply is done where
+-- it saw that one up, and bad where all loads missed it.
+pub record IsMeeting (caller reply : ℕ) (before after : List Deed) : Type 0 where
+  pub between : List Deed
+  pub raised : between ≡ before ++ Stored caller up ∷ []
+  pub waited : (IsSeen (other_caller caller) between after × (reply ≡ reply_done)) ⊎ (IsMissed (other_caller caller) most_loads between after × (reply ≡ BAD))
+
+-- The form of its reply: done or bad.
+abbrev pub IsMeetingReply : ℕ → Type 0
+IsMeetingReply reply = (reply ≡ reply_done) ⊎ (reply ≡ BAD)
+
+-- The pairs of a caller's calls have this form.
+abbrev pub MeetingsAreFormed : Type 0
+MeetingsAreFormed = (caller : ℕ) (pairs : List (ℕ × ℕ)) (before after : List Deed) → AreCalls (λ _. IsMeeting caller) pairs before after → All (λ pair. IsMeetingReply pair.1) pairs
+
+-- The last step of a call tells its reply: done exactly where it found the other caller's flag up.
+abbrev pub LastLoadsTellReplies : Type 0
+LastLoadsTellReplies = (caller reply : ℕ) (before after : List Deed) → IsMeeting caller reply before after
+    → (between : List Deed) × (found : ℕ) × (after ≡ between ++ Loaded (other_caller caller) found ∷ []) × ((reply ≡ reply_done) ↔ (found ≡ up))

@@ -5,8 +5,9 @@ use Rattle.faulty_objects.specs.declared.shared_words.SharedWords.{SharedWords}
 use Rattle.faulty_objects.specs.declared.words_pass.WordsPass.{WordsPass}
 use Rattle.faulty_objects.specs.declared.split_tally.SplitTally.{SplitTally}
 use Rattle.faulty_objects.specs.declared.one_pass.OnePass.{OnePass}
+use Rattle.faulty_objects.specs.declared.meeting.Meeting.{Meeting}
 use Rattle.faulty_objects.specs.Deeds.{Deed, AreCalls}
-use Rattle.faulty_objects.specs.Forms.{IsSplit, IsOnePass}
+use Rattle.faulty_objects.specs.Forms.{IsSplit, IsOnePass, IsMeeting}
 
 -- The steps that were made with a seat.
 abbrev pub deeds_of : Seat (Unit {0}) (List Deed) → List Deed
@@ -70,3 +71,7 @@ IsSplitPass t p = IsPassOf (λ _. IsSplit) t.words p
 -- The pass is one of this one-pass queue, which has a place for each call.
 abbrev pub IsQueuePass : OnePass → WordsPass → Type 0
 IsQueuePass q p = IsPassOf (λ _. IsOnePass (q.words.callers * q.words.cap)) q.words p
+
+-- The pass is one of this meeting.
+abbrev pub IsMeetingPass : Meeting → WordsPass → Type 0
+IsMeetingPass m p = IsPassOf (λ caller _. IsMeeting caller) m.words p

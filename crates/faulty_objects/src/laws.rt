@@ -1,5 +1,5 @@
-//! The forms of the replies of all calls of a pass.
-ghost use Rattle.faulty_objects.specs.Forms.{SplitsAreFormed, OnePassesAreFormed};
+//! The forms of the replies of all calls of a pass, and what the last step of a call tells.
+ghost use Rattle.faulty_objects.specs.Forms.{SplitsAreFormed, OnePassesAreFormed, MeetingsAreFormed, LastLoadsTellReplies};
 
 /// The replies of a split tally have the form of a tally's.
 #[tactic(auto, using(crate::proofs::Forming::splits_are_formed))]
@@ -11,4 +11,15 @@ pub fn splits_are_formed()
 #[tactic(auto, using(crate::proofs::Forming::one_passes_are_formed))]
 pub fn one_passes_are_formed()
     ensures { OnePassesAreFormed }
+{}
+
+/// The replies of a meeting are done or bad.
+#[tactic(auto, using(crate::proofs::Forming::meetings_are_formed))]
+pub fn meetings_are_formed()
+    ensures { MeetingsAreFormed }
+{}
+
+/// A reply at a meeting is done exactly where the call's last load found the other caller's flag up.
+pub fn last_loads_tell_replies()
+    ensures { LastLoadsTellReplies }
 {}

@@ -1,7 +1,7 @@
 ghost use Rattle.std.specs.Prelude.{All};
-ghost use Rattle.faulty_objects.specs.Passes.{IsSplitPass, IsQueuePass};
+ghost use Rattle.faulty_objects.specs.Passes.{IsSplitPass, IsQueuePass, IsMeetingPass};
 
-use crate::{Behaviour, OnePass, SplitTally, WordsPass};
+use crate::{Behaviour, Meeting, OnePass, SplitTally, WordsPass};
 use book_base::OpWord;
 use drv_wrapper::ObjectPass;
 use std::test::Fail;
@@ -36,6 +36,17 @@ fn ask(queue: &OnePass, passes: &mut Vec<WordsPass>, i: usize, op: OpWord) -> Op
     Some(queue.make(&mut passes[i], op))
 }
 
+// One call at a meeting, by a caller that has one left.
+fn meet(meeting: &Meeting, passes: &mut Vec<WordsPass>, i: usize) -> Option<u64>
+    requires { All (IsMeetingPass meeting.now) passes.old.items }
+    ensures { All (IsMeetingPass meeting.now) passes.new.items }
+{
+    if i >= passes.len() || passes[i].made() >= passes[i].cap() {
+        return None;
+    }
+    Some(meeting.make(&mut passes[i], ENQUEUE_1))
+}
+
 #[test]
 fn a_torn_tally_counts_for_one_caller(rt: HostRuntime) -> Result<(), Fail> {
     let (tally, mut passes) = SplitTally::open(rt.alloc(), 1, 3)?;
@@ -62,6 +73,20 @@ fn a_one_pass_queue_serves_one_caller(rt: HostRuntime) -> Result<(), Fail> {
     assert_eq!(rt; (third, fourth), (Some(8589934593), Some(8589934594)));
     let fifth = ask(&queue, &mut passes, 0, DEQUEUE);
     assert_eq!(rt; fifth, Some(4294967296));
+    Ok(())
+}
+
+// The first caller is back before the second one begins. What both raised stays up.
+#[test]
+fn callers_that_come_one_after_the_other_do_not_meet(rt: HostRuntime) -> Result<(), Fail> {
+    let (meeting, mut passes) = Meeting::open(rt.alloc(), 2, 2)?;
+    let alone = meet(&meeting, &mut passes, 0);
+    let second = meet(&meeting, &mut passes, 1);
+    let again = meet(&meeting, &mut passes, 0);
+    assert_eq!(rt;
+        (alone, second, again),
+        (Some(17179869184), Some(0), Some(0))
+    );
     Ok(())
 }
 

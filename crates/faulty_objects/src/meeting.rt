@@ -1,0 +1,116 @@
+ghost use Rattle.std.specs.Prelude.{◌≡◌, ◌+◌, ◌<◌, ◌≤◌, ◌++◌, ◌∷◌, [], ℕ, List, IfOk, All, map, length};
+ghost use Rattle.std.specs.List.{range_with_len};
+ghost use Rattle.std.specs.Bool.{OnTrue, OnFalse};
+ghost use Rattle.book_base.specs.declared.TheConstants.{MAX_CALLS};
+ghost use Rattle.faulty_objects.specs.Forms.{most_loads, IsSeen, IsMissed, IsMeeting, IsMeetingReply};
+
+use crate::shared_words::{Doing, SharedWords};
+use crate::words_pass::WordsPass;
+use atomic_table::Seat;
+use book_base::{BAD, MAX_CALLS, NoMemory, OpWord};
+use drv_wrapper::{Announced, BlackBox};
+use seq_objects::DONE;
+use std::alloc::Global;
+use std::hint::spin_loop;
+
+/// The word of a flag that is up.
+const UP: u64 = 1;
+
+/// How often a call loads the other caller's flag at most.
+const MOST_LOADS: u32 = 100_000_000;
+
+/// A meeting of two callers: each raises its own flag, and waits a while for the other's to be up. It serves to
+/// see whether callers are at work at the same time: one that is through before the other begins waits in vain,
+/// and its reply is bad.
+#[derive(Drop)]
+pub struct Meeting {
+    pub(crate) words: SharedWords,
+    ghost two: { (words.callers ≡ 2) × (words.table.shared.table_id.words ≡ 2) },
+}
+
+impl Meeting {
+    ghost use Rattle.faulty_objects.specs.Passes.{deeds_of, callers_of, cap_of, caller_of_pass, made_with, cap_of_pass, pairs_in, IsSeatOf, IsFreshPass, IsMeetingPass};
+
+    /// A meeting for `n` callers, of whom there are two, with `cap` calls each, and a pass for each caller, in order.
+    /// No flag is up.
+    pub fn open(alloc: Global, n: u32, cap: u64) -> Result<(Meeting, Vec<WordsPass>), NoMemory>
+        requires two_callers { n ≡ 2 }
+        requires some_calls { 1 ≤ cap }
+        requires few_calls { cap ≤ MAX_CALLS }
+        ensures meeting { IfOk result (λ r. (callers_of r.0.words ≡ n)
+            × (cap_of r.0.words ≡ cap)) }
+        ensures callers { IfOk result (λ r. map caller_of_pass r.1.items
+            ≡ range_with_len 0 n) }
+        ensures own { IfOk result (λ r. All (IsMeetingPass r.0) r.1.items) }
+        ensures fresh { IfOk result (λ r. All (IsFreshPass cap) r.1.items) }
+    {
+        let (words, passes) = SharedWords::open(alloc, n, cap, n as usize)?;
+        Ok((Meeting { words }, passes))
+    }
+
+    // Whether a flag is found up, by loads of it until one finds it.
+    fn sees(&self, seat: &mut Seat<(), Doing>, flag: usize) -> bool
+        requires seat { IsSeatOf self.now.words seat.old }
+        requires flag { flag < 2 }
+        ensures seat { IsSeatOf self.now.words seat.new }
+        ensures seen { OnTrue result (IsSeen flag (deeds_of seat.old) (deeds_of seat.new)) }
+        ensures missed { OnFalse result (IsMissed flag most_loads
+            (deeds_of seat.old) (deeds_of seat.new)) }
+    {
+        for _turn in 0..MOST_LOADS {
+            let found = self.words.load(seat, flag);
+            if found == UP {
+                return true;
+            }
+            spin_loop();
+        }
+        false
+    }
+
+    // The reply to a caller, with the steps that it makes.
+    fn reply(&self, seat: &mut Seat<(), Doing>, caller: u32) -> u64
+        requires seat { IsSeatOf self.now.words seat.old }
+        requires caller { caller < 2 }
+        ensures seat { IsSeatOf self.now.words seat.new }
+        ensures call { IsMeeting caller result (deeds_of seat.old) (deeds_of seat.new) }
+    {
+        self.words.store(seat, caller as usize, UP);
+        if self.sees(seat, 1 - caller as usize) {
+            DONE
+        } else {
+            BAD
+        }
+    }
+
+    /// Makes one call of the pass's caller, the same one whatever the operation. It takes no memory.
+    pub fn make(&self, pass: &mut WordsPass, op: OpWord) -> u64
+        requires own { IsMeetingPass self.now pass.old }
+        requires left { made_with pass.old < cap_of_pass pass.old }
+        ensures own { IsMeetingPass self.now pass.new }
+        ensures same { (caller_of_pass pass.new ≡ caller_of_pass pass.old)
+            × (cap_of_pass pass.new ≡ cap_of_pass pass.old) }
+        ensures pairs { pairs_in pass.new ≡ pairs_in pass.old ++ (op, result) ∷ [] }
+        ensures form { IsMeetingReply result }
+    {
+        let caller = pass.caller;
+        let reply = self.reply(&mut pass.seat, caller);
+        pass.pairs.push((op, reply)).unwrap();
+        reply
+    }
+}
+
+impl BlackBox for Meeting {
+    ghost use Rattle.std.proofs.Common.{sym, ap};
+    ghost use Rattle.std.proofs.lemmas.Option.{same_Some};
+    ghost use Rattle.faulty_objects.specs.Passes.{pairs_in, IsMeetingPass};
+
+    type Pass = WordsPass;
+
+    ghost is_own = { IsMeetingPass };
+
+    ghost tells_each = { λ m pass pairs own told. ap (λ (l : List (ℕ × ℕ)). length l) (sym (same_Some (pairs_in pass) pairs told)) };
+
+    fn call(&self, pass: &mut WordsPass, announced: &Announced) -> u64 {
+        self.make(pass, announced.op())
+    }
+}
