@@ -1,0 +1,9 @@
+-- Which replies an operation can have at all.
+use Rattle.std.specs.Prelude.{◌≡◌, ℕ, List}
+use Rattle.seq_objects.specs.declared.kind.Kind.{Kind}
+use Rattle.seq_objects.specs.Objects.{kind_next}
+
+-- The sequential object of this kind gives this reply to the operation in some state of its.
+pub record IsPossible (kind : Kind) (op reply : ℕ) : Type 0 where
+  pub state : List ℕ
+  pub gives : (kind_next kind state op).1 ≡ reply

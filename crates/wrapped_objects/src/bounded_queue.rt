@@ -1,0 +1,55 @@
+ghost use Rattle.std.specs.Prelude.{◌<◌};
+
+use crate::counting_pass::CountingPass;
+use crate::queue_call::QueueCall;
+use book_base::{BAD, NoMemory, OpWord};
+use crossbeam_queue::ArrayQueue;
+use drv_wrapper::{Announced, BlackBox};
+use seq_objects::{DONE, NONE, value_reply};
+use std::alloc::Global;
+use std::sync::Wait;
+
+/// A queue over the kit's bounded queue, whose calls may wait for one another.
+#[derive(Drop)]
+pub(crate) struct BoundedQueue<R> {
+    rt: R,
+    items: ArrayQueue<u32>,
+}
+
+// The reply of the kit's queue to an operation. A full queue has none that a queue may give.
+pub(crate) fn reply_of<R: Wait>(rt: &R, items: &ArrayQueue<u32>, op: OpWord) -> u64 {
+    match QueueCall::from_word(op) {
+        Some(QueueCall::Enqueue(value)) => match items.push(rt, value) {
+            Ok(()) => DONE,
+            Err(_) => BAD,
+        },
+        Some(QueueCall::Dequeue) => match items.pop(rt) {
+            Some(value) => value_reply(u64::from(value)),
+            None => NONE,
+        },
+        None => BAD,
+    }
+}
+
+impl<R: Wait + Copy> BoundedQueue<R> {
+    /// A queue with room for so many values.
+    pub(crate) fn new(rt: R, alloc: Global, room: usize) -> Result<BoundedQueue<R>, NoMemory>
+        requires { 0 < room }
+    {
+        let items = ArrayQueue::new(alloc, room)?;
+        Ok(BoundedQueue { rt, items })
+    }
+}
+
+impl<R: Wait> BlackBox for BoundedQueue<R> {
+    ghost use Rattle.wrapped_objects.specs.Silence.{tells_none};
+
+    type Pass = CountingPass;
+
+    ghost tells_each = { tells_none };
+
+    fn call(&self, pass: &mut CountingPass, announced: &Announced) -> u64 {
+        pass.count();
+        reply_of(&self.rt, &self.items, announced.op())
+    }
+}

@@ -1,0 +1,39 @@
+ghost use Rattle.seq_objects.specs.declared.kind.Kind.TheVariants.{Counter};
+ghost use Rattle.wrapped_objects.specs.Replies.{IsPossible};
+
+use crate::counting_pass::CountingPass;
+use book_base::{BAD, OpWord, SeqObject};
+use crossbeam_utils::atomic::AtomicCell;
+use drv_wrapper::{Announced, BlackBox};
+use seq_objects::{Kind, value_reply};
+
+/// A counter over a cell of the kit, which stands at 0 at first: an increment is one addition.
+#[derive(Default, Drop)]
+pub struct CellCounter {
+    count: AtomicCell<u32>,
+}
+
+impl CellCounter {
+    /// Makes the call of this operation word. A word that no counter knows makes no step, and the reply is bad.
+    pub fn answer(&self, op: OpWord) -> u64
+        ensures { IsPossible Counter op result }
+    {
+        if !Kind::Counter.known(op) {
+            return BAD;
+        }
+        value_reply(u64::from(self.count.fetch_add(1)))
+    }
+}
+
+impl BlackBox for CellCounter {
+    ghost use Rattle.wrapped_objects.specs.Silence.{tells_none};
+
+    type Pass = CountingPass;
+
+    ghost tells_each = { tells_none };
+
+    fn call(&self, pass: &mut CountingPass, announced: &Announced) -> u64 {
+        pass.count();
+        self.answer(announced.op())
+    }
+}

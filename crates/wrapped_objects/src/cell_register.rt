@@ -1,0 +1,45 @@
+ghost use Rattle.seq_objects.specs.declared.kind.Kind.TheVariants.{Register};
+ghost use Rattle.wrapped_objects.specs.Replies.{IsPossible};
+
+use crate::counting_pass::CountingPass;
+use crate::register_call::RegisterCall;
+use book_base::{BAD, OpWord};
+use crossbeam_utils::atomic::AtomicCell;
+use drv_wrapper::{Announced, BlackBox};
+use seq_objects::{DONE, value_reply};
+
+/// A register over a cell of the kit, which holds 0 at first: a write is one store, and a read one load.
+#[derive(Default, Drop)]
+pub struct CellRegister {
+    value: AtomicCell<u32>,
+}
+
+impl CellRegister {
+    /// Makes the call of this operation word. A word that no register knows makes no step, and the reply is
+    /// bad.
+    pub fn answer(&self, op: OpWord) -> u64
+        ensures { IsPossible Register op result }
+    {
+        match RegisterCall::from_word(op) {
+            Some(RegisterCall::Write(value)) => {
+                self.value.store(value);
+                DONE
+            }
+            Some(RegisterCall::Read) => value_reply(u64::from(self.value.load())),
+            None => BAD,
+        }
+    }
+}
+
+impl BlackBox for CellRegister {
+    ghost use Rattle.wrapped_objects.specs.Silence.{tells_none};
+
+    type Pass = CountingPass;
+
+    ghost tells_each = { tells_none };
+
+    fn call(&self, pass: &mut CountingPass, announced: &Announced) -> u64 {
+        pass.count();
+        self.answer(announced.op())
+    }
+}

@@ -1,0 +1,24 @@
+//! Objects that nobody here wrote, behind the trait of an object under test: a cell of the kit as a register and
+//! as a counter, and a counter that uses it wrongly.
+#![tactic(auto)]
+
+mod cell_counter;
+mod cell_register;
+mod counting_pass;
+mod queue_call;
+mod register_call;
+mod torn_counter;
+
+pub use cell_counter::CellCounter;
+pub use cell_register::CellRegister;
+pub use counting_pass::CountingPass;
+pub use queue_call::QueueCall;
+pub use register_call::RegisterCall;
+pub use torn_counter::TornCounter;
+
+#[cfg(test)]
+mod bounded_queue;
+#[cfg(test)]
+mod tests;
+#[cfg(test)]
+mod twin_queues;

@@ -1,0 +1,33 @@
+ghost use Rattle.std.specs.Prelude.{◌≡◌, false, IfSome, IfNone};
+ghost use Rattle.seq_objects.specs.declared.kind.Kind.TheVariants.{Queue};
+ghost use Rattle.seq_objects.specs.Words.{is_known_word};
+ghost use Rattle.wrapped_objects.specs.Calls.{queue_word};
+
+use book_base::{OpWord, SeqObject};
+use seq_objects::Kind;
+
+/// What a caller asks of a queue.
+#[derive(Clone, Copy, Debug, PartialEq, Eq)]
+pub enum QueueCall {
+    Enqueue(u32),
+    Dequeue,
+}
+
+/// The operation word of the dequeue. That of the enqueue of a value is less by 2^32, and more by the value.
+const DEQUEUE: OpWord = 2 << 32;
+
+impl QueueCall {
+    /// The call whose operation word this is, where a queue knows the word.
+    pub fn from_word(word: OpWord) -> Option<QueueCall>
+        ensures found { IfSome result (λ call. queue_word call ≡ word) }
+        ensures none { IfNone result (is_known_word Queue word ≡ false) }
+    {
+        if !Kind::Queue.known(word) {
+            None
+        } else if word == DEQUEUE {
+            Some(QueueCall::Dequeue)
+        } else {
+            Some(QueueCall::Enqueue((word % (1 << 32)) as u32))
+        }
+    }
+}

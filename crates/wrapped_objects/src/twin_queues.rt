@@ -1,0 +1,47 @@
+ghost use Rattle.std.specs.Prelude.{◌<◌};
+
+use crate::bounded_queue::reply_of;
+use crate::counting_pass::CountingPass;
+use book_base::NoMemory;
+use crossbeam_queue::ArrayQueue;
+use drv_wrapper::{Announced, BlackBox};
+use std::alloc::Global;
+use std::sync::Wait;
+
+/// Two of the kit's queues in place of one, and each caller keeps to one of them. So what a caller enqueues is
+/// never found by the half of the callers that keep to the other.
+#[derive(Drop)]
+pub(crate) struct TwinQueues<R> {
+    rt: R,
+    even: ArrayQueue<u32>,
+    odd: ArrayQueue<u32>,
+}
+
+impl<R: Wait + Copy> TwinQueues<R> {
+    /// Two queues with room for so many values each.
+    pub(crate) fn new(rt: R, alloc: Global, room: usize) -> Result<TwinQueues<R>, NoMemory>
+        requires { 0 < room }
+    {
+        let even = ArrayQueue::new(alloc, room)?;
+        let odd = ArrayQueue::new(alloc, room)?;
+        Ok(TwinQueues { rt, even, odd })
+    }
+}
+
+impl<R: Wait> BlackBox for TwinQueues<R> {
+    ghost use Rattle.wrapped_objects.specs.Silence.{tells_none};
+
+    type Pass = CountingPass;
+
+    ghost tells_each = { tells_none };
+
+    fn call(&self, pass: &mut CountingPass, announced: &Announced) -> u64 {
+        pass.count();
+        let items = if announced.caller() % 2 == 0 {
+            &self.even
+        } else {
+            &self.odd
+        };
+        reply_of(&self.rt, items, announced.op())
+    }
+}
