@@ -1,0 +1,17 @@
+ghost use Rattle.std.specs.Prelude.{◌≡◌, ◌<◌, length, Some, slice_get};
+ghost use Rattle.call_intervals.specs.Intervals.{StandsFrom};
+
+use sketch::Event;
+
+/// The place where an event stands, from this place on.
+pub(crate) fn place_from(events: &[Event], from: usize, event: Event) -> usize
+    requires { StandsFrom events.now from event }
+    ensures stands { slice_get events.now result ≡ Some event }
+    ensures within { result < length events.now }
+{
+    let mut place = from;
+    while events[place] != event {
+        place += 1;
+    }
+    place
+}
