@@ -1,0 +1,6 @@
+use Rattle.std.proofs.Common.{◌≡◌, ℕ, List, ◌++◌, take, string_bytes}
+use Rattle.book_picture.specs.Elements.{AreElementsOf}
+use Rattle.book_picture.proofs.draw.put_lane.Given as goal
+
+abbrev pub invariant-loop-interval : goal.invariant-loop-interval
+invariant-loop-interval l = (text : List ℕ) × AreElementsOf (take l.interval-index l.lane) text × (string_bytes l.out ≡ string_bytes l.initial.out ++ text)

@@ -1,0 +1,58 @@
+//! The program: it reads a book, and writes its picture.
+#![tactic(auto)]
+
+use book_base::{NoMemory, ReadFault, TextFault, What};
+use book_picture::draw_book;
+use book_text::read_book;
+use byte_streams::{
+    INPUT_LIMIT, ReadAllError, Sink, Source, Status, StdSink, StdSource, read_all, write_text,
+};
+use frontier_check::check;
+use std::alloc::Global;
+use std::process::ExitCode;
+use text_refusals::refusal;
+
+// The picture of the book that the bytes are the text of.
+fn picture(alloc: Global, bytes: &[u8]) -> Result<String, ReadFault> {
+    if bytes.len() > INPUT_LIMIT {
+        return Err(ReadFault::Text(TextFault {
+            line: 0,
+            what: What::Long,
+        }));
+    }
+    let (kind, book) = read_book(alloc, bytes)?;
+    let verdict = check(alloc, &kind, &book)?;
+    Ok(draw_book(alloc, kind, &book, &verdict)?)
+}
+
+// Reads the source, and writes the picture of its book, or why it is no book's text.
+fn answer<S: Source, K: Sink>(alloc: Global, source: &mut S, sink: &mut K) -> Status {
+    let bytes = match read_all(alloc, source) {
+        Ok(bytes) => bytes,
+        Err(ReadAllError::Fault) => return Status::ReadFault,
+        Err(ReadAllError::NoMemory) => return Status::NoMemory,
+    };
+    match picture(alloc, &bytes) {
+        Ok(text) => write_text(sink, Status::Fine, text.as_bytes()),
+        Err(ReadFault::Text(fault)) => refuse(alloc, fault, sink),
+        Err(ReadFault::NoMemory) => Status::NoMemory,
+    }
+}
+
+// Writes why the input is no book's text.
+fn refuse<K: Sink>(alloc: Global, fault: TextFault, sink: &mut K) -> Status {
+    match refusal(alloc, fault) {
+        Ok(text) => write_text(sink, Status::Refused, &text),
+        Err(NoMemory) => Status::NoMemory,
+    }
+}
+
+fn run<R: Input + Print + AllocGlobal>(rt: &R) -> u8 {
+    let mut source = StdSource::new(rt);
+    let mut sink = StdSink::new(rt);
+    answer(rt.alloc(), &mut source, &mut sink).code()
+}
+
+fn main(rt: HostRuntime) -> ExitCode {
+    ExitCode::from(run(&rt))
+}
