@@ -2,7 +2,7 @@
 #![tactic(auto)]
 
 mod fault_name;
-mod refusal;
+mod refused;
 
 pub use fault_name::name_of;
-pub use refusal::refusal;
+pub use refused::refusal;
