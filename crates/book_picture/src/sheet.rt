@@ -89,8 +89,8 @@ impl Sheet<'_> {
             out,
             "<text class=\"note\" x=\"{MARGIN}\" y=\"44\">{kind}: a bar begins where its call is first \
              seen invoked, and ends with its return.</text>\n\
-             <text class=\"note\" x=\"{MARGIN}\" y=\"62\">A bar that ends left of another returned before \
-             the other was invoked.</text>\n"
+             <text class=\"note\" x=\"{MARGIN}\" y=\"62\">Where a bar with a reply ends left of another, \
+             its call returned before the other was invoked.</text>\n"
         )?;
         Ok(())
     }
