@@ -1,9 +1,16 @@
 use crate::alone::agrees;
 use crate::cuts::try_cuts;
+use crate::trial::{Attempt, Trial};
 use anyhow::{Result, anyhow};
 use selfcheck::{MemorySink, MemorySource, Sink, Source, SteadySource, read_all};
 use std::alloc::Global;
 use std::thread::Threads;
+
+/// The status of a failed read.
+const READ_FAULT: u8 = 4;
+
+/// The status of a failed write.
+const WRITE_FAULT: u8 = 5;
 
 /// What the top call is given, and what it is to answer.
 #[derive(Drop)]
@@ -11,7 +18,7 @@ pub struct Case {
     pub name: String,
     pub words: Vec<String>,
     pub input: Vec<u8>,
-    pub fronts: bool,
+    pub trial: Trial,
     pub source_fails: Vec<u64>,
     pub source_most: usize,
     pub is_steady: bool,
@@ -30,6 +37,25 @@ pub struct Outcome {
     pub report: String,
 }
 
+impl Outcome {
+    // The outcome of a trial all of whose attempts passed.
+    fn good(alloc: Global) -> Result<Outcome> {
+        Ok(Outcome {
+            passed: true,
+            report: String::new(alloc),
+        })
+    }
+
+    // The outcome of a trial, with the number of the call that failed in the attempt that didn't pass.
+    fn at(self, alloc: Global, call: &str, number: u64) -> Result<Outcome> {
+        let report = format!(in alloc; "{}, where {call} {number} fails", self.report)?;
+        Ok(Outcome {
+            passed: self.passed,
+            report,
+        })
+    }
+}
+
 impl Case {
     /// A case with no words and no input, over a source and a sink that never fail.
     pub fn new(alloc: Global, name: &str) -> Result<Case> {
@@ -37,7 +63,7 @@ impl Case {
             name: String::from_str(alloc, name)?,
             words: Vec::new(alloc),
             input: Vec::new(alloc),
-            fronts: false,
+            trial: Trial::Once,
             source_fails: Vec::new(alloc),
             source_most: usize::MAX,
             is_steady: false,
@@ -54,7 +80,7 @@ impl Case {
     /// where it is to be called legal, at each of its smaller cuts too.
     pub fn run_with_cuts<R: AllocGlobal + Threads + Sync>(&self, rt: &R) -> Result<Outcome> {
         let outcome = self.run(rt)?;
-        if !outcome.passed || self.fronts {
+        if !outcome.passed || self.trial != Trial::Once {
             return Ok(outcome);
         }
         let Some(is_legal) = self.wanted_verdict() else {
@@ -100,48 +126,128 @@ impl Case {
         None
     }
 
-    /// Runs the top call on the case: on its input, or on each front of it that isn't whole.
+    /// Runs the top call on the case: as it stands, or in each of the ways of its trial.
     pub fn run<R: AllocGlobal + Threads + Sync>(&self, rt: &R) -> Result<Outcome> {
-        if !self.fronts {
-            return self.run_on(rt, &self.input, &self.wanted);
+        match self.trial {
+            Trial::Once => self.run_once(rt),
+            Trial::Fronts => self.run_fronts(rt),
+            Trial::Reads => self.run_failing_reads(rt),
+            Trial::Writes => self.run_failing_writes(rt),
         }
+    }
+
+    fn run_once<R: AllocGlobal + Threads + Sync>(&self, rt: &R) -> Result<Outcome> {
+        let attempt = Attempt {
+            input: &self.input,
+            source_fails: &self.source_fails,
+            source_most: self.source_most,
+            sink_fails: &self.sink_fails,
+            sink_most: self.sink_most,
+            wanted: &self.wanted,
+            status: self.status,
+        };
+        self.run_on(rt, &attempt)
+    }
+
+    // Each front of the input that isn't whole is refused as a text that is cut.
+    fn run_fronts<R: AllocGlobal + Threads + Sync>(&self, rt: &R) -> Result<Outcome> {
         for count in 0..self.input.len() {
             let front = &self.input[..count];
-            let outcome = self.run_on(rt, front, refusal_of_front(rt.alloc(), front)?.as_bytes())?;
+            let wanted = refusal_of_front(rt.alloc(), front)?;
+            let attempt = Attempt {
+                input: front,
+                source_fails: &self.source_fails,
+                source_most: self.source_most,
+                sink_fails: &self.sink_fails,
+                sink_most: self.sink_most,
+                wanted: wanted.as_bytes(),
+                status: self.status,
+            };
+            let outcome = self.run_on(rt, &attempt)?;
             if !outcome.passed {
                 return Ok(outcome);
             }
         }
-        Ok(Outcome {
-            passed: true,
-            report: String::new(rt.alloc()),
-        })
+        Outcome::good(rt.alloc())
+    }
+
+    // The source gives one byte a read, and the last read finds the end: each of these reads fails in turn, and then the read
+    // behind the last, which isn't made.
+    fn run_failing_reads<R: AllocGlobal + Threads + Sync>(&self, rt: &R) -> Result<Outcome> {
+        let last = (self.input.len() as u64).saturating_add(1);
+        for failing in 1..=last.saturating_add(1) {
+            let is_made = failing <= last;
+            let attempt = Attempt {
+                input: &self.input,
+                source_fails: &[failing],
+                source_most: 1,
+                sink_fails: &self.sink_fails,
+                sink_most: self.sink_most,
+                wanted: if is_made { b"" } else { &self.wanted },
+                status: if is_made { READ_FAULT } else { self.status },
+            };
+            let outcome = self.run_on(rt, &attempt)?;
+            if !outcome.passed {
+                return outcome.at(rt.alloc(), "read", failing);
+            }
+        }
+        Outcome::good(rt.alloc())
+    }
+
+    // The sink takes one byte a write: each write of the wanted output fails in turn, and then the write behind the last, which
+    // isn't made.
+    fn run_failing_writes<R: AllocGlobal + Threads + Sync>(&self, rt: &R) -> Result<Outcome> {
+        for taken in 0..=self.wanted.len() {
+            let failing = (taken as u64).saturating_add(1);
+            let attempt = Attempt {
+                input: &self.input,
+                source_fails: &self.source_fails,
+                source_most: self.source_most,
+                sink_fails: &[failing],
+                sink_most: 1,
+                wanted: &self.wanted[..taken],
+                status: if taken < self.wanted.len() {
+                    WRITE_FAULT
+                } else {
+                    self.status
+                },
+            };
+            let outcome = self.run_on(rt, &attempt)?;
+            if !outcome.passed {
+                return outcome.at(rt.alloc(), "write", failing);
+            }
+        }
+        Outcome::good(rt.alloc())
     }
 
     fn run_on<R: AllocGlobal + Threads + Sync>(
         &self,
         rt: &R,
-        input: &[u8],
-        wanted: &[u8],
+        attempt: &Attempt,
     ) -> Result<Outcome> {
         let alloc = rt.alloc();
-        let input = input.to_vec(alloc)?;
-        let fails = self.sink_fails.clone()?;
-        let mut sink = MemorySink::new(alloc, self.sink_room, fails, self.sink_most.max(1)).map_err(
-            |_| anyhow!("no memory for a sink"),
-        )?;
+        let input = attempt.input.to_vec(alloc)?;
+        let fails = attempt.sink_fails.to_vec(alloc)?;
+        let mut sink = MemorySink::new(
+            alloc,
+            self.sink_room,
+            fails,
+            attempt.sink_most.max(1),
+        ).map_err(|_| anyhow!("no memory for a sink"))?;
         let (status, left) = if self.is_steady {
             self.answer(rt, &mut SteadySource::new(input), &mut sink)?
         } else {
-            let fails = self.source_fails.clone()?;
-            let mut source = MemorySource::new(input, fails, self.source_most.max(1));
+            let fails = attempt.source_fails.to_vec(alloc)?;
+            let mut source = MemorySource::new(input, fails, attempt.source_most.max(1));
             self.answer(rt, &mut source, &mut sink)?
         };
-        let passed = status == self.status && left == self.left && sink.bytes() == wanted;
+        let passed = status == attempt.status
+            && left == self.left
+            && sink.bytes() == attempt.wanted;
         let text = String::from_utf8_lossy(alloc, sink.bytes())?;
         let report = format!(in alloc;
             "{}: status {status} for {}, {left:?} bytes left for {:?}, and wrote {text:?}",
-            self.name, self.status, self.left
+            self.name, attempt.status, self.left
         )?;
         Ok(Outcome { passed, report })
     }

@@ -10,8 +10,11 @@
 //! | `in-byte N` | one byte of the input, as a number |
 //! | `in-fill COUNT` | so many bytes `x` of the input |
 //! | `in-calls CALLER COUNT OP` | so many lines of the input: the caller, a number that counts from 0, and the operation |
+//! | `in-turns CALLER COUNT` | the line of a script's turns, with so many turns of the caller |
 //! | `in-answered CALLER COUNT OP REPLY` | so many such lines, each with the reply, and a view of the caller's calls up to this one |
 //! | `fronts` | each front of the input that isn't whole is tried in its place: it is refused as a text that is cut |
+//! | `each-read-fails` | the source gives one byte a read; each read fails in turn, up to the one that finds the end: status 4 and nothing written; and then none fails |
+//! | `each-write-fails` | the sink takes one byte a write; each write fails in turn, up to the last: status 5 and the bytes before it; and then none fails |
 //! | `source-fails K ..` | the reads that fail, counted from 1 |
 //! | `source-most N` | the most bytes that a read gives |
 //! | `source-steady` | the input comes from the source that never fails |
@@ -34,6 +37,7 @@ mod alone;
 mod case;
 mod cuts;
 mod table;
+mod trial;
 
 use anyhow::Result;
 use case::Case;

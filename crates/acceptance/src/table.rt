@@ -1,4 +1,5 @@
 use crate::case::Case;
+use crate::trial::Trial;
 use anyhow::{Context, Result, anyhow};
 use std::alloc::Global;
 use std::io::Write;
@@ -20,10 +21,10 @@ pub fn take_line(alloc: Global, case: &mut Case, line: &str) -> Result<()> {
         "in-fill" => take_fill(&mut case.input, value),
         "in-calls" => take_calls(&mut case.input, value),
         "in-answered" => take_answered(&mut case.input, value),
-        "fronts" => {
-            case.fronts = true;
-            Ok(())
-        }
+        "in-turns" => take_turns(&mut case.input, value),
+        "fronts" => set_trial(case, Trial::Fronts),
+        "each-read-fails" => set_trial(case, Trial::Reads),
+        "each-write-fails" => set_trial(case, Trial::Writes),
         "source-fails" => take_numbers(&mut case.source_fails, value),
         "source-most" => set_size(&mut case.source_most, value),
         "source-steady" => {
@@ -83,6 +84,21 @@ fn take_answered(bytes: &mut Vec<u8>, value: &str) -> Result<()> {
         let own = number.saturating_add(1);
         writeln!(bytes, "{caller} {number} {answer} view {caller}:{own}")?;
     }
+    Ok(())
+}
+
+fn take_turns(bytes: &mut Vec<u8>, value: &str) -> Result<()> {
+    let (caller, count) = value.split_once(' ').context("a caller")?;
+    bytes.extend_from_slice(b"turns")?;
+    for _ in 0..count.parse::<u64>().context("a count")? {
+        write!(bytes, " {caller}")?;
+    }
+    bytes.push(b'\n')?;
+    Ok(())
+}
+
+fn set_trial(case: &mut Case, trial: Trial) -> Result<()> {
+    case.trial = trial;
     Ok(())
 }
 
