@@ -1,5 +1,9 @@
-//! Whole calls that check themselves, over the lawful log object: tests across the crates.
+//! Two calls that check themselves, over the lawful log object: a worked example across the crates.
 #![tactic(auto)]
+
+mod two_calls;
+
+pub use two_calls::{Calls, End, Found, Turns, queue_calls};
 
 #[cfg(test)]
 mod tests;

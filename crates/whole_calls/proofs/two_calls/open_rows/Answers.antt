@@ -1,6 +1,6 @@
 use Rattle.std.proofs.Common.{◌∙◌, arith}
 use Rattle.world_core.specs.Local.{fresh}
-use Rattle.whole_calls.proofs.tests.open_rows.Goals as goal
+use Rattle.whole_calls.proofs.two_calls.open_rows.Goals as goal
 
 pub part-b-requires-clause-held : goal.part-b-requires-clause-held
 part-b-requires-clause-held c =

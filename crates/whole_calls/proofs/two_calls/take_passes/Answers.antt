@@ -1,5 +1,5 @@
 use Rattle.whole_calls.proofs.Passes.{both_taken}
-use Rattle.whole_calls.proofs.tests.take_passes.Goals as goal
+use Rattle.whole_calls.proofs.two_calls.take_passes.Goals as goal
 
 pub returns-clause-a : goal.returns-clause-a
 returns-clause-a g c =

@@ -3,7 +3,7 @@ use Rattle.std.specs.Result.{is_ok}
 use Rattle.lawful_objects.specs.declared.log_pass.LogPass.{LogPass}
 use Rattle.lawful_objects.specs.Passes.{ArePassesOf}
 use Rattle.whole_calls.proofs.Passes.{both_back}
-use Rattle.whole_calls.proofs.tests.close_box.Goals as goal
+use Rattle.whole_calls.proofs.two_calls.close_box.Goals as goal
 
 pub close-requires : goal.close-requires
 close-requires g c =

@@ -1,7 +1,7 @@
 use Rattle.std.proofs.Common.{◌≡◌, ℕ, ◌<◌, ◌∙◌, sym, subst, inl, inr, Some, arith}
 use Rattle.std.proofs.lemmas.Bool.{cases_eq}
 use Rattle.row_table.specs.Callers.{on_bench, local_with, who_of}
-use Rattle.whole_calls.proofs.tests.close_rows.Goals as goal
+use Rattle.whole_calls.proofs.two_calls.close_rows.Goals as goal
 
 pub close-requires-clause-all : goal.close-requires-clause-all
 close-requires-clause-all c i low =

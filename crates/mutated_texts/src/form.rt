@@ -1,0 +1,98 @@
+use crate::older::{old_book, old_script, set_book};
+use anyhow::{Result, anyhow};
+use book_base::{ReadFault, What};
+use book_text::read_book;
+use book_writer::write_book;
+use certificate_text::{read_certificate, write_certificate};
+use client_scripts::{read_script, write_script};
+use report_text::read_report;
+use report_writer::report_text;
+use std::alloc::Global;
+
+/// A form of texts.
+#[derive(Clone, Copy, Debug, PartialEq, Eq)]
+pub enum Form {
+    Book,
+    OldBook,
+    Script,
+    OldScript,
+    Report,
+    Certificate,
+    SetBook,
+}
+
+/// What a reader says of bytes.
+#[derive(Drop)]
+pub enum Answer {
+    /// They are a text, and this is written of what was read.
+    Written(Vec<u8>),
+    /// They are none.
+    Refused(What),
+}
+
+impl Form {
+    /// All forms.
+    pub const ALL: [Form; 7] = [
+        Form::Book,
+        Form::OldBook,
+        Form::Script,
+        Form::OldScript,
+        Form::Report,
+        Form::Certificate,
+        Form::SetBook,
+    ];
+
+    /// The name of the form.
+    pub fn name(self) -> &'static str {
+        match self {
+            Form::Book => "book",
+            Form::OldBook => "book of version 1",
+            Form::Script => "script",
+            Form::OldScript => "script of version 1",
+            Form::Report => "report",
+            Form::Certificate => "certificate",
+            Form::SetBook => "set book",
+        }
+    }
+
+    /// Reads bytes as a text of the form, and writes what was read.
+    pub fn answer(self, alloc: Global, bytes: &[u8]) -> Result<Answer> {
+        match self.rewrite(alloc, bytes) {
+            Ok(text) => Ok(Answer::Written(text)),
+            Err(ReadFault::Text(fault)) => Ok(Answer::Refused(fault.what)),
+            Err(ReadFault::NoMemory) => Err(anyhow!("no memory for a text")),
+        }
+    }
+
+    fn rewrite(self, alloc: Global, bytes: &[u8]) -> Result<Vec<u8>, ReadFault> {
+        match self {
+            Form::Book => book(alloc, bytes),
+            Form::OldBook => old_book(alloc, bytes),
+            Form::Script => script(alloc, bytes),
+            Form::OldScript => old_script(alloc, bytes),
+            Form::Report => report(alloc, bytes),
+            Form::Certificate => certificate(alloc, bytes),
+            Form::SetBook => set_book(alloc, bytes),
+        }
+    }
+}
+
+fn book(alloc: Global, bytes: &[u8]) -> Result<Vec<u8>, ReadFault> {
+    let (kind, book) = read_book(alloc, bytes)?;
+    Ok(write_book(alloc, kind, &book)?)
+}
+
+fn script(alloc: Global, bytes: &[u8]) -> Result<Vec<u8>, ReadFault> {
+    let script = read_script(alloc, bytes)?;
+    Ok(write_script(alloc, &script)?)
+}
+
+fn report(alloc: Global, bytes: &[u8]) -> Result<Vec<u8>, ReadFault> {
+    let report = read_report(alloc, bytes)?;
+    Ok(report_text(alloc, &report)?)
+}
+
+fn certificate(alloc: Global, bytes: &[u8]) -> Result<Vec<u8>, ReadFault> {
+    let read = read_certificate(alloc, bytes)?;
+    Ok(write_certificate(alloc, read.kind, &read.book, &read.order)?)
+}

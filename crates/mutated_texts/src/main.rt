@@ -1,0 +1,106 @@
+//! Texts of every form with random changes, through every reader: a reader refuses a text by the name of its first fault, or what
+//! is written of what it read is that text, byte by byte.
+//!
+//! The words are the seed of the generator and the number of texts; with a third word, `figures`, a table says how each reader
+//! answered. A text that isn't written back as it was is printed, and the status is then 1.
+#![tactic(auto)]
+
+mod form;
+mod mutate;
+mod older;
+mod pieces;
+mod samples;
+mod tally;
+mod words;
+
+use anyhow::{Context, Result};
+use form::Form;
+use mutate::{mutate, pick};
+use rand_core::SeedableRng;
+use rand_xoshiro::Xoshiro256PlusPlus;
+use samples::SAMPLES;
+use std::alloc::Global;
+use std::env;
+use std::process::ExitCode;
+use std::rt::Env;
+use tally::Tally;
+
+/// What the words say.
+#[derive(Drop)]
+struct Wish {
+    seed: u64,
+    texts: u64,
+    figures: bool,
+}
+
+fn read_words<R: Env + AllocGlobal>(rt: &R) -> Result<Wish> {
+    let words: Vec<String> = env::args(rt)?.skip(1).collect(rt.alloc())?;
+    let seed = words.first().context("a seed")?;
+    let texts = words.get(1).context("a number of texts")?;
+    Ok(Wish {
+        seed: seed.parse::<u64>().context("a seed")?,
+        texts: texts.parse::<u64>().context("a number of texts")?,
+        figures: words.get(2).is_some_and(|word| word.as_str() == "figures"),
+    })
+}
+
+fn no_texts(alloc: Global) -> Result<Vec<Tally>> {
+    let mut tallies = Vec::new(alloc);
+    for form in Form::ALL {
+        tallies.push(Tally::new(alloc, form))?;
+    }
+    Ok(tallies)
+}
+
+// Lets each reader read a text, and prints it where one doesn't write it back.
+fn try_text<R: Print + AllocGlobal>(rt: &R, tallies: &mut Vec<Tally>, text: &[u8]) -> Result<bool> {
+    let mut all = true;
+    for tally in tallies.iter_mut() {
+        if !tally.take(rt.alloc(), text)? {
+            let shown = String::from_utf8_lossy(rt.alloc(), text)?;
+            println!(rt;
+                "another text is written of this {}: {shown:?}",
+                tally.form.name()
+            )?;
+            all = false;
+        }
+    }
+    Ok(all)
+}
+
+fn print_figures<R: Print + AllocGlobal>(rt: &R, tallies: &[Tally]) -> Result<()> {
+    for tally in tallies {
+        print!(rt; "{}: {} accepted", tally.form.name(), tally.kept)?;
+        for (what, count) in &tally.refused {
+            print!(rt; ", {what:?} {count}")?;
+        }
+        println!(rt)?;
+    }
+    Ok(())
+}
+
+fn run<R: Env + Print + AllocGlobal>(rt: &R) -> Result<bool> {
+    let alloc = rt.alloc();
+    let wish = read_words(rt)?;
+    let mut rng = Xoshiro256PlusPlus::seed_from_u64(wish.seed);
+    let mut tallies = no_texts(alloc)?;
+    let mut all = true;
+    for _ in 0..wish.texts {
+        let sample = SAMPLES[pick(&mut rng, SAMPLES.len())];
+        let text = mutate(alloc, &mut rng, sample)?;
+        all &= try_text(rt, &mut tallies, &text)?;
+    }
+    if wish.figures {
+        print_figures(rt, &tallies)?;
+    }
+    Ok(all)
+}
+
+fn main(rt: HostRuntime) -> Result<ExitCode> {
+    if run(&rt)? {
+        println!(rt; "each reader refused each text by a name, or wrote it back")?;
+        Ok(ExitCode::SUCCESS)
+    } else {
+        Ok(ExitCode::FAILURE)
+    }
+}

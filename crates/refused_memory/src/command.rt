@@ -1,0 +1,211 @@
+use crate::came::Came;
+use crate::great_book::great_book;
+use anyhow::{Result, anyhow};
+use report_text::read_report;
+use reports::Counts;
+use selfcheck::{MemorySink, Status, SteadySource};
+use std::alloc::Global;
+use std::thread::Threads;
+
+/// The room of a sink, which each output fits in.
+const ROOM: usize = 1 << 16;
+
+/// A queue's two calls: 5 is enqueued, and then dequeued.
+const BOOK: &[u8] = b"book 2\n\
+      object queue\n\
+      callers 2\n\
+      calls 1 1\n\
+      0 0 enq 5 done view 0:1\n\
+      1 0 deq =5 view 0:1 1:1\n\
+      end\n";
+
+/// The same in version 1.
+const OLD_BOOK: &[u8] = b"book 1\n\
+      object queue\n\
+      callers 2\n\
+      calls 1 1\n\
+      0 0 enq 5 done view 1 0\n\
+      1 0 deq =5 view 1 1\n\
+      end\n";
+
+const SKETCH: &[u8] = b"sketch 2\n\
+      call 0 0 enq 5\n\
+      return 0 0 done\n\
+      call 1 0 deq\n\
+      return 1 0 =5\n\
+      end\n";
+
+const CERTIFICATE: &[u8] = b"book 2\n\
+      object queue\n\
+      callers 2\n\
+      calls 1 1\n\
+      0 0 enq 5 done view 0:1\n\
+      1 0 deq =5 view 0:1 1:1\n\
+      end\n\
+      order 2\n\
+      0 0 done\n\
+      1 0 =5\n\
+      end\n";
+
+const SET_BOOK: &[u8] = b"setbook 2\n\
+      object joins\n\
+      callers 2\n\
+      calls 1 1\n\
+      0 0 join 0 =3 view 0:1 1:1\n\
+      1 0 join 1 =3 view 0:1 1:1\n\
+      end\n";
+
+/// Two callers of a queue: one enqueues 5, and the other dequeues.
+pub const SCRIPT: &[u8] = b"script 2\n\
+      object queue\n\
+      callers 2\n\
+      calls 1 1\n\
+      0 0 enq 5\n\
+      1 0 deq\n\
+      turns 0 0 0 0 0 1 1 1 1 1\n\
+      end\n";
+
+/// One caller of a queue that loses each second item.
+const LOST: &[u8] = b"script 2\n\
+      object queue\n\
+      callers 1\n\
+      calls 5\n\
+      0 0 enq 1\n\
+      0 1 enq 2\n\
+      0 2 deq\n\
+      0 3 deq\n\
+      0 4 deq\n\
+      turns\n\
+      end\n";
+
+/// Its report, and the witness.
+const LOST_FOUND: &[u8] = b"report 2\n\
+      object queue\n\
+      callers 1\n\
+      calls 4\n\
+      0 0 enq 1 done view 0:1 ok seen 0:1\n\
+      0 1 enq 2 done view 0:2 ok seen 0:2\n\
+      0 2 deq =1 view 0:3 ok seen 0:3\n\
+      0 3 deq none view 0:4 error seen 0:4\n\
+      end\n\
+      book 2\n\
+      object queue\n\
+      callers 1\n\
+      calls 4\n\
+      0 0 enq 1 done view 0:1\n\
+      0 1 enq 2 done view 0:2\n\
+      0 2 deq =1 view 0:3\n\
+      0 3 deq none view 0:4\n\
+      end\n";
+
+/// What a command is to write, with ample memory.
+#[derive(Clone, Copy)]
+enum Wanted {
+    Text(Status, &'static [u8]),
+    /// The report of a run in threads: each of two calls is delivered.
+    TwoDelivered,
+}
+
+/// A command, with its input and what it wrote.
+#[derive(Drop)]
+pub struct Command {
+    words: Vec<String>,
+    source: SteadySource,
+    sink: MemorySink,
+    status: Option<Status>,
+    wanted: Wanted,
+}
+
+impl Command {
+    fn new(alloc: Global, words: &[&str], input: Vec<u8>, wanted: Wanted) -> Result<Command> {
+        let mut texts = Vec::new(alloc);
+        for word in words {
+            texts.push(String::from_str(alloc, word)?)?;
+        }
+        let sink = MemorySink::new(alloc, ROOM, Vec::new(alloc), ROOM).map_err(|_| anyhow!(
+            "no memory for a sink"
+        ))?;
+        Ok(Command {
+            words: texts,
+            source: SteadySource::new(input),
+            sink,
+            status: None,
+            wanted,
+        })
+    }
+
+    /// The worked command of this name.
+    pub fn of_name(alloc: Global, name: &str) -> Result<Option<Command>> {
+        let (words, input, wanted): (&[&str], &[u8], Wanted) = match name {
+            "run" => (&["run", "lawful"], SCRIPT, Wanted::TwoDelivered),
+            "run-lossy" => (
+                &["run", "lossy"],
+                LOST,
+                Wanted::Text(Status::Found, LOST_FOUND),
+            ),
+            "sketch" => (&["sketch"], BOOK, Wanted::Text(Status::Fine, SKETCH)),
+            "order" => (
+                &["order"],
+                CERTIFICATE,
+                Wanted::Text(Status::Fine, b"legal\n"),
+            ),
+            "upgrade" => (&["upgrade"], OLD_BOOK, Wanted::Text(Status::Fine, BOOK)),
+            "sets" => (&["sets"], SET_BOOK, Wanted::Text(Status::Fine, b"legal\n")),
+            "verify" => {
+                let wanted = Wanted::Text(Status::Fine, b"legal\n");
+                return Ok(Some(Command::new(alloc, &["verify"], great_book(alloc)?, wanted)?));
+            }
+            _ => return Ok(None),
+        };
+        Ok(Some(Command::new(alloc, words, input.to_vec(alloc)?, wanted)?))
+    }
+
+    /// Calls the top call.
+    pub fn act<R: AllocGlobal + Threads + Sync>(&mut self, rt: &R) {
+        let status = selfcheck::selfcheck(
+            rt,
+            rt.alloc(),
+            &self.words,
+            &mut self.source,
+            &mut self.sink,
+        );
+        self.status = Some(status);
+    }
+
+    /// What came of it.
+    pub fn came(&self, alloc: Global) -> Came {
+        let Some(status) = self.status else {
+            return Came::Nothing;
+        };
+        if status == Status::NoMemory {
+            if self.sink.bytes().is_empty() {
+                return Came::NoMemory;
+            }
+            return Came::Wrong;
+        }
+        let is_right = match self.wanted {
+            Wanted::Text(wanted, text) => status == wanted && self.sink.bytes() == text,
+            Wanted::TwoDelivered => {
+                status == Status::Fine && tells_two_delivered(alloc, self.sink.bytes())
+            }
+        };
+        if is_right {
+            Came::Ordinary
+        } else {
+            Came::Wrong
+        }
+    }
+}
+
+// Whether a text is a report of two calls that were both delivered.
+fn tells_two_delivered(alloc: Global, text: &[u8]) -> bool {
+    match read_report(alloc, text) {
+        Ok(report) => is_two_delivered(report.counts()),
+        Err(_) => false,
+    }
+}
+
+/// Whether a report has these counts where each of two calls is delivered.
+pub fn is_two_delivered(counts: Counts) -> bool {
+    counts.calls == 2 && counts.delivered == 2 && counts.errors == 0
+}
