@@ -77,7 +77,7 @@ fn change_byte<R: Rng>(rng: &mut R, bytes: &mut Vec<u8>) -> Result<(), AllocErro
     Ok(())
 }
 
-// A line or a word goes, is doubled, or two of them change places.
+// A line or a word goes, is doubled or cut, or two of them change places.
 fn change_pieces<R: Rng>(
     alloc: Global,
     rng: &mut R,
@@ -89,7 +89,7 @@ fn change_pieces<R: Rng>(
         return bytes.to_vec(alloc);
     }
     let (a, b) = (pick(rng, pieces.len()), pick(rng, pieces.len()));
-    match pick(rng, 3) {
+    match pick(rng, 4) {
         0 => {
             pieces.remove(a);
         }
@@ -97,9 +97,29 @@ fn change_pieces<R: Rng>(
             let piece = pieces[a].clone()?;
             pieces.insert(b, piece)?;
         }
+        2 => cut_short(rng, &mut pieces[a])?,
         _ => pieces.swap(a, b),
     }
     join(alloc, &pieces)
+}
+
+// A piece loses what stands between a random byte of it and its separator: a space, where there is one behind that byte.
+fn cut_short<R: Rng>(rng: &mut R, piece: &mut Vec<u8>) -> Result<(), AllocError> {
+    if piece.is_empty() {
+        return Ok(());
+    }
+    let first = pick(rng, piece.len());
+    let separator = piece.last().copied();
+    let spaces = piece.iter().enumerate().filter(|(_, byte)| **byte == b' ');
+    let end = spaces
+        .map(|(place, _)| place)
+        .find(|place| *place >= first)
+        .unwrap_or(first);
+    piece.truncate(end);
+    if let Some(separator) = separator {
+        piece.push(separator)?;
+    }
+    Ok(())
 }
 
 // A word is another, or a number at a limit.

@@ -1,5 +1,5 @@
 use crate::came::Came;
-use crate::great_book::great_book;
+use crate::great_book::{book_of_rounds, great_book};
 use anyhow::{Result, anyhow};
 use report_text::read_report;
 use reports::Counts;
@@ -151,13 +151,17 @@ impl Command {
             ),
             "upgrade" => (&["upgrade"], OLD_BOOK, Wanted::Text(Status::Fine, BOOK)),
             "sets" => (&["sets"], SET_BOOK, Wanted::Text(Status::Fine, b"legal\n")),
-            "verify" => {
-                let wanted = Wanted::Text(Status::Fine, b"legal\n");
-                return Ok(Some(Command::new(alloc, &["verify"], great_book(alloc)?, wanted)?));
-            }
+            "verify" => return Command::verify(alloc, great_book(alloc)?),
+            "verify-rounds" => return Command::verify(alloc, book_of_rounds(alloc)?),
             _ => return Ok(None),
         };
         Ok(Some(Command::new(alloc, words, input.to_vec(alloc)?, wanted)?))
+    }
+
+    // `verify` on a book that has a legal order.
+    fn verify(alloc: Global, book: Vec<u8>) -> Result<Option<Command>> {
+        let wanted = Wanted::Text(Status::Fine, b"legal\n");
+        Ok(Some(Command::new(alloc, &["verify"], book, wanted)?))
     }
 
     /// Calls the top call.

@@ -1,32 +1,63 @@
+ghost use Rattle.std.specs.Prelude.{◌<◌};
+
 use anyhow::Result;
 use std::alloc::Global;
 use std::io::Write;
 
-/// The callers of the great book, as many as a book may have.
+/// The callers of both books, as many as a book may have.
 const CALLERS: u32 = 16;
 
-/// The calls of each.
-const CALLS: u64 = 64;
+/// The calls of each caller in the greatest book, as many as a book may have.
+const MOST_CALLS: u64 = 256;
 
-/// A book of a queue, in rounds: in each round all callers call beside one another, and each view counts all calls up to its round.
-/// In every other round each caller dequeues what it enqueued in the round before.
+/// The calls of each caller in the book of rounds.
+const ROUNDS: u64 = 8;
+
+/// The greatest book: all callers of a queue put what they have, and only the last gets replies.
 pub fn great_book(alloc: Global) -> Result<Vec<u8>> {
     let mut text = Vec::new(alloc);
-    write!(text, "book 2\nobject queue\ncallers {CALLERS}\ncalls")?;
-    for _ in 0..CALLERS {
-        write!(text, " {CALLS}")?;
-    }
-    writeln!(text)?;
+    write_head(&mut text, MOST_CALLS)?;
+    let last = CALLERS - 1;
     for caller in 0..CALLERS {
-        for number in 0..CALLS {
-            write_call(&mut text, caller, number)?;
+        for number in 0..MOST_CALLS {
+            write!(text, "{caller} {number} enq {number}")?;
+            if caller == last {
+                let own = number + 1;
+                write!(text, " done view {last}:{own}")?;
+            }
+            writeln!(text)?;
         }
     }
     writeln!(text, "end")?;
     Ok(text)
 }
 
-fn write_call(text: &mut Vec<u8>, caller: u32, number: u64) -> Result<()> {
+/// A book of rounds: in each all callers of a queue call beside one another, and each view counts all calls up to its round. In
+/// every other round each caller dequeues what it enqueued in the round before.
+pub fn book_of_rounds(alloc: Global) -> Result<Vec<u8>> {
+    let mut text = Vec::new(alloc);
+    write_head(&mut text, ROUNDS)?;
+    for caller in 0..CALLERS {
+        for number in 0..ROUNDS {
+            write_in_round(&mut text, caller, number)?;
+        }
+    }
+    writeln!(text, "end")?;
+    Ok(text)
+}
+
+fn write_head(text: &mut Vec<u8>, calls: u64) -> Result<()> {
+    write!(text, "book 2\nobject queue\ncallers {CALLERS}\ncalls")?;
+    for _ in 0..CALLERS {
+        write!(text, " {calls}")?;
+    }
+    writeln!(text)?;
+    Ok(())
+}
+
+fn write_in_round(text: &mut Vec<u8>, caller: u32, number: u64) -> Result<()>
+    requires { number < 256 }
+{
     let value = number / 2 * 100 + u64::from(caller);
     if number % 2 == 0 {
         write!(text, "{caller} {number} enq {value} done view")?;

@@ -1,7 +1,7 @@
 use std::alloc::Global;
 
 /// The most allocations that are used up behind a work.
-const MOST: u64 = 50_000;
+const MOST: u64 = 4_000;
 
 /// Uses up so many allocations. False where one was refused.
 pub fn use_up(alloc: Global, count: u64) -> bool {
