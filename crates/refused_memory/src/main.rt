@@ -2,7 +2,7 @@
 //! which one the system is to refuse.
 //!
 //! Each line of standard input names a work, how many allocations are used up before it, and `do` or `leave`, which only prepares
-//! it. Behind the work allocations are used up until one is refused, or [`MOST`] were had. A line is printed for each:
+//! it. Behind the work allocations are used up until one is refused, or 4,000 were had. A line is printed for each:
 //!
 //! | Line | Meaning |
 //! |---|---|
