@@ -1,5 +1,5 @@
 -- What a run of a script's callers reports, by the bench that it leaves.
-use Rattle.std.specs.Prelude.{ℕ}
+use Rattle.std.specs.Prelude.{ℕ, List, Option}
 use Rattle.seq_objects.specs.Objects.{kind_init, kind_next}
 use Rattle.world_core.specs.Shape.{Meaning}
 use Rattle.call_lines.specs.Allotments.{allotments_of, allotments_by_turns}
@@ -8,7 +8,8 @@ use Rattle.row_table.specs.declared.bench.Bench.{Bench}
 use Rattle.row_table.specs.Callers.{shape_of, locals_on}
 use Rattle.client_scripts.specs.Plans.{Plan}
 use Rattle.reports.specs.Findings.{Findings}
-use Rattle.run_report.specs.Reporting.{IsReportOf}
+use Rattle.bench_clients.specs.Places.{AreInOrder}
+use Rattle.run_report.specs.Reporting.{IsReportOf, IsToldIn}
 
 -- The report of a plan's callers that each went on by themselves, judged by the object of the plan's kind: of the locals that are on
 -- this bench, and lawful.
@@ -21,3 +22,14 @@ IsRunReport meaning rows bench plan findings =
 abbrev pub IsReplayReport : {P : Type 0} → (P → ℕ → ℕ → Meaning) → Rows P → Bench P → Plan → Findings → Type 0
 IsReplayReport meaning rows bench plan findings =
     IsReportOf (kind_init plan.kind) (kind_next plan.kind) (shape_of meaning rows) (locals_on bench) plan (allotments_by_turns plan.operations plan.stops plan.turns) findings
+
+-- So is this report of callers that went on by themselves, and these passes, in order, are told in it: each was asked for just the
+-- calls that its caller's lines tell of, and where it tells a list, that has their operations and their replies.
+pub record IsToldRunReport {P T : Type 0} (meaning : P → ℕ → ℕ → Meaning) (rows : Rows P) (bench : Bench P) (made : T → ℕ) (told : T → Option (List (ℕ × ℕ))) (passes : List T) (plan : Plan) (findings : Findings) : Type 0 where
+  pub report : IsRunReport meaning rows bench plan findings
+  pub told_in : AreInOrder (IsToldIn made told (allotments_of plan.operations plan.stops) findings) passes
+
+-- So is this report of callers that took turns, and these passes, in order, are told in it.
+pub record IsToldReplayReport {P T : Type 0} (meaning : P → ℕ → ℕ → Meaning) (rows : Rows P) (bench : Bench P) (made : T → ℕ) (told : T → Option (List (ℕ × ℕ))) (passes : List T) (plan : Plan) (findings : Findings) : Type 0 where
+  pub report : IsReplayReport meaning rows bench plan findings
+  pub told_in : AreInOrder (IsToldIn made told (allotments_by_turns plan.operations plan.stops plan.turns) findings) passes

@@ -10,7 +10,7 @@ ghost use Rattle.run_report.specs.Passes.{IsOwnPass, IsUnusedPass};
 ghost use Rattle.reports.specs.Findings.{Findings};
 ghost use Rattle.byte_streams.specs.Fault.{Rose};
 ghost use Rattle.run_writer.specs.Runs.{RunEnds};
-ghost use Rattle.run_writer.specs.Running.{IsReplayReport};
+ghost use Rattle.run_writer.specs.Running.{IsReplayReport, IsToldReplayReport};
 
 use crate::form::Form;
 use crate::report_output::write_report;
@@ -52,7 +52,8 @@ pub fn replay_and_write<B: BlackBox, K: Sink>(
 
     // The headline: what was written, by the status, is of a lawful report of the locals on the bench.
     ensures ends { RunEnds
-        (IsReplayReport ⟦<Outside as Program>⟧.meaning rows.now bench.new script.now)
+        (IsToldReplayReport ⟦<Outside as Program>⟧.meaning rows.now bench.new
+        B.Pass.made B.Pass.told passes.new.items script.now)
         form result (K.taken sink.old) (K.taken sink.new) }
 
     // Whether a line of that report is an error decides the status, failed writes and want of memory aside.

@@ -10,7 +10,7 @@ ghost use Rattle.run_report.specs.Passes.{IsOwnPass, IsUnusedPass};
 ghost use Rattle.reports.specs.Findings.{Findings};
 ghost use Rattle.byte_streams.specs.Fault.{Rose};
 ghost use Rattle.run_writer.specs.Runs.{RunEnds};
-ghost use Rattle.run_writer.specs.Running.{IsRunReport};
+ghost use Rattle.run_writer.specs.Running.{IsRunReport, IsToldRunReport};
 
 use crate::form::Form;
 use crate::report_output::write_report;
@@ -60,7 +60,8 @@ where
     // The headline: what was written, by the status, is of a lawful report of the locals on the
     // bench.
     ensures ends { RunEnds
-        (IsRunReport ⟦<Outside as Program>⟧.meaning rows.now bench.new script.now)
+        (IsToldRunReport ⟦<Outside as Program>⟧.meaning rows.now bench.new
+        B.Pass.made B.Pass.told passes.new.items script.now)
         form result (K.taken sink.old) (K.taken sink.new) }
 
     // Whether a line of that report is an error decides the status, failed writes and want of

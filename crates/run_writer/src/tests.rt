@@ -50,8 +50,7 @@ const ALL_CERTIFIED: &[u8] =
 const NONE_DELIVERED: &[u8] =
     b"report 2\nobject queue\ncallers 2\ncalls 1 1\n0 0 enq 5 done view 0:1 unchecked\n1 0 deq pending\nend\n";
 
-const NONE_CERTIFIED: &[u8] =
-    b"book 2\nobject queue\ncallers 2\ncalls 0 0\nend\norder 2\nend\n";
+const NONE_CERTIFIED: &[u8] = b"book 2\nobject queue\ncallers 2\ncalls 0 0\nend\norder 2\nend\n";
 
 // The last reply is one that the queue gave out before.
 const ONE_ERROR: &[u8] =

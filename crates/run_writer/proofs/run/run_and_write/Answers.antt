@@ -4,12 +4,13 @@ use Rattle.run_writer.proofs.RunningLemmas.{by_its_kind, one_report, has_form}
 use Rattle.run_writer.proofs.run.run_and_write.Goals as goal
 
 pub write_report-requires : goal.write_report-requires
-write_report-requires g c =
-    has_form _ _ _ _ _ _ (by_its_kind _ _ _ _ _ _ c.kind-kind.ensures c.in-Ok.ensures.report)
+write_report-requires g c = record { form = has_form _ _ _ _ c.args.form _ (by_its_kind _ _ _ _ _ _ c.kind-kind.ensures c.in-Ok.ensures.report) }
 
 pub returns-in-Ok-clause-ends : goal.returns-in-Ok-clause-ends
 returns-in-Ok-clause-ends g c =
-    RunEnds-from_report _ _ _ _ _ _ (by_its_kind _ _ _ _ _ _ c.kind-kind.ensures c.in-Ok.ensures.report) c.write_report.ensures.ends
+    RunEnds-from_report _ _ _ _ _ _
+    (record { report = by_its_kind _ _ _ _ _ _ c.kind-kind.ensures c.in-Ok.ensures.report; told_in = c.in-Ok.ensures.told })
+    c.write_report.ensures.ends
 
 pub returns-in-Ok-clause-found : goal.returns-in-Ok-clause-found
 returns-in-Ok-clause-found g c report is error =
