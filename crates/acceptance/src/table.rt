@@ -91,7 +91,8 @@ fn take_turns(bytes: &mut Vec<u8>, value: &str) -> Result<()> {
     let (caller, count) = value.split_once(' ').context("a caller")?;
     bytes.extend_from_slice(b"turns")?;
     for _ in 0..count.parse::<u64>().context("a count")? {
-        write!(bytes, " {caller}")?;
+        bytes.push(b' ')?;
+        bytes.extend_from_slice(caller.as_bytes())?;
     }
     bytes.push(b'\n')?;
     Ok(())

@@ -1,13 +1,18 @@
 -- What a run reports that opens the table of rows itself.
-use Rattle.std.specs.Prelude.{◌≡◌, ℕ, List, length}
+use Rattle.std.specs.Prelude.{◌≡◌, ℕ, List, Option, length}
 use Rattle.book_base.specs.declared.TheConstants.{MAX_CALLS}
+use Rattle.shared_log.specs.declared.entry.Entry.{Entry}
 use Rattle.seq_objects.specs.Objects.{kind_init, kind_next}
 use Rattle.world_core.specs.Shape.{Shape}
 use Rattle.world_core.specs.Programs.{outside}
 use Rattle.call_lines.specs.Allotments.{allotments_of}
 use Rattle.call_lines.specs.Lawful.{IsLawful}
 use Rattle.client_scripts.specs.Plans.{Plan}
+use Rattle.bench_clients.specs.Places.{AreInOrder}
 use Rattle.reports.specs.Findings.{Findings}
+use Rattle.run_report.specs.Reporting.{IsToldIn}
+use Rattle.faulty_objects.specs.declared.behaviour.Behaviour.{Behaviour}
+use Rattle.named_runs.specs.NamedObjects.{IsLoggedBy, AreFormed, IsOfBehaviour}
 
 -- The shape of the world of n callers with the greatest cap, whose object is outside.
 abbrev pub outside_shape : ℕ → Shape
@@ -18,6 +23,25 @@ pub record IsLawfulReport (plan : Plan) (allotments : List ℕ) (findings : Find
   pub kind : findings.kind ≡ plan.kind
   pub lawful : IsLawful (kind_init plan.kind) (kind_next plan.kind) (outside_shape (length plan.operations)) plan.operations allotments findings.lines
 
--- A report of a plan's callers that each went on by themselves.
-abbrev pub IsFreshRunReport : Plan → Findings → Type 0
-IsFreshRunReport plan findings = IsLawfulReport plan (allotments_of plan.operations plan.stops) findings
+-- So it is, and these passes, in order, are told in it.
+pub record IsToldReport {T : Type 0} (made : T → ℕ) (told : T → Option (List (ℕ × ℕ))) (passes : List T) (plan : Plan) (allotments : List ℕ) (findings : Findings) : Type 0 where
+  pub report : IsLawfulReport plan allotments findings
+  pub told_in : AreInOrder (IsToldIn made told allotments findings) passes
+
+-- So it is, and its calls were answered from one log.
+pub record IsLoggedReport (answer : List Entry → ℕ) (plan : Plan) (allotments : List ℕ) (findings : Findings) : Type 0 where
+  pub report : IsLawfulReport plan allotments findings
+  pub logged : IsLoggedBy answer allotments findings
+
+-- So it is, and the object of a behaviour answered its calls.
+pub record IsNamedReport (behaviour : Behaviour) (plan : Plan) (allotments : List ℕ) (findings : Findings) : Type 0 where
+  pub report : IsLawfulReport plan allotments findings
+  pub object : IsOfBehaviour behaviour plan allotments findings
+
+-- The allotments of a plan's callers that each go on by themselves.
+abbrev pub run_allotments : Plan → List ℕ
+run_allotments plan = allotments_of plan.operations plan.stops
+
+-- A report of a plan's callers that each went on by themselves, over the object of a behaviour.
+abbrev pub IsNamedRunReport : Behaviour → Plan → Findings → Type 0
+IsNamedRunReport behaviour plan findings = IsNamedReport behaviour plan (run_allotments plan) findings

@@ -1,2 +1,4 @@
 pub mod BehaviourReplays
 pub mod BehaviourRuns
+pub mod LogLaws
+pub mod NamedObjects

@@ -3,7 +3,8 @@
 ghost use Rattle.std.specs.Prelude.{◌≡◌, ◌≤◌};
 ghost use Rattle.byte_streams.specs.Fault.{Rose};
 ghost use Rattle.run_writer.specs.Runs.{RunEnds};
-ghost use Rattle.named_runs.specs.BehaviourReplays.{IsFreshReplayReport};
+ghost use Rattle.named_runs.specs.BehaviourReplays.{replay_allotments, IsNamedReplayReport};
+ghost use Rattle.named_runs.specs.BehaviourRuns.{IsLoggedReport};
 
 use crate::fresh_replay::replay_fresh;
 use book_base::{MAX_CALLS, NoMemory};
@@ -23,7 +24,8 @@ fn replay_log<M: Machine + Drop, K: Sink>(
     form: Form,
     sink: &mut K,
 ) -> Status
-    ensures ends { RunEnds (IsFreshReplayReport script.now)
+    ensures ends { RunEnds
+        (IsLoggedReport (M.reply_to machine) script.now (replay_allotments script.now))
         form result (K.taken sink.old) (K.taken sink.new) }
     ensures fault { result ≡ Status.WriteFault → Rose (K.faults sink.old) (K.faults sink.new) }
     ensures calm { ¬ (result ≡ Status.WriteFault) → K.faults sink.new ≡ K.faults sink.old }
@@ -41,7 +43,7 @@ fn replay_log<M: Machine + Drop, K: Sink>(
 
 // Replays a script over the counter on one word.
 fn replay_tally<K: Sink>(alloc: Global, script: &Script, form: Form, sink: &mut K) -> Status
-    ensures ends { RunEnds (IsFreshReplayReport script.now)
+    ensures ends { RunEnds (IsNamedReplayReport Behaviour.Tally script.now)
         form result (K.taken sink.old) (K.taken sink.new) }
     ensures fault { result ≡ Status.WriteFault → Rose (K.faults sink.old) (K.faults sink.new) }
     ensures calm { ¬ (result ≡ Status.WriteFault) → K.faults sink.new ≡ K.faults sink.old }
@@ -57,7 +59,7 @@ fn replay_tally<K: Sink>(alloc: Global, script: &Script, form: Form, sink: &mut 
 
 // Replays a script over the register on one word.
 fn replay_cell<K: Sink>(alloc: Global, script: &Script, form: Form, sink: &mut K) -> Status
-    ensures ends { RunEnds (IsFreshReplayReport script.now)
+    ensures ends { RunEnds (IsNamedReplayReport Behaviour.Cell script.now)
         form result (K.taken sink.old) (K.taken sink.new) }
     ensures fault { result ≡ Status.WriteFault → Rose (K.faults sink.old) (K.faults sink.new) }
     ensures calm { ¬ (result ≡ Status.WriteFault) → K.faults sink.new ≡ K.faults sink.old }
@@ -73,7 +75,7 @@ fn replay_cell<K: Sink>(alloc: Global, script: &Script, form: Form, sink: &mut K
 
 // Replays a script over the counter whose increment is torn.
 fn replay_split<K: Sink>(alloc: Global, script: &Script, form: Form, sink: &mut K) -> Status
-    ensures ends { RunEnds (IsFreshReplayReport script.now)
+    ensures ends { RunEnds (IsNamedReplayReport Behaviour.Split script.now)
         form result (K.taken sink.old) (K.taken sink.new) }
     ensures fault { result ≡ Status.WriteFault → Rose (K.faults sink.old) (K.faults sink.new) }
     ensures calm { ¬ (result ≡ Status.WriteFault) → K.faults sink.new ≡ K.faults sink.old }
@@ -89,7 +91,7 @@ fn replay_split<K: Sink>(alloc: Global, script: &Script, form: Form, sink: &mut 
 
 // Replays a script over the array queue whose dequeue gives up.
 fn replay_one_pass<K: Sink>(alloc: Global, script: &Script, form: Form, sink: &mut K) -> Status
-    ensures ends { RunEnds (IsFreshReplayReport script.now)
+    ensures ends { RunEnds (IsNamedReplayReport Behaviour.Onepass script.now)
         form result (K.taken sink.old) (K.taken sink.new) }
     ensures fault { result ≡ Status.WriteFault → Rose (K.faults sink.old) (K.faults sink.new) }
     ensures calm { ¬ (result ≡ Status.WriteFault) → K.faults sink.new ≡ K.faults sink.old }
@@ -114,8 +116,8 @@ pub fn replay_behaviour<K: Sink>(
     form: Form,
     sink: &mut K,
 ) -> Status
-    // The headline: what was written, by the status, is of a lawful report.
-    ensures ends { RunEnds (IsFreshReplayReport script.now)
+    // The headline: what was written, by the status, is of a lawful report, whose calls the object of the behaviour answered.
+    ensures ends { RunEnds (IsNamedReplayReport behaviour script.now)
         form result (K.taken sink.old) (K.taken sink.new) }
 
     // A fault has its cause in a count that rose in this call, and every other answer comes where none rose.

@@ -3,7 +3,7 @@
 ghost use Rattle.std.specs.Prelude.{◌≡◌, ◌≤◌};
 ghost use Rattle.byte_streams.specs.Fault.{Rose};
 ghost use Rattle.run_writer.specs.Runs.{RunEnds};
-ghost use Rattle.named_runs.specs.BehaviourRuns.{IsFreshRunReport};
+ghost use Rattle.named_runs.specs.BehaviourRuns.{run_allotments, IsLoggedReport, IsNamedRunReport};
 
 use crate::fresh_run::run_fresh;
 use book_base::{MAX_CALLS, NoMemory};
@@ -25,7 +25,8 @@ fn run_log<R: Threads + Sync, M: Machine + Drop + Sync, K: Sink>(
     form: Form,
     sink: &mut K,
 ) -> Status
-    ensures ends { RunEnds (IsFreshRunReport script.now)
+    ensures ends { RunEnds
+        (IsLoggedReport (M.reply_to machine) script.now (run_allotments script.now))
         form result (K.taken sink.old) (K.taken sink.new) }
     ensures fault { result ≡ Status.WriteFault → Rose (K.faults sink.old) (K.faults sink.new) }
     ensures calm { ¬ (result ≡ Status.WriteFault) → K.faults sink.new ≡ K.faults sink.old }
@@ -49,7 +50,7 @@ fn run_tally<R: Threads + Sync, K: Sink>(
     form: Form,
     sink: &mut K,
 ) -> Status
-    ensures ends { RunEnds (IsFreshRunReport script.now)
+    ensures ends { RunEnds (IsNamedRunReport Behaviour.Tally script.now)
         form result (K.taken sink.old) (K.taken sink.new) }
     ensures fault { result ≡ Status.WriteFault → Rose (K.faults sink.old) (K.faults sink.new) }
     ensures calm { ¬ (result ≡ Status.WriteFault) → K.faults sink.new ≡ K.faults sink.old }
@@ -71,7 +72,7 @@ fn run_cell<R: Threads + Sync, K: Sink>(
     form: Form,
     sink: &mut K,
 ) -> Status
-    ensures ends { RunEnds (IsFreshRunReport script.now)
+    ensures ends { RunEnds (IsNamedRunReport Behaviour.Cell script.now)
         form result (K.taken sink.old) (K.taken sink.new) }
     ensures fault { result ≡ Status.WriteFault → Rose (K.faults sink.old) (K.faults sink.new) }
     ensures calm { ¬ (result ≡ Status.WriteFault) → K.faults sink.new ≡ K.faults sink.old }
@@ -93,7 +94,7 @@ fn run_split<R: Threads + Sync, K: Sink>(
     form: Form,
     sink: &mut K,
 ) -> Status
-    ensures ends { RunEnds (IsFreshRunReport script.now)
+    ensures ends { RunEnds (IsNamedRunReport Behaviour.Split script.now)
         form result (K.taken sink.old) (K.taken sink.new) }
     ensures fault { result ≡ Status.WriteFault → Rose (K.faults sink.old) (K.faults sink.new) }
     ensures calm { ¬ (result ≡ Status.WriteFault) → K.faults sink.new ≡ K.faults sink.old }
@@ -115,7 +116,7 @@ fn run_one_pass<R: Threads + Sync, K: Sink>(
     form: Form,
     sink: &mut K,
 ) -> Status
-    ensures ends { RunEnds (IsFreshRunReport script.now)
+    ensures ends { RunEnds (IsNamedRunReport Behaviour.Onepass script.now)
         form result (K.taken sink.old) (K.taken sink.new) }
     ensures fault { result ≡ Status.WriteFault → Rose (K.faults sink.old) (K.faults sink.new) }
     ensures calm { ¬ (result ≡ Status.WriteFault) → K.faults sink.new ≡ K.faults sink.old }
@@ -141,8 +142,8 @@ pub fn run_behaviour<R: Threads + Sync, K: Sink>(
     form: Form,
     sink: &mut K,
 ) -> Status
-    // The headline: what was written, by the status, is of a lawful report.
-    ensures ends { RunEnds (IsFreshRunReport script.now)
+    // The headline: what was written, by the status, is of a lawful report, whose calls the object of the behaviour answered.
+    ensures ends { RunEnds (IsNamedRunReport behaviour script.now)
         form result (K.taken sink.old) (K.taken sink.new) }
 
     // A fault has its cause in a count that rose in this call, and every other answer comes where none rose.

@@ -5,7 +5,7 @@ ghost use Rattle.bench_clients.specs.Places.{AreInOrder};
 ghost use Rattle.run_report.specs.Passes.{IsOwnPass, IsUnusedPass};
 ghost use Rattle.byte_streams.specs.Fault.{Rose};
 ghost use Rattle.run_writer.specs.Runs.{RunEnds};
-ghost use Rattle.named_runs.specs.BehaviourRuns.{IsFreshRunReport};
+ghost use Rattle.named_runs.specs.BehaviourRuns.{run_allotments, IsToldReport};
 
 use book_base::{MAX_CALLS, NoMemory};
 use byte_streams::{Sink, Status};
@@ -40,8 +40,10 @@ where
     ensures all_passes { vec_len passes.new ≡ length script.now.operations }
     ensures passes { AreInOrder (IsOwnPass (B.is_own object.now) B.Pass.caller) passes.new.items }
 
-    // The headline: what was written, by the status, is of a lawful report.
-    ensures ends { RunEnds (IsFreshRunReport script.now)
+    // The headline: what was written, by the status, is of a lawful report, in which the passes are told.
+    ensures ends { RunEnds
+        (IsToldReport B.Pass.made B.Pass.told passes.new.items script.now
+        (run_allotments script.now))
         form result (K.taken sink.old) (K.taken sink.new) }
 
     // A fault has its cause in a count that rose in this call, and every other answer comes where none rose.

@@ -16,8 +16,8 @@ use Rattle.clap.specs.declared.parser.matches.ArgMatches.TheViews.{out-ArgMatche
 use Rattle.clap.specs.declared.parser.matches.SubCommand.{SubCommand}
 use Rattle.clap.proofs.OnLiterals.{clap_on_literals}
 use Rattle.selfcheck.specs.declared.command.Command.{Command}
-use Rattle.selfcheck.specs.declared.command.Command.TheVariants.{Run}
-use Rattle.selfcheck.proofs.ArgumentLemmas.{behaviour_named-hyphen}
+use Rattle.selfcheck.specs.declared.command.Command.TheVariants.{Run, Replay, Certify, Soak}
+use Rattle.selfcheck.proofs.ArgumentLemmas.{behaviour_named-hyphen, soak_number-hyphen}
 use Rattle.selfcheck.specs.Command.{lone_commands, named_in, lone_command, argued_commands, names_argued, argued_in, has_argument, argued_command, command_of}
 use Rattle.selfcheck.specs.CommandLine.{line_app, begins_with_hyphen, is_parsed, met_in, command_met}
 
@@ -159,12 +159,18 @@ pub record IsPlainText (argument : Text) : Type 0 where
 argued_rows_are_met : AllByRecursion (λ (row : List ℕ × (List ℕ → Option Command)). (argument : Text) → IsPlainText argument
     → met_by_words (row.0 ∷ argument ∷ []) ≡ Some (row.0, Some argument)) argued_commands
 unfolding clap_on_literals
-argued_rows_are_met = (λ argument plain. rw (plain.dashes, plain.long, plain.short) refl, tt)
+argued_rows_are_met = (
+  λ argument plain. rw (plain.dashes, plain.long, plain.short) refl,
+  (λ argument plain. rw (plain.dashes, plain.long, plain.short) refl, (λ argument plain. rw (plain.dashes, plain.long, plain.short) refl, (λ argument plain. rw (plain.dashes, plain.long, plain.short) refl, tt))),
+)
 
 argued_rows_are_taken : AllByRecursion (λ (row : List ℕ × (List ℕ → Option Command)). (argument : Text) → IsPlainText argument
     → takes line_app (row.0 ∷ argument ∷ []) ≡ true) argued_commands
 unfolding clap_on_literals
-argued_rows_are_taken = (λ argument plain. rw (plain.dashes, plain.long, plain.short) refl, tt)
+argued_rows_are_taken = (
+  λ argument plain. rw (plain.dashes, plain.long, plain.short) refl,
+  (λ argument plain. rw (plain.dashes, plain.long, plain.short) refl, (λ argument plain. rw (plain.dashes, plain.long, plain.short) refl, (λ argument plain. rw (plain.dashes, plain.long, plain.short) refl, tt))),
+)
 
 text_is_plain : (argument : Text) → begins_with_hyphen argument ≡ false → IsPlainText argument
 text_is_plain [] e = record { dashes = refl; long = refl; short = refl }
@@ -257,7 +263,13 @@ refused_is (word ∷ argument ∷ third ∷ rest) parsed refused = refl
 
 -- an argument that begins with a hyphen is none of a command: one part a row
 hyphens_are_none : AllByRecursion (λ (row : List ℕ × (List ℕ → Option Command)). (bytes : List ℕ) → row.1 (45 ∷ bytes) ≡ None) argued_commands
-hyphens_are_none = (λ bytes. ap (option_map Run) (behaviour_named-hyphen bytes), tt)
+hyphens_are_none = (
+  λ bytes. ap (option_map Run) (behaviour_named-hyphen bytes),
+  (
+    λ bytes. ap (option_map Replay) (behaviour_named-hyphen bytes),
+    (λ bytes. ap (option_map Certify) (behaviour_named-hyphen bytes), (λ bytes. ap (option_map Soak) (soak_number-hyphen bytes), tt)),
+  ),
+)
 
 hyphen_in : (rows : List (List ℕ × (List ℕ → Option Command))) (word bytes : List ℕ)
     → AllByRecursion (λ (row : List ℕ × (List ℕ → Option Command)). (bytes : List ℕ) → row.1 (45 ∷ bytes) ≡ None) rows → argued_in rows word (45 ∷ bytes) ≡ None

@@ -6,4 +6,5 @@ pub mod OrderLemmas
 pub mod OutputLemmas
 mod SetLemmas
 mod ScriptLemmas
+mod TaskLemmas
 pub mod UpgradeLemmas

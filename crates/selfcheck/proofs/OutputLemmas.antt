@@ -13,23 +13,29 @@ use Rattle.sketch.proofs.Orderly.{books_have_one_sketch}
 use Rattle.text_fields.specs.Lines.{text_of}
 use Rattle.text_fields.specs.declared.version.Version.TheVariants.{Second}
 use Rattle.selfcheck.specs.declared.command.Command.{Command}
-use Rattle.selfcheck.specs.declared.command.Command.TheVariants.{Verify, Sketch, Order, Upgrade, Sets, Run}
+use Rattle.selfcheck.specs.declared.command.Command.TheVariants.{Verify, Sketch, Order, Upgrade, Sets, Run, Replay, Certify, Soak}
 use Rattle.byte_streams.specs.declared.status.Status.{Status}
 use Rattle.byte_streams.specs.declared.status.Status.TheVariants.{Fine, Found, Usage, Refused, ReadFault, WriteFault, NoMemory}
 use Rattle.byte_streams.specs.declared.TheConstants.{INPUT_LIMIT}
 use Rattle.selfcheck.specs.Command.{command_of}
+use Rattle.faulty_objects.specs.declared.behaviour.Behaviour.TheVariants.{Lawful}
+use Rattle.run_writer.specs.declared.form.Form.TheVariants.{Report, Counts, Certificate}
+use Rattle.named_runs.specs.BehaviourReplays.{IsNamedReplayReport}
+use Rattle.named_runs.specs.BehaviourRuns.{IsNamedRunReport}
+use Rattle.selfcheck.specs.ScriptInput.{soak_plan}
 use Rattle.selfcheck.specs.Input.{refusal_text}
-use Rattle.selfcheck.specs.Output.{Form, BookForm, CertificateForm, OldForm, SetForm, ScriptForm, form_of, IsTextOf, IsFirstFaultOf, IsTaken, IsVerdict, IsSketchText, IsDrawn, IsJudgement, IsRewritten, IsSetVerdict, IsAnswerOf, IsRefusal, IsOutputOf, HasOneStatus, IsDetermined, RefuseWhatIsNotTaken, IsOutput, ReadsFor, Reads, Ends, IsUnfinished, input_of}
+use Rattle.selfcheck.specs.Output.{Form, BookForm, CertificateForm, OldForm, SetForm, ScriptForm, NoForm, form_of, IsTextOf, IsFirstFaultOf, IsTaken, IsVerdict, IsSketchText, IsDrawn, IsJudgement, IsRewritten, IsSetVerdict, IsAnswerOf, IsRefusal, IsOutputOf, HasOneStatus, IsDetermined, RefuseWhatIsNotTaken, IsOutput, ReadsFor, Reads, Ends, IsUnfinished, input_of}
 use Rattle.selfcheck.specs.Orders.{order_fault_text}
 use Rattle.byte_streams.specs.Told.{AppendsPart}
 use Rattle.byte_streams.specs.Writing.{EndsWriting}
+use Rattle.byte_streams.proofs.WritingLemmas.{EndsWriting-weaker}
 use Rattle.selfcheck.specs.UpgradeLaws.{UpgradesSayTheSame, UpgradesKeepOrders}
 use Rattle.selfcheck.proofs.InputLemmas.{IsBookInput-from_told, IsBookInput-from_legal, IsBookInput-from_illegal, legal_or_illegal, book_or_fault, one_refusal}
 use Rattle.certificate_text.proofs.Readings.{one_fault}
 use Rattle.client_scripts.proofs.Readings as scripts
 use Rattle.setbook_text.proofs.SharpSetBooks as set_books
 use Rattle.selfcheck.proofs.SetLemmas.{IsSetInput-from_legal, IsSetInput-from_illegal, set_input_or_fault, legal_or_illegal_sets}
-use Rattle.selfcheck.proofs.ScriptLemmas.{IsScriptInput-from_told, script_input_or_fault, run_statuses}
+use Rattle.selfcheck.proofs.ScriptLemmas.{IsScriptInput-from_shown, script_input_or_fault, run_statuses}
 use Rattle.selfcheck.proofs.OrderLemmas.{IsCertificateInput-from_legal, IsCertificateInput-from_faulty, certificate_or_fault, legal_or_faulty, one_order_fault}
 use Rattle.selfcheck.proofs.UpgradeLemmas.{old_or_fault, one_old_fault, old-from_upgraded, one_upgraded, says_the_same, one_order}
 
@@ -42,6 +48,7 @@ text_or_fault CertificateForm bytes fault certificate first = certificate_or_fau
 text_or_fault OldForm bytes fault old first = old_or_fault bytes fault old first
 text_or_fault SetForm bytes fault told first = set_input_or_fault bytes fault told first
 text_or_fault ScriptForm bytes fault told first = script_input_or_fault bytes fault told first
+text_or_fault NoForm bytes fault none first = first
 
 -- bytes have one first fault
 one_fault_of : (form : Form) (bytes : List ℕ) (a b : TextFault) → IsFirstFaultOf form bytes a → IsFirstFaultOf form bytes b → a ≡ b
@@ -50,6 +57,7 @@ one_fault_of CertificateForm bytes a b p q = one_fault bytes a b p q
 one_fault_of OldForm bytes a b p q = one_old_fault bytes a b p q
 one_fault_of SetForm bytes a b p q = set_books.one_first_fault bytes a b p q
 one_fault_of ScriptForm bytes a b p q = scripts.one_first_fault Second bytes a b p q
+one_fault_of NoForm bytes a b p q = absurd p
 
 -- ---- what commands answer: one case a command
 
@@ -68,7 +76,10 @@ answer_statuses Upgrade bytes _ text answer = absurd answer
 answer_statuses Sets bytes Fine text answer = inl refl
 answer_statuses Sets bytes Found text answer = inr refl
 answer_statuses Sets bytes _ text answer = absurd answer
-answer_statuses (Run behaviour) bytes status text answer = run_statuses bytes status text answer
+answer_statuses (Run behaviour) bytes status text answer = run_statuses (IsNamedRunReport behaviour answer.0) Report status text answer.2
+answer_statuses (Replay behaviour) bytes status text answer = run_statuses (IsNamedReplayReport behaviour answer.0) Report status text answer.2
+answer_statuses (Certify behaviour) bytes status text answer = run_statuses (IsNamedRunReport behaviour answer.0) Certificate status text answer.2
+answer_statuses (Soak number) bytes status text answer = run_statuses (IsNamedRunReport Lawful (soak_plan number)) Counts status text answer.1
 
 -- what is answered is an input of the wanted form
 answered_is_wanted : (command : Command) (bytes : List ℕ) (status : Status) (text : List ℕ) → IsAnswerOf command bytes status text → IsTextOf (form_of command) bytes
@@ -85,7 +96,10 @@ answered_is_wanted Upgrade bytes _ text answer = absurd answer
 answered_is_wanted Sets bytes Fine text answer = IsSetInput-from_legal bytes answer.0
 answered_is_wanted Sets bytes Found text answer = IsSetInput-from_illegal bytes answer.0
 answered_is_wanted Sets bytes _ text answer = absurd answer
-answered_is_wanted (Run behaviour) bytes status text answer = IsScriptInput-from_told bytes answer.0 answer.1
+answered_is_wanted (Run behaviour) bytes status text answer = IsScriptInput-from_shown (IsNamedRunReport behaviour) Report bytes status text answer
+answered_is_wanted (Replay behaviour) bytes status text answer = IsScriptInput-from_shown (IsNamedReplayReport behaviour) Report bytes status text answer
+answered_is_wanted (Certify behaviour) bytes status text answer = IsScriptInput-from_shown (IsNamedRunReport behaviour) Certificate bytes status text answer
+answered_is_wanted (Soak number) bytes status text answer = answer.0
 
 -- ---- outputs
 
@@ -243,6 +257,20 @@ pub EndsWriting-output : {P : Type 0} (command : Command) (bytes : List ℕ) (st
 EndsWriting-output command bytes status result taken taken' text output written =
     EndsWriting-written (IsOutputOf command bytes) status result taken taken' text (finished command bytes status text output) output written
 
+-- an answer to an input that isn't too long is an output
+IsOutputOf-from_answer : (command : Command) (bytes : List ℕ) (status : Status) (text : List ℕ) → length bytes ≤ INPUT_LIMIT → IsAnswerOf command bytes status text
+    → IsOutputOf command bytes status text
+IsOutputOf-from_answer command bytes Refused text short answer = absurd (elim (answer_statuses command bytes Refused text answer) [ inl e ↦ cc e | inr e ↦ cc e ])
+IsOutputOf-from_answer command bytes _ text short answer = (short, answer)
+
+-- a call that wrote one of a command's answers, or a part of it, has written an output of the command
+pub EndsWriting-answer : (command : Command) (bytes : List ℕ) (IsOne : Status → List ℕ → Type 0) (result : Status) (taken taken' : Option (List ℕ))
+    → length bytes ≤ INPUT_LIMIT → ((status : Status) (text : List ℕ) → IsOne status text → IsAnswerOf command bytes status text) → EndsWriting IsOne result taken taken'
+    → EndsWriting (IsOutputOf command bytes) result taken taken'
+EndsWriting-answer command bytes IsOne result taken taken' short answers ends =
+    EndsWriting-weaker IsOne (IsOutputOf command bytes) result taken taken'
+    (λ status text one. IsOutputOf-from_answer command bytes status text short (answers status text one)) ends
+
 -- ---- how the program ends
 
 Reads-named : (words : List (String Global)) (command : Command) (old new : Option (List ℕ)) (bytes : List ℕ)
@@ -297,6 +325,9 @@ input_is Order held new bytes reads = reads.0
 input_is Upgrade held new bytes reads = reads.0
 input_is Sets held new bytes reads = reads.0
 input_is (Run behaviour) held new bytes reads = reads.0
+input_is (Replay behaviour) held new bytes reads = reads.0
+input_is (Certify behaviour) held new bytes reads = reads.0
+input_is (Soak number) held new bytes reads = reads.1
 
 -- where all outputs have one status, a call that wrote one has this status
 one_status : (IsOne : Status → List ℕ → Type 0) (status result : Status) (taken taken' : Option (List ℕ)) → EndsWriting IsOne result taken taken'

@@ -1,11 +1,11 @@
 -- The commands, and the words that name them.
-use Rattle.std.specs.Prelude.{◌≡◌, ◌↔◌, ℕ, Bool, true, false, List, [], ◌∷◌, map, Option, Some, None, option_map, String, string_bytes, codes, if◌then◌else◌}
+use Rattle.std.specs.Prelude.{◌≡◌, ◌↔◌, ℕ, ◌≤◌, Bool, true, false, List, [], ◌∷◌, map, Option, Some, None, option_map, String, string_bytes, codes, decimal, if◌then◌else◌}
 use Rattle.std.specs.Str.{bytes_eq}
 use Rattle.std.specs.declared.alloc.Global.{Global}
 use Rattle.selfcheck.specs.declared.command.Command.{Command}
-use Rattle.selfcheck.specs.declared.command.Command.TheVariants.{Verify, Sketch, Order, Upgrade, Sets, Run}
+use Rattle.selfcheck.specs.declared.command.Command.TheVariants.{Verify, Sketch, Order, Upgrade, Sets, Run, Replay, Certify, Soak}
 use Rattle.faulty_objects.specs.Names.{behaviour_name}
-use Rattle.selfcheck.specs.Arguments.{behaviour_named}
+use Rattle.selfcheck.specs.Arguments.{behaviour_named, soak_number}
 
 -- the words of a command
 abbrev pub words_of : Command → List (List ℕ)
@@ -15,6 +15,14 @@ words_of Order = codes "order" ∷ []
 words_of Upgrade = codes "upgrade" ∷ []
 words_of Sets = codes "sets" ∷ []
 words_of (Run behaviour) = codes "run" ∷ behaviour_name behaviour ∷ []
+words_of (Replay behaviour) = codes "replay" ∷ behaviour_name behaviour ∷ []
+words_of (Certify behaviour) = codes "certify" ∷ behaviour_name behaviour ∷ []
+words_of (Soak number) = codes "soak" ∷ decimal number ∷ []
+
+-- a command that words can name: the number of a soak is at most 4,294,967,295
+abbrev pub CanBeNamed : Command → Type 0
+CanBeNamed (Soak number) = number ≤ 4294967295
+CanBeNamed _ = Unit {0}
 
 -- the commands that have no argument, each with its word
 abbrev pub lone_commands : List (List ℕ × Command)
@@ -39,6 +47,9 @@ lone_command word = named_in lone_commands word
 abbrev pub argued_commands : List (List ℕ × (List ℕ → Option Command))
 argued_commands =
     (codes "run", λ argument. option_map Run (behaviour_named argument))
+    ∷ (codes "replay", λ argument. option_map Replay (behaviour_named argument))
+    ∷ (codes "certify", λ argument. option_map Certify (behaviour_named argument))
+    ∷ (codes "soak", λ argument. option_map Soak (soak_number argument))
     ∷ []
 
 -- whether one of these commands has this word
@@ -74,7 +85,10 @@ reads_source Order = true
 reads_source Upgrade = true
 reads_source Sets = true
 reads_source (Run behaviour) = true
+reads_source (Replay behaviour) = true
+reads_source (Certify behaviour) = true
+reads_source (Soak number) = false
 
 -- the command words name a command exactly where they are its words
 abbrev pub HaveTheirCommand : Type 0
-HaveTheirCommand = (words : List (String Global)) (command : Command) → (command_of words ≡ Some command) ↔ (map string_bytes words ≡ words_of command)
+HaveTheirCommand = (words : List (String Global)) (command : Command) → (command_of words ≡ Some command) ↔ (CanBeNamed command × (map string_bytes words ≡ words_of command))

@@ -7,6 +7,7 @@ pub mod Orders
 pub mod Output
 pub mod Refusal
 pub mod ScriptInput
+pub mod ScriptTasks
 pub mod SetInput
 pub mod Upgrade
 pub mod UpgradeLaws

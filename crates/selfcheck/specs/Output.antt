@@ -16,25 +16,26 @@ use Rattle.sketch.specs.Sketch.{IsSketch}
 use Rattle.text_fields.specs.Lines.{text_of}
 use Rattle.text_fields.specs.declared.version.Version.TheVariants.{Second}
 use Rattle.selfcheck.specs.declared.command.Command.{Command}
-use Rattle.selfcheck.specs.declared.command.Command.TheVariants.{Verify, Sketch, Order, Upgrade, Sets, Run}
+use Rattle.selfcheck.specs.declared.command.Command.TheVariants.{Verify, Sketch, Order, Upgrade, Sets, Run, Replay, Certify, Soak}
 use Rattle.byte_streams.specs.declared.status.Status.{Status}
 use Rattle.byte_streams.specs.declared.status.Status.TheVariants.{Fine, Found, Usage, Refused, ReadFault, WriteFault, NoMemory}
 use Rattle.byte_streams.specs.declared.TheConstants.{INPUT_LIMIT}
 use Rattle.selfcheck.specs.Command.{command_of, reads_source}
 use Rattle.selfcheck.specs.Input.{Tells, IsBookInput, IsLegalInput, IsIllegalInput, IsRefusedFor, refusal_text}
 use Rattle.selfcheck.specs.Orders.{IsCertificateInput, IsLegalCertificate, IsFaultyCertificate, order_fault_text}
-use Rattle.selfcheck.specs.ScriptInput.{IsScriptInput, IsRunOf}
+use Rattle.selfcheck.specs.ScriptInput.{IsScriptInput, IsRunOf, IsReplayOf, IsCertifiedOf, IsSoakOf}
 use Rattle.selfcheck.specs.SetInput.{IsSetInput, IsLegalSetInput, IsIllegalSetInput}
 use Rattle.byte_streams.specs.Told.{HasRead, AppendsPart, read_of}
 use Rattle.selfcheck.specs.Upgrade.{IsOldInput, IsFirstOldFault, IsUpgraded}
 
--- a form of texts that a command may want
+-- a form of texts that a command may want; one that reads no source wants none
 pub data Form : Type 0 where
   BookForm : Form
   CertificateForm : Form
   OldForm : Form
   SetForm : Form
   ScriptForm : Form
+  NoForm : Form
 
 -- the form of text that a command wants
 abbrev pub form_of : Command → Form
@@ -44,6 +45,9 @@ form_of Order = CertificateForm
 form_of Upgrade = OldForm
 form_of Sets = SetForm
 form_of (Run behaviour) = ScriptForm
+form_of (Replay behaviour) = ScriptForm
+form_of (Certify behaviour) = ScriptForm
+form_of (Soak number) = NoForm
 
 -- the bytes are a text of this form
 abbrev pub IsTextOf : Form → List ℕ → Type 0
@@ -52,6 +56,7 @@ IsTextOf CertificateForm bytes = IsCertificateInput bytes
 IsTextOf OldForm bytes = IsOldInput bytes
 IsTextOf SetForm bytes = IsSetInput bytes
 IsTextOf ScriptForm bytes = IsScriptInput bytes
+IsTextOf NoForm bytes = bytes ≡ []
 
 -- the first fault of bytes that are no text of this form
 abbrev pub IsFirstFaultOf : Form → List ℕ → TextFault → Type 0
@@ -60,6 +65,7 @@ IsFirstFaultOf CertificateForm bytes fault = IsFirstCertificateFault bytes fault
 IsFirstFaultOf OldForm bytes fault = IsFirstOldFault bytes fault
 IsFirstFaultOf SetForm bytes fault = IsFirstSetBookFault bytes fault
 IsFirstFaultOf ScriptForm bytes fault = IsFirstScriptFault Second bytes fault
+IsFirstFaultOf NoForm bytes fault = ⊥
 
 -- the command takes the bytes: there are few enough, and they are a text of the form that it wants
 abbrev pub IsTaken : Command → List ℕ → Type 0
@@ -109,7 +115,10 @@ IsAnswerOf Sketch bytes status text = IsDrawn bytes status text
 IsAnswerOf Order bytes status text = IsJudgement bytes status text
 IsAnswerOf Upgrade bytes status text = IsRewritten bytes status text
 IsAnswerOf Sets bytes status text = IsSetVerdict bytes status text
-IsAnswerOf (Run behaviour) bytes status text = IsRunOf bytes status text
+IsAnswerOf (Run behaviour) bytes status text = IsRunOf behaviour bytes status text
+IsAnswerOf (Replay behaviour) bytes status text = IsReplayOf behaviour bytes status text
+IsAnswerOf (Certify behaviour) bytes status text = IsCertifiedOf behaviour bytes status text
+IsAnswerOf (Soak number) bytes status text = (bytes ≡ []) × IsSoakOf number status text
 
 -- the line and the name of the fault for which a command refuses the bytes
 abbrev pub IsRefusal : Command → List ℕ → List ℕ → Type 0

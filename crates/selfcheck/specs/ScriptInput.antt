@@ -1,17 +1,47 @@
--- What the bytes of an input say of a script, and what `run` writes of it.
+-- What the bytes of an input say of a script, and what is written of a script's run.
 use Rattle.std.specs.Prelude.{ℕ, List}
+use Rattle.client_scripts.specs.Generator.{generated}
 use Rattle.client_scripts.specs.Plans.{Plan}
 use Rattle.client_scripts.specs.ScriptRules.{IsScriptText}
+use Rattle.seq_objects.specs.declared.kind.Kind.TheVariants.{Queue}
 use Rattle.text_fields.specs.declared.version.Version.TheVariants.{Second}
-use Rattle.run_writer.specs.declared.form.Form.TheVariants.{Report}
+use Rattle.reports.specs.Findings.{Findings}
+use Rattle.faulty_objects.specs.declared.behaviour.Behaviour.{Behaviour}
+use Rattle.faulty_objects.specs.declared.behaviour.Behaviour.TheVariants.{Lawful}
+use Rattle.run_writer.specs.declared.form.Form.{Form}
+use Rattle.run_writer.specs.declared.form.Form.TheVariants.{Report, Counts, Certificate}
 use Rattle.byte_streams.specs.declared.status.Status.{Status}
-use Rattle.named_runs.specs.BehaviourRuns.{IsFreshRunReport}
+use Rattle.named_runs.specs.BehaviourReplays.{IsNamedReplayReport}
+use Rattle.named_runs.specs.BehaviourRuns.{IsNamedRunReport}
 use Rattle.run_writer.specs.Runs.{IsRunOutput}
 
 -- the bytes are the text of a script
 unfoldable pub IsScriptInput : List ℕ → Type 0
 IsScriptInput bytes = (plan : Plan) × IsScriptText Second bytes plan
 
--- What `run` says of the text of a script: a status and a text, of a lawful report of the script's callers.
-abbrev pub IsRunOf : List ℕ → Status → List ℕ → Type 0
-IsRunOf bytes status text = (plan : Plan) × IsScriptText Second bytes plan × IsRunOutput (IsFreshRunReport plan) Report status text
+-- What a form shows of the script that the bytes are the text of: a status and a text, of a report that is one for this script.
+abbrev pub IsShownOf : (Plan → Findings → Type 0) → Form → List ℕ → Status → List ℕ → Type 0
+IsShownOf IsReportFor form bytes status text = (plan : Plan) × IsScriptText Second bytes plan × IsRunOutput (IsReportFor plan) form status text
+
+-- What `run` says of the text of a script: a status and a text, of a lawful report of its callers, each in a thread,
+-- whose calls the object of the behaviour answered.
+abbrev pub IsRunOf : Behaviour → List ℕ → Status → List ℕ → Type 0
+IsRunOf behaviour bytes status text = IsShownOf (IsNamedRunReport behaviour) Report bytes status text
+
+-- What `replay` says of the text of a script: a status and a text, of a lawful report of its callers by its turns,
+-- whose calls the object of the behaviour answered.
+abbrev pub IsReplayOf : Behaviour → List ℕ → Status → List ℕ → Type 0
+IsReplayOf behaviour bytes status text = IsShownOf (IsNamedReplayReport behaviour) Report bytes status text
+
+-- What `certify` says of the text of a script: a status, and a certificate of what a lawful report of its callers, each in a thread,
+-- delivered.
+abbrev pub IsCertifiedOf : Behaviour → List ℕ → Status → List ℕ → Type 0
+IsCertifiedOf behaviour bytes status text = IsShownOf (IsNamedRunReport behaviour) Certificate bytes status text
+
+-- the script of a soak: 4 callers with 32 calls of a queue each, made from its number
+abbrev pub soak_plan : ℕ → Plan
+soak_plan number = generated number 4 32 Queue
+
+-- What `soak` says: a status and the three counts of a lawful report of the script made from its number.
+abbrev pub IsSoakOf : ℕ → Status → List ℕ → Type 0
+IsSoakOf number status text = IsRunOutput (IsNamedRunReport Lawful (soak_plan number)) Counts status text

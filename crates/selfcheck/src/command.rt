@@ -1,6 +1,6 @@
 ghost use Rattle.std.specs.Prelude.{◌≡◌, None, IfOk, IsOkAnd, IsTrue};
 
-use crate::arguments::behaviour_named;
+use crate::arguments::{behaviour_named, soak_number};
 use crate::subcommands::{may_be_parsed, parse};
 use book_base::NoMemory;
 use faulty_objects::Behaviour;
@@ -19,8 +19,14 @@ pub enum Command {
     Upgrade,
     /// Say whether a set book has a legal set order.
     Sets,
-    /// Run a script over the object of a behaviour, and write the report.
+    /// Run a script over the object of a behaviour, each caller in a thread, and write the report.
     Run(Behaviour),
+    /// Take a script's turns over the object of a behaviour, in one thread, and write the report.
+    Replay(Behaviour),
+    /// Run a script as [`Command::Run`] does, and write a certificate of what was delivered.
+    Certify(Behaviour),
+    /// Run the script made from this number over the lawful object, and write the report's counts.
+    Soak(u64),
 }
 
 impl Command {
@@ -63,6 +69,9 @@ impl Command {
     {
         match word {
             "run" => Some(Command::Run(behaviour_named(argument)?)),
+            "replay" => Some(Command::Replay(behaviour_named(argument)?)),
+            "certify" => Some(Command::Certify(behaviour_named(argument)?)),
+            "soak" => Some(Command::Soak(soak_number(argument)?)),
             _ => None,
         }
     }
@@ -73,7 +82,7 @@ impl Command {
         ensures { result ≡ has_argument word.now }
     {
         match word {
-            "run" => true,
+            "run" | "replay" | "certify" | "soak" => true,
             _ => false,
         }
     }
@@ -88,7 +97,10 @@ impl Command {
             | Command::Order
             | Command::Upgrade
             | Command::Sets
+            | Command::Replay(_)
+            | Command::Certify(_)
             | Command::Run(_) => true,
+            Command::Soak(_) => false,
         }
     }
 }

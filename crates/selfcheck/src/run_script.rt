@@ -4,31 +4,31 @@ ghost use Rattle.text_fields.specs.declared.version.Version.TheVariants.{Second}
 ghost use Rattle.byte_streams.specs.declared.TheConstants.{INPUT_LIMIT};
 ghost use Rattle.byte_streams.specs.Fault.{Rose};
 ghost use Rattle.selfcheck.specs.Output.{IsOutputOf};
+ghost use Rattle.selfcheck.specs.ScriptTasks.{command_for};
 ghost use Rattle.selfcheck.specs.Refusal.{IsReadFault};
 ghost use Rattle.byte_streams.specs.Writing.{EndsWriting};
 
-use crate::command::Command;
 use crate::input::check_length;
 use crate::output::Output;
+use crate::script_task::ScriptTask;
 use crate::write_output::write_told;
 use book_base::ReadFault;
 use byte_streams::{Sink, Status};
 use client_scripts::{Script, read_script};
 use faulty_objects::Behaviour;
-use named_runs::run_behaviour;
-use run_writer::Form;
 use std::alloc::Global;
 use std::thread::Threads;
 
-/// Does what `run` is for with the bytes read: runs their script over the object of a behaviour, and writes the report.
+/// Does a task with the script that the bytes read are the text of, over the object of a behaviour, and writes its output.
 pub(crate) fn run_script<R: Threads + Sync, K: Sink>(
     rt: &R,
     alloc: Global,
+    task: ScriptTask,
     behaviour: Behaviour,
     bytes: &[u8],
     sink: &mut K,
 ) -> Status
-    ensures ends { EndsWriting (IsOutputOf (Command.Run behaviour) bytes.now)
+    ensures ends { EndsWriting (IsOutputOf (command_for task behaviour) bytes.now)
         result (K.taken sink.old) (K.taken sink.new) }
     ensures fault { result ≡ Status.WriteFault → Rose (K.faults sink.old) (K.faults sink.new) }
     ensures calm { ¬ (result ≡ Status.WriteFault) → K.faults sink.new ≡ K.faults sink.old }
@@ -36,7 +36,7 @@ pub(crate) fn run_script<R: Threads + Sync, K: Sink>(
     ensures later { K.faults sink.old ≤ K.faults sink.new }
 {
     match read_input_script(alloc, bytes) {
-        Ok(script) => run_behaviour(rt, alloc, behaviour, &script, Form::Report, sink),
+        Ok(script) => task.carry_out(rt, alloc, behaviour, &script, sink),
         Err(ReadFault::Text(fault)) => write_told(Output::refusal(alloc, fault), sink),
         Err(ReadFault::NoMemory) => Status::NoMemory,
     }

@@ -1,4 +1,4 @@
-ghost use Rattle.std.specs.Prelude.{◌≡◌, ℕ, ◌⊎◌, ◌≤◌, List, Some, IsNone, IsSomeAnd, IfOk, IsErrOf, IsTrue};
+ghost use Rattle.std.specs.Prelude.{◌≡◌, ℕ, ◌⊎◌, ◌≤◌, List, [], Some, IsNone, IsSomeAnd, IfOk, IsErrOf, IsTrue};
 ghost use Rattle.std.specs.Io.KnownBytes.{Appends};
 ghost use Rattle.selfcheck.specs.declared.command.Command.{Command};
 ghost use Rattle.byte_streams.specs.declared.status.Status.{Status};
@@ -13,7 +13,9 @@ use crate::command::Command;
 use crate::draw::draw;
 use crate::order::order;
 use crate::run_script::run_script;
+use crate::script_task::ScriptTask;
 use crate::sets::sets;
+use crate::soak::soak;
 use crate::upgrade::upgrade;
 use crate::verify::verify;
 use crate::write_output::write_told;
@@ -33,6 +35,7 @@ fn read_for<S: Source>(
 ) -> Result<Vec<u8>, ReadAllError>
     ensures read { IfOk result (λ bytes. ReadsFor command (S.left source.old) (S.left source.new) bytes.items) }
     ensures unread { ¬ IsTrue (reads_source command) → source.new ≡ source.old }
+    ensures empty { IfOk result (λ bytes. ¬ IsTrue (reads_source command) → bytes.items ≡ []) }
     ensures later { S.faults source.old ≤ S.faults source.new }
     ensures cause { IsErrOf result ReadAllError.Fault → Rose (S.faults source.old) (S.faults source.new) }
     ensures calm { ¬ IsErrOf result ReadAllError.Fault → S.faults source.new ≡ S.faults source.old }
@@ -44,7 +47,7 @@ fn read_for<S: Source>(
     }
 }
 
-/// Does what a command is for with the bytes that it works on, and writes its output.
+/// Does what a command is for with the bytes that it works on, and writes its output. A command that reads no source has no bytes.
 fn answer<R: Threads + Sync, K: Sink>(
     rt: &R,
     alloc: Global,
@@ -52,6 +55,7 @@ fn answer<R: Threads + Sync, K: Sink>(
     bytes: &[u8],
     sink: &mut K,
 ) -> Status
+    requires { ¬ IsTrue (reads_source command) → bytes.now ≡ [] }
     ensures ends { EndsWriting (IsOutputOf command bytes.now) result (K.taken sink.old) (K.taken sink.new) }
     ensures fault { result ≡ Status.WriteFault → Rose (K.faults sink.old) (K.faults sink.new) }
     ensures calm { ¬ (result ≡ Status.WriteFault) → K.faults sink.new ≡ K.faults sink.old }
@@ -64,7 +68,16 @@ fn answer<R: Threads + Sync, K: Sink>(
         Command::Order => write_told(order(alloc, bytes), sink),
         Command::Upgrade => write_told(upgrade(alloc, bytes), sink),
         Command::Sets => write_told(sets(alloc, bytes), sink),
-        Command::Run(behaviour) => run_script(rt, alloc, behaviour, bytes, sink),
+        Command::Run(behaviour) => {
+            run_script(rt, alloc, ScriptTask::Run, behaviour, bytes, sink)
+        }
+        Command::Replay(behaviour) => {
+            run_script(rt, alloc, ScriptTask::Replay, behaviour, bytes, sink)
+        }
+        Command::Certify(behaviour) => {
+            run_script(rt, alloc, ScriptTask::Certify, behaviour, bytes, sink)
+        }
+        Command::Soak(number) => soak(rt, alloc, number, sink),
     }
 }
 

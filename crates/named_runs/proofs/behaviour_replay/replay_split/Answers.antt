@@ -1,4 +1,9 @@
-use Rattle.std.proofs.Common.{arith}
+use Rattle.std.proofs.Common.{[], arith}
+use Rattle.faulty_objects.specs.Passes.{deeds_of, pairs_in}
+use Rattle.faulty_objects.proofs.Forming.{splits_are_formed}
+use Rattle.lawful_objects.specs.Forms.{IsTallyReply}
+use Rattle.named_runs.proofs.AskedObjects.{named_from_told}
+use Rattle.named_runs.proofs.FreshRuns.{RunEnds-weaker}
 use Rattle.named_runs.proofs.OpenedPasses.{passes_count, opened_passes}
 use Rattle.named_runs.proofs.behaviour_replay.replay_split.Goals as goal
 
@@ -10,3 +15,12 @@ pub replay_fresh-requires-clause-passes : goal.replay_fresh-requires-clause-pass
 replay_fresh-requires-clause-passes g c =
     opened_passes _ _ _ _ _ _ c.args.script.now c.in-Ok.ensures.callers c.in-Ok.ensures.own
     (λ k d low. let new = c.in-Ok.ensures.fresh k d low in (new.made, new.cap)) c.callers.ensures.plan
+
+pub returns-clause-ends : goal.returns-clause-ends
+returns-clause-ends g c =
+    let after = c.replay_fresh.ensures in
+    RunEnds-weaker _ _ _ _ _ _
+    (λ report is.
+    named_from_told _ _ _ pairs_in _ c.args.script.now _ report (omega (arith, after.all_passes, c.replay_fresh.new.passes.ok.0)) after.passes is
+    _ IsTallyReply (λ pass own. splits_are_formed (pairs_in pass) [] (deeds_of pass.seat) own.calls) (λ formed. formed))
+    after.ends

@@ -16,5 +16,8 @@ run_and_write-status-requires-clause-unused g c κs within i low =
 pub returns-clause-ends : goal.returns-clause-ends
 returns-clause-ends g c =
     RunEnds-weaker _ _ _ _ _ _
-    (λ report is. report_lawful c.args.script.now _ _ _ report (outside_shapes _ _ _ (c.in-Ok.ensures.rows.0 ∙ c.callers.ensures.count) c.in-Ok.ensures.rows.1) is)
+    (λ report is. record {
+      report = report_lawful c.args.script.now _ _ _ report (outside_shapes _ _ _ (c.in-Ok.ensures.rows.0 ∙ c.callers.ensures.count) c.in-Ok.ensures.rows.1) is.report;
+      told_in = is.told_in;
+    })
     c.run_and_write-status.ensures.ends

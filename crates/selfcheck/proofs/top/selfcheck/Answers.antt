@@ -4,7 +4,7 @@ use Rattle.selfcheck.proofs.top.selfcheck.Goals as goal
 
 pub returns-in_default-clause-ends : goal.returns-in_default-clause-ends
 returns-in_default-clause-ends g c =
-    Ends-usage c.args.words.now _ (g.S.Source.left c.args.source.now) _ _ (sym c.in-Ok.ensures.command ∙ c.in_default.is) c.write_output.ensures.written
+    Ends-usage c.args.words.now _ (g.S.Source.left c.args.source.now) _ _ (sym c.in-Ok.ensures.command ∙ c.in_default.is) c.write_text.ensures.written
 
 pub returns-in-Ok-read_for-clause-ends : goal.returns-in-Ok-read_for-clause-ends
 returns-in-Ok-read_for-clause-ends g c =

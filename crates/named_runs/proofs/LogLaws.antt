@@ -1,0 +1,124 @@
+-- Lemmas on one log for all calls of a report.
+use Rattle.std.proofs.Common.{◌≡◌, ℕ, zero, suc, ◌<◌, ◌==◌, true, false, List, [], ◌∷◌, ◌++◌, length, map, take, Option, Some, None, slice_get, refl, sym, ap, ◌∙◌, subst, inl, inr, append_assoc, eq-eqb}
+use Rattle.std.specs.List.{filter, All}
+use Rattle.std.proofs.lemmas.Bool.{cases_Bool, cond-true, cond-false, eqb-true}
+use Rattle.std.proofs.lemmas.List.Elements.{All-head}
+use Rattle.std.proofs.lemmas.Option.{same_Some, none-some}
+use Rattle.list_laws.proofs.Places.{slice_get-take}
+use Rattle.list_laws.proofs.Fronts.{slice_get-take_below}
+use Rattle.shared_log.specs.declared.entry.Entry.{Entry}
+use Rattle.shared_log.specs.Entries.{calls_by, entry}
+use Rattle.shared_log.proofs.Logs.{calls_by-append, calls_by-own, All-behind}
+use Rattle.call_lines.specs.Phases.{asked, answered, operations_of, answers_in}
+use Rattle.reports.specs.Findings.{Findings}
+use Rattle.lawful_objects.specs.Pairs.{pairs_of, pairs_behind}
+use Rattle.lawful_objects.proofs.Pairing.{behind_own}
+use Rattle.named_runs.specs.NamedObjects.{calls_of_caller, phases_made, IsLoggedBy}
+use Rattle.named_runs.specs.LogLaws.{IsAnsweredIn, IsOfCall, AnswersComeFromTheLog, EntriesAreOfCalls}
+
+-- ---- a pair of a log stands there
+
+-- Call k of a caller stands in the rest of a log behind some front, and its reply is the answer to the log up to it.
+record Stands (answer : List Entry → ℕ) (i : ℕ) (front rest : List Entry) (k op reply : ℕ) : Type 0 where
+  before : List Entry
+  behind : List Entry
+  at : rest ≡ before ++ entry i op ∷ behind
+  number : length (calls_by i before) ≡ k
+  replied : reply ≡ answer (front ++ (before ++ entry i op ∷ []))
+
+-- an entry of a caller is the one that asks for its operation
+entry_is : (i : ℕ) (e : Entry) → (e.caller == i) ≡ true → e ≡ entry i e.op
+entry_is i e own = let same : e.caller ≡ i = eqb-true e.caller i own in λ j. record { caller = same j; op = e.op }
+
+-- the entries of a caller in a log, with one more in front
+calls_with_own : (i : ℕ) (e : Entry) (log : List Entry) → (e.caller == i) ≡ true → calls_by i (e ∷ log) ≡ e.op ∷ calls_by i log
+calls_with_own i e log own =
+    ap (λ (l : List Entry). map (λ (d : Entry). d.op) l) (cond-true (e.caller == i) (e ∷ filter (λ (d : Entry). d.caller == i) log) (filter (λ (d : Entry). d.caller == i) log) own)
+
+calls_with_other : (i : ℕ) (e : Entry) (log : List Entry) → (e.caller == i) ≡ false → calls_by i (e ∷ log) ≡ calls_by i log
+calls_with_other i e log other =
+    ap (λ (l : List Entry). map (λ (d : Entry). d.op) l) (cond-false (e.caller == i) (e ∷ filter (λ (d : Entry). d.caller == i) log) (filter (λ (d : Entry). d.caller == i) log) other)
+
+module _ (answer : List Entry → ℕ) (i : ℕ) where
+  -- the entry of another in front has no pair
+  behind_other : (front rest : List Entry) (e : Entry) → (e.caller == i) ≡ false → pairs_behind answer i front (e ∷ rest) ≡ pairs_behind answer i (front ++ e ∷ []) rest
+  behind_other front rest e other = cond-false (e.caller == i) _ _ other
+
+  -- with one entry more in front it still stands there
+  later : (front rest : List Entry) (e : Entry) (j k op reply : ℕ) (s : Stands answer i (front ++ e ∷ []) rest k op reply)
+      → length (calls_by i (e ∷ s.before)) ≡ j → Stands answer i front (e ∷ rest) j op reply
+  later front rest e j k op reply s count =
+      record {
+        before = e ∷ s.before;
+        behind = s.behind;
+        at = ap (λ (log : List Entry). e ∷ log) s.at;
+        number = count;
+        replied = s.replied ∙ ap answer (append_assoc front (e ∷ []) (s.before ++ entry i op ∷ []));
+      }
+
+  -- the first pair is that of the entry in front, where that is the caller's
+  first_or_later : (front rest : List Entry) (e : Entry) (op reply : ℕ) → (e.caller == i) ≡ true
+      → ((k : ℕ) → slice_get (pairs_behind answer i (front ++ e ∷ []) rest) k ≡ Some (op, reply) → Stands answer i (front ++ e ∷ []) rest k op reply)
+      → (k : ℕ) → slice_get ((e.op, answer (front ++ e ∷ [])) ∷ pairs_behind answer i (front ++ e ∷ []) rest) k ≡ Some (op, reply) → Stands answer i front (e ∷ rest) k op reply
+  first_or_later front rest e op reply own others zero there =
+      let same : ◌≡◌ {A = ℕ × ℕ} (e.op, answer (front ++ e ∷ [])) (op, reply) = same_Some (e.op, answer (front ++ e ∷ [])) (op, reply) there in
+      let is : e ≡ entry i op = entry_is i e own ∙ ap (λ (pair : ℕ × ℕ). entry i pair.0) same in
+      record {
+        before = [];
+        behind = rest;
+        at = ap (λ (d : Entry). d ∷ rest) is;
+        number = refl;
+        replied = sym (ap (λ (pair : ℕ × ℕ). pair.1) same) ∙ ap (λ (d : Entry). answer (front ++ d ∷ [])) is;
+      }
+  first_or_later front rest e op reply own others (suc k) there =
+      let s = others k there in
+      later front rest e (suc k) k op reply s (ap (λ (l : List ℕ). length l) (calls_with_own i e s.before own) ∙ ap suc s.number)
+
+  pair_stands : (front rest : List Entry) (k op reply : ℕ) → slice_get (pairs_behind answer i front rest) k ≡ Some (op, reply) → Stands answer i front rest k op reply
+  pair_stands front [] k op reply there = absurd (none-some (op, reply) there)
+  pair_stands front (e ∷ rest) k op reply there = elim (cases_Bool (e.caller == i)) [
+    | inl own ↦
+        first_or_later front rest e op reply own (λ j at. pair_stands (front ++ e ∷ []) rest j op reply at) k
+        (sym (ap (λ (pairs : List (ℕ × ℕ)). slice_get pairs k) (behind_own answer i front rest e own)) ∙ there)
+    | inr other ↦
+        let s = pair_stands (front ++ e ∷ []) rest k op reply (sym (ap (λ (pairs : List (ℕ × ℕ)). slice_get pairs k) (behind_other front rest e other)) ∙ there) in
+        later front rest e k k op reply s (ap (λ (l : List ℕ). length l) (calls_with_other i e s.before other) ∙ s.number)
+  ]
+
+-- each answered call of a report stands in the log, and was answered from the log up to it
+pub answers_come_from_the_log : AnswersComeFromTheLog
+answers_come_from_the_log answer allotments findings logged i k op reply low there =
+    let pairs : List (ℕ × ℕ) = pairs_of answer logged.log i in
+    let told : slice_get (take (answered (phases_made allotments findings i)) pairs) k ≡ Some (op, reply) =
+    ap (λ (ps : List (ℕ × ℕ)). slice_get ps k) (logged.replies i low) ∙ there in
+    let s = pair_stands answer i [] logged.log k op reply (slice_get-take (answered (phases_made allotments findings i)) pairs k (op, reply) told) in
+    record { before = s.before; behind = s.behind; at = s.at; number = s.number; replied = s.replied }
+
+-- ---- an entry of a log is of a call
+
+-- what stands between two lists stands at the length of the first
+slice_get-middle : {X : Type 0} (xs : List X) (y : X) (ys : List X) → slice_get (xs ++ y ∷ ys) (length xs) ≡ Some y
+slice_get-middle [] y ys = refl
+slice_get-middle (x ∷ xs) y ys = slice_get-middle xs y ys
+
+-- the call of an entry is the next one of its caller
+next_call : (before behind : List Entry) (e : Entry) → slice_get (calls_by e.caller (before ++ e ∷ behind)) (length (calls_by e.caller before)) ≡ Some e.op
+next_call before behind e =
+    ap (λ (ops : List ℕ). slice_get ops (length (calls_by e.caller before)))
+    (calls_by-append e.caller before (e ∷ behind) ∙ ap (λ (ops : List ℕ). calls_by e.caller before ++ ops) (calls_with_own e.caller e behind (eq-eqb e.caller e.caller refl)))
+    ∙ slice_get-middle (calls_by e.caller before) e.op (calls_by e.caller behind)
+
+-- each entry of the log is of a call of the report
+pub entries_are_of_calls : EntriesAreOfCalls
+entries_are_of_calls answer allotments findings logged before behind e at =
+    let caller : e.caller < length findings.lines =
+    All-head (λ (d : Entry). d.caller < length findings.lines) e behind
+    (All-behind (λ (d : Entry). d.caller < length findings.lines) before (e ∷ behind) (subst (λ (l : List Entry). All (λ (d : Entry). d.caller < length findings.lines) l) at logged.callers)) in
+    let n : ℕ = asked (phases_made allotments findings e.caller) in
+    let there : slice_get (take n (operations_of (calls_of_caller findings e.caller))) (length (calls_by e.caller before)) ≡ Some e.op =
+    ap (λ (ops : List ℕ). slice_get ops (length (calls_by e.caller before))) (sym (logged.entries e.caller caller) ∙ ap (calls_by e.caller) at) ∙ next_call before behind e in
+    record {
+      caller = caller;
+      asked_for = slice_get-take_below n (operations_of (calls_of_caller findings e.caller)) (length (calls_by e.caller before)) e.op there;
+      operation = slice_get-take n (operations_of (calls_of_caller findings e.caller)) (length (calls_by e.caller before)) e.op there;
+    }

@@ -1,0 +1,40 @@
+-- What is written of a task with a script is an output of its command, and what is written of a soak's run one of the soak.
+use Rattle.std.proofs.Common.{◌≡◌, ℕ, ◌≤◌, List, [], length, Option, refl, subst, arith}
+use Rattle.client_scripts.specs.Plans.{Plan}
+use Rattle.client_scripts.specs.ScriptRules.{IsScriptText}
+use Rattle.text_fields.specs.declared.version.Version.TheVariants.{Second}
+use Rattle.byte_streams.specs.declared.status.Status.{Status}
+use Rattle.byte_streams.specs.declared.TheConstants.{INPUT_LIMIT}
+use Rattle.byte_streams.specs.Writing.{EndsWriting}
+use Rattle.faulty_objects.specs.declared.behaviour.Behaviour.{Behaviour}
+use Rattle.faulty_objects.specs.declared.behaviour.Behaviour.TheVariants.{Lawful}
+use Rattle.run_writer.specs.declared.form.Form.TheVariants.{Counts}
+use Rattle.run_writer.specs.Runs.{IsRunOutput, RunEnds}
+use Rattle.selfcheck.specs.declared.command.Command.TheVariants.{Soak}
+use Rattle.selfcheck.specs.declared.script_task.ScriptTask.{ScriptTask}
+use Rattle.selfcheck.specs.declared.script_task.ScriptTask.TheVariants.{Run, Replay, Certify}
+use Rattle.selfcheck.specs.Output.{IsAnswerOf, IsOutputOf}
+use Rattle.named_runs.specs.BehaviourRuns.{IsNamedRunReport}
+use Rattle.selfcheck.specs.ScriptInput.{soak_plan}
+use Rattle.selfcheck.specs.ScriptTasks.{command_for, IsReportBy, form_by}
+use Rattle.selfcheck.proofs.OutputLemmas.{EndsWriting-answer}
+
+-- what is written of a task with an input's script is an answer of its command: one case a task
+task_answer : (task : ScriptTask) (behaviour : Behaviour) (bytes : List ℕ) (plan : Plan) → IsScriptText Second bytes plan
+    → (status : Status) (text : List ℕ) → IsRunOutput (IsReportBy task behaviour plan) (form_by task) status text → IsAnswerOf (command_for task behaviour) bytes status text
+task_answer Run behaviour bytes plan told status text output = (plan, told, output)
+task_answer Replay behaviour bytes plan told status text output = (plan, told, output)
+task_answer Certify behaviour bytes plan told status text output = (plan, told, output)
+
+pub EndsWriting-task : (task : ScriptTask) (behaviour : Behaviour) (bytes : List ℕ) (plan : Plan) (result : Status) (taken taken' : Option (List ℕ))
+    → length bytes ≤ INPUT_LIMIT → IsScriptText Second bytes plan → RunEnds (IsReportBy task behaviour plan) (form_by task) result taken taken'
+    → EndsWriting (IsOutputOf (command_for task behaviour) bytes) result taken taken'
+EndsWriting-task task behaviour bytes plan result taken taken' short told ends =
+    EndsWriting-answer (command_for task behaviour) bytes (IsRunOutput (IsReportBy task behaviour plan) (form_by task)) result taken taken' short
+    (task_answer task behaviour bytes plan told) ends
+
+pub EndsWriting-soak : (number : ℕ) (plan : Plan) (result : Status) (taken taken' : Option (List ℕ)) → plan ≡ soak_plan number
+    → RunEnds (IsNamedRunReport Lawful plan) Counts result taken taken' → EndsWriting (IsOutputOf (Soak number) []) result taken taken'
+EndsWriting-soak number plan result taken taken' same ends =
+    EndsWriting-answer (Soak number) [] (IsRunOutput (IsNamedRunReport Lawful plan) Counts) result taken taken' (omega arith)
+    (λ status text output. (refl, subst (λ (p : Plan). IsRunOutput (IsNamedRunReport Lawful p) Counts status text) same output)) ends

@@ -1,0 +1,50 @@
+ghost use Rattle.std.specs.Prelude.{◌≡◌, ◌≤◌};
+ghost use Rattle.byte_streams.specs.Fault.{Rose};
+ghost use Rattle.run_writer.specs.Runs.{RunEnds};
+ghost use Rattle.selfcheck.specs.ScriptTasks.{IsReportBy, form_by};
+
+use byte_streams::{Sink, Status};
+use client_scripts::Script;
+use faulty_objects::Behaviour;
+use named_runs::{replay_behaviour, run_behaviour};
+use run_writer::Form;
+use std::alloc::Global;
+use std::thread::Threads;
+
+/// What a command does with the script of an input.
+#[derive(Clone, Copy, Debug, PartialEq, Eq)]
+pub(crate) enum ScriptTask {
+    /// Run it, each caller in a thread, and write the report.
+    Run,
+    /// Take its turns in one thread, and write the report.
+    Replay,
+    /// Run it, each caller in a thread, and write a certificate of what was delivered.
+    Certify,
+}
+
+impl ScriptTask {
+    /// Does this with a script, over the object of a behaviour.
+    pub(crate) fn carry_out<R: Threads + Sync, K: Sink>(
+        self,
+        rt: &R,
+        alloc: Global,
+        behaviour: Behaviour,
+        script: &Script,
+        sink: &mut K,
+    ) -> Status
+        ensures ends { RunEnds (IsReportBy self behaviour script.now) (form_by self)
+            result (K.taken sink.old) (K.taken sink.new) }
+        ensures fault { result ≡ Status.WriteFault → Rose (K.faults sink.old) (K.faults sink.new) }
+        ensures calm { ¬ (result ≡ Status.WriteFault) → K.faults sink.new ≡ K.faults sink.old }
+        ensures unwritten { result ≡ Status.NoMemory → sink.new ≡ sink.old }
+        ensures later { K.faults sink.old ≤ K.faults sink.new }
+    {
+        match self {
+            ScriptTask::Run => run_behaviour(rt, alloc, behaviour, script, Form::Report, sink),
+            ScriptTask::Replay => replay_behaviour(alloc, behaviour, script, Form::Report, sink),
+            ScriptTask::Certify => {
+                run_behaviour(rt, alloc, behaviour, script, Form::Certificate, sink)
+            }
+        }
+    }
+}

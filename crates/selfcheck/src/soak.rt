@@ -1,0 +1,42 @@
+ghost use Rattle.std.specs.Prelude.{◌≡◌, ◌≤◌, []};
+ghost use Rattle.byte_streams.specs.Fault.{Rose};
+ghost use Rattle.byte_streams.specs.Writing.{EndsWriting};
+ghost use Rattle.selfcheck.specs.Output.{IsOutputOf};
+
+use crate::command::Command;
+use book_base::NoMemory;
+use byte_streams::{Sink, Status};
+use client_scripts::make_script;
+use faulty_objects::Behaviour;
+use named_runs::run_behaviour;
+use run_writer::Form;
+use seq_objects::Kind;
+use std::alloc::Global;
+use std::thread::Threads;
+
+/// How many callers the script of a soak has.
+const CALLERS: u32 = 4;
+
+/// How many calls each of them makes.
+const CALLS: u64 = 32;
+
+/// Does what `soak` is for: runs the script made from its number over the lawful object, each caller in a thread, and writes the
+/// three counts of the report.
+pub(crate) fn soak<R: Threads + Sync, K: Sink>(
+    rt: &R,
+    alloc: Global,
+    number: u64,
+    sink: &mut K,
+) -> Status
+    ensures ends { EndsWriting (IsOutputOf (Command.Soak number) [])
+        result (K.taken sink.old) (K.taken sink.new) }
+    ensures fault { result ≡ Status.WriteFault → Rose (K.faults sink.old) (K.faults sink.new) }
+    ensures calm { ¬ (result ≡ Status.WriteFault) → K.faults sink.new ≡ K.faults sink.old }
+    ensures unwritten { result ≡ Status.NoMemory → sink.new ≡ sink.old }
+    ensures later { K.faults sink.old ≤ K.faults sink.new }
+{
+    match make_script(alloc, number, CALLERS, CALLS, Kind::Queue) {
+        Ok(script) => run_behaviour(rt, alloc, Behaviour::Lawful, &script, Form::Counts, sink),
+        Err(NoMemory) => Status::NoMemory,
+    }
+}
