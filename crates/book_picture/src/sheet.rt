@@ -90,7 +90,7 @@ impl Sheet<'_> {
             "<text class=\"note\" x=\"{MARGIN}\" y=\"44\">{kind}: a bar begins where its call is first \
              seen invoked, and ends with its return.</text>\n\
              <text class=\"note\" x=\"{MARGIN}\" y=\"62\">Where a bar with a reply ends left of another, \
-             its call returned before the other was invoked.</text>\n"
+             its call precedes the other.</text>\n"
         )?;
         Ok(())
     }

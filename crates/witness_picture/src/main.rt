@@ -1,6 +1,10 @@
 //! The program: it reads a book, and writes its picture.
 #![tactic(auto)]
 
+ghost use Rattle.std.specs.Prelude.{◌≡◌, ◌⊎◌, string_bytes, IfOk, IfErr};
+ghost use Rattle.byte_streams.specs.Fault.{Rose};
+ghost use Rattle.witness_picture.specs.Output.{IsPictureOf, IsNoPicture};
+
 use book_base::{NoMemory, ReadFault, TextFault, What};
 use book_picture::draw_book;
 use book_text::read_book;
@@ -13,7 +17,10 @@ use std::process::ExitCode;
 use text_refusals::refusal;
 
 // The picture of the book that the bytes are the text of.
-fn picture(alloc: Global, bytes: &[u8]) -> Result<String, ReadFault> {
+fn picture(alloc: Global, bytes: &[u8]) -> Result<String, ReadFault>
+    ensures shown { IfOk result (λ text. IsPictureOf bytes.now (string_bytes text)) }
+    ensures refused { IfErr result (IsNoPicture bytes.now) }
+{
     if bytes.len() > INPUT_LIMIT {
         return Err(ReadFault::Text(TextFault {
             line: 0,
@@ -26,7 +33,12 @@ fn picture(alloc: Global, bytes: &[u8]) -> Result<String, ReadFault> {
 }
 
 // Reads the source, and writes the picture of its book, or why it is no book's text.
-fn answer<S: Source, K: Sink>(alloc: Global, source: &mut S, sink: &mut K) -> Status {
+fn answer<S: Source, K: Sink>(alloc: Global, source: &mut S, sink: &mut K) -> Status
+    ensures read_fault { result ≡ Status.ReadFault
+        → Rose (S.faults source.old) (S.faults source.new) }
+    ensures write_fault { result ≡ Status.WriteFault
+        → Rose (K.faults sink.old) (K.faults sink.new) }
+{
     let bytes = match read_all(alloc, source) {
         Ok(bytes) => bytes,
         Err(ReadAllError::Fault) => return Status::ReadFault,
@@ -40,7 +52,12 @@ fn answer<S: Source, K: Sink>(alloc: Global, source: &mut S, sink: &mut K) -> St
 }
 
 // Writes why the input is no book's text.
-fn refuse<K: Sink>(alloc: Global, fault: TextFault, sink: &mut K) -> Status {
+fn refuse<K: Sink>(alloc: Global, fault: TextFault, sink: &mut K) -> Status
+    ensures status { (result ≡ Status.Refused) ⊎ (result ≡ Status.WriteFault)
+        ⊎ (result ≡ Status.NoMemory) }
+    ensures write_fault { result ≡ Status.WriteFault
+        → Rose (K.faults sink.old) (K.faults sink.new) }
+{
     match refusal(alloc, fault) {
         Ok(text) => write_text(sink, Status::Refused, &text),
         Err(NoMemory) => Status::NoMemory,

@@ -1,0 +1,31 @@
+-- What the program writes of an input.
+use Rattle.std.specs.Prelude.{◌≡◌, ◌⊎◌, ℕ, ◌<◌, ◌≤◌, List, length}
+use Rattle.book_base.specs.declared.fault.TextFault.{TextFault}
+use Rattle.book_base.specs.declared.fault.ReadFault.{ReadFault}
+use Rattle.book_base.specs.declared.fault.ReadFault.TheVariants.{Text, NoMemory}
+use Rattle.book_base.specs.declared.fault.What.TheVariants.{Long}
+use Rattle.book_base.specs.Book.{Page}
+use Rattle.seq_objects.specs.declared.kind.Kind.{Kind}
+use Rattle.text_fields.specs.declared.version.Version.TheVariants.{Second}
+use Rattle.book_text.specs.BookRules.{IsBookText, IsFirstBookFault}
+use Rattle.byte_streams.specs.declared.TheConstants.{INPUT_LIMIT}
+use Rattle.book_picture.specs.Elements.{ShowsEachCall}
+
+-- the bytes are the text of a book, and the text is a picture of it
+pub record IsPictureOf (bytes text : List ℕ) : Type 0 where
+  pub kind : Kind
+  pub book : List Page
+  pub short : length bytes ≤ INPUT_LIMIT
+  pub told : IsBookText Second bytes kind book
+  pub shown : ShowsEachCall book text
+
+-- The input is refused for this fault: there are too many bytes, or else it is the first fault of the bytes as a book's text.
+abbrev pub IsRefusedFor : List ℕ → TextFault → Type 0
+IsRefusedFor bytes fault =
+    ((INPUT_LIMIT < length bytes) × (fault ≡ record { line = 0; what = Long }))
+    ⊎ ((length bytes ≤ INPUT_LIMIT) × IsFirstBookFault Second bytes fault)
+
+-- why no picture is made of the bytes: their fault, or want of memory
+abbrev pub IsNoPicture : List ℕ → ReadFault → Type 0
+IsNoPicture bytes (Text fault) = IsRefusedFor bytes fault
+IsNoPicture bytes NoMemory = Unit {0}
