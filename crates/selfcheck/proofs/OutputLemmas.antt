@@ -23,7 +23,7 @@ use Rattle.run_writer.specs.declared.form.Form.TheVariants.{Report, Counts, Cert
 use Rattle.named_runs.specs.BehaviourReplays.{IsNamedReplayReport}
 use Rattle.named_runs.specs.BehaviourRuns.{IsNamedRunReport}
 use Rattle.selfcheck.specs.ScriptInput.{soak_plan}
-use Rattle.selfcheck.specs.Input.{refusal_text}
+use Rattle.text_refusals.specs.Refusal.{refusal_text}
 use Rattle.selfcheck.specs.Output.{Form, BookForm, CertificateForm, OldForm, SetForm, ScriptForm, NoForm, form_of, IsTextOf, IsFirstFaultOf, IsTaken, IsVerdict, IsSketchText, IsDrawn, IsJudgement, IsRewritten, IsSetVerdict, IsAnswerOf, IsRefusal, IsOutputOf, HasOneStatus, IsDetermined, RefuseWhatIsNotTaken, IsOutput, ReadsFor, Reads, Ends, IsUnfinished, input_of}
 use Rattle.selfcheck.specs.Orders.{order_fault_text}
 use Rattle.byte_streams.specs.Told.{AppendsPart}

@@ -1,9 +1,8 @@
 -- What the bytes of an input say of a book.
-use Rattle.std.specs.Prelude.{◌≡◌, ◌⊎◌, ℕ, ◌<◌, ◌≤◌, List, ◌++◌, length, codes, decimal}
+use Rattle.std.specs.Prelude.{◌≡◌, ◌⊎◌, ℕ, ◌<◌, ◌≤◌, List, length}
 use Rattle.book_base.specs.declared.fault.TextFault.{TextFault}
 use Rattle.book_base.specs.declared.fault.What.TheVariants.{Long}
 use Rattle.book_base.specs.Book.{Page}
-use Rattle.selfcheck.specs.FaultName.{fault_name}
 use Rattle.book_base.specs.Order.{HasLegalOrder}
 use Rattle.book_text.specs.BookRules.{IsBookText}
 use Rattle.seq_objects.specs.declared.kind.Kind.{Kind}
@@ -33,7 +32,3 @@ abbrev pub IsRefusedFor : (List ℕ → TextFault → Type 0) → List ℕ → T
 IsRefusedFor IsFirst bytes fault =
     ((INPUT_LIMIT < length bytes) × (fault ≡ record { line = 0; what = Long }))
     ⊎ ((length bytes ≤ INPUT_LIMIT) × IsFirst bytes fault)
-
--- what is written of a refused input: the line and the name of the fault
-unfoldable pub refusal_text : TextFault → List ℕ
-refusal_text fault = codes "refused " ++ decimal fault.line ++ codes " " ++ fault_name fault.what ++ codes "\n"

@@ -1,7 +1,6 @@
 pub mod Arguments
 pub mod Command
 pub mod CommandLine
-pub mod FaultName
 pub mod Input
 pub mod Orders
 pub mod Output

@@ -14,6 +14,7 @@ use Rattle.setbook_text.specs.SetBookRules.{IsFirstSetBookFault}
 use Rattle.sketch.specs.declared.event.Event.{Event}
 use Rattle.sketch.specs.Sketch.{IsSketch}
 use Rattle.text_fields.specs.Lines.{text_of}
+use Rattle.text_refusals.specs.Refusal.{refusal_text}
 use Rattle.text_fields.specs.declared.version.Version.TheVariants.{Second}
 use Rattle.selfcheck.specs.declared.command.Command.{Command}
 use Rattle.selfcheck.specs.declared.command.Command.TheVariants.{Verify, Sketch, Order, Upgrade, Sets, Run, Replay, Certify, Soak}
@@ -21,7 +22,7 @@ use Rattle.byte_streams.specs.declared.status.Status.{Status}
 use Rattle.byte_streams.specs.declared.status.Status.TheVariants.{Fine, Found, Usage, Refused, ReadFault, WriteFault, NoMemory}
 use Rattle.byte_streams.specs.declared.TheConstants.{INPUT_LIMIT}
 use Rattle.selfcheck.specs.Command.{command_of, reads_source}
-use Rattle.selfcheck.specs.Input.{Tells, IsBookInput, IsLegalInput, IsIllegalInput, IsRefusedFor, refusal_text}
+use Rattle.selfcheck.specs.Input.{Tells, IsBookInput, IsLegalInput, IsIllegalInput, IsRefusedFor}
 use Rattle.selfcheck.specs.Orders.{IsCertificateInput, IsLegalCertificate, IsFaultyCertificate, order_fault_text}
 use Rattle.selfcheck.specs.ScriptInput.{IsScriptInput, IsRunOf, IsReplayOf, IsCertifiedOf, IsSoakOf}
 use Rattle.selfcheck.specs.SetInput.{IsSetInput, IsLegalSetInput, IsIllegalSetInput}

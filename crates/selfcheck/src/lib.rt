@@ -4,7 +4,6 @@
 mod arguments;
 mod command;
 mod draw;
-mod fault_name;
 mod input;
 mod laws;
 mod order;

@@ -1,11 +1,10 @@
 ghost use Rattle.std.specs.Prelude.{◌≡◌, IfOk};
-ghost use Rattle.selfcheck.specs.Input.{refusal_text};
+ghost use Rattle.text_refusals.specs.Refusal.{refusal_text};
 
-use crate::fault_name::name_of;
 use book_base::{NoMemory, TextFault};
 use byte_streams::Status;
-use seq_objects::put_number;
 use std::alloc::Global;
+use text_refusals::refusal;
 
 /// The output of a command: what the program writes, and the status that it then ends with.
 #[derive(Debug, Drop)]
@@ -24,16 +23,11 @@ impl Output {
     }
 
     /// The output for an input that is refused for this fault.
-    #[tactic(auto, unfolding(crate::specs::Input::refusal_text))]
     pub(crate) fn refusal(alloc: Global, fault: TextFault) -> Result<Output, NoMemory>
         ensures status { IfOk result (λ output. output.status ≡ Status.Refused) }
         ensures text { IfOk result (λ output. output.text.items ≡ refusal_text fault) }
     {
-        let mut text = b"refused ".to_vec(alloc)?;
-        put_number(&mut text, fault.line)?;
-        text.extend_from_slice(b" ")?;
-        text.extend_from_slice(name_of(fault.what).as_bytes())?;
-        text.extend_from_slice(b"\n")?;
+        let text = refusal(alloc, fault)?;
         Ok(Output {
             status: Status::Refused,
             text,
