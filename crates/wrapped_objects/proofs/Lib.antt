@@ -1,3 +1,2 @@
 pub mod Calling
 pub mod Possible
-pub mod Passing
