@@ -1,5 +1,5 @@
 -- Which words a register and a queue know.
-use Rattle.std.proofs.Common.{◌≡◌, ℕ, ◌*◌, ◌%◌, ◌^◌, ◌==◌, ◌&&◌, Bool, true, false, true≢false, List, [], ◌∷◌, find, Some, None, is_some, inl, inr, ◌⊎◌, sym, ap, ◌∙◌, arith}
+use Rattle.std.proofs.Common.{◌≡◌, ℕ, ◌*◌, ◌%◌, ◌^◌, ◌==◌, ◌&&◌, Bool, true, true≢false, List, [], ◌∷◌, find, Some, is_some, inl, inr, ◌⊎◌, sym, ap, ◌∙◌, arith}
 use Rattle.std.proofs.lemmas.Bool.{cases_Bool, cond-false, and_parts, eqb-true}
 use Rattle.seq_objects.specs.Words.{with_argument, name_alone, is_operation_of, code_of, argument_of, extra_of, word_of, is_known_word, entry_of, entries}
 use Rattle.seq_objects.specs.declared.kind.Kind.TheVariants.{Queue, Register}

@@ -1,5 +1,5 @@
 -- Replies that operations can have.
-use Rattle.std.proofs.Common.{◌≡◌, ℕ, ◌^◌, ◌<◌, ◌==◌, true, false, true≢false, [], ◌∷◌, Some, None, inl, inr, sym, ap, subst, refl, ◌∙◌, arith}
+use Rattle.std.proofs.Common.{◌≡◌, ℕ, ◌^◌, ◌<◌, ◌==◌, true, false, true≢false, [], ◌∷◌, inl, inr, sym, ap, subst, refl, arith}
 use Rattle.std.proofs.lemmas.Bool.{cond-true, and_from, eq-eqb}
 use Rattle.book_base.specs.declared.TheConstants.{BAD}
 use Rattle.seq_objects.specs.declared.kind.Kind.{Kind}
@@ -8,8 +8,8 @@ use Rattle.seq_objects.specs.Words as words
 use Rattle.seq_objects.specs.Words.{is_operation_of, code_of, extra_of, word_of, is_known_word, entry_of, entries}
 use Rattle.seq_objects.specs.Replies.{reply_done, reply_value}
 use Rattle.seq_objects.specs.Objects.{kind_next, kind_next-unknown}
-use Rattle.seq_objects.specs.RegisterSteps.{register_operation, register_after}
-use Rattle.seq_objects.specs.CounterSteps.{counter_operation, counter_after}
+use Rattle.seq_objects.specs.RegisterSteps.{register_after}
+use Rattle.seq_objects.specs.CounterSteps.{counter_after}
 use Rattle.seq_objects.proofs.Arguments.{word_of-parts}
 use Rattle.wrapped_objects.specs.Replies.{IsPossible}
 use Rattle.wrapped_objects.proofs.Calling.{found-first}

@@ -1,4 +1,4 @@
-use Rattle.std.proofs.Common.{◌≡◌, ◌∙◌, sym, subst}
+use Rattle.std.proofs.Common.{◌∙◌, sym, subst}
 use Rattle.seq_objects.specs.declared.kind.Kind.TheVariants.{Counter}
 use Rattle.wrapped_objects.specs.Replies.{IsPossible}
 use Rattle.wrapped_objects.proofs.Possible.{unknown-possible, increment-possible}

@@ -1,4 +1,4 @@
-use Rattle.std.proofs.Common.{◌≡◌, ◌∙◌, sym, ap, subst, rules}
+use Rattle.std.proofs.Common.{◌∙◌, sym, ap, subst, rules}
 use Rattle.seq_objects.specs.declared.kind.Kind.TheVariants.{Register}
 use Rattle.wrapped_objects.specs.Calls.{register_word}
 use Rattle.wrapped_objects.specs.Replies.{IsPossible}
