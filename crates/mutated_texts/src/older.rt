@@ -1,6 +1,6 @@
 //! Texts that the library reads and doesn't write: those of version 1, and set books. They are written here, to be compared.
 
-ghost use Rattle.std.specs.Prelude.{length};
+ghost use Rattle.std.specs.Prelude.{◌<◌, length};
 ghost use Rattle.book_base.specs.Book.{IsCall};
 
 use book_base::{Book, Call, Cut, NoMemory, OpWord, ReadFault, low};

@@ -20,10 +20,43 @@ pub struct Enforced {
 /// What one of the two calls is to find.
 #[derive(Clone, Copy)]
 struct Wanted {
+    caller: u32,
     reply: u64,
     view: (u64, u64),
     seen: (u64, u64),
 }
+
+/// An enqueue that comes before the dequeue, and what the dequeue finds.
+const ENQUEUE_FIRST: [Wanted; 2] = [
+    Wanted {
+        caller: 0,
+        reply: DONE,
+        view: (1, 0),
+        seen: (1, 0),
+    },
+    Wanted {
+        caller: 1,
+        reply: VALUE_5,
+        view: (1, 1),
+        seen: (1, 1),
+    },
+];
+
+/// A dequeue that comes before the enqueue.
+const DEQUEUE_FIRST: [Wanted; 2] = [
+    Wanted {
+        caller: 1,
+        reply: NONE,
+        view: (0, 1),
+        seen: (0, 1),
+    },
+    Wanted {
+        caller: 0,
+        reply: DONE,
+        view: (1, 1),
+        seen: (1, 1),
+    },
+];
 
 impl Enforced {
     /// Calls that are made in these turns.
@@ -49,76 +82,43 @@ impl Enforced {
             return Came::Wrong;
         }
         if self.turns == Turns::DequeueFirst {
-            let first = Wanted {
-                reply: NONE,
-                view: (0, 1),
-                seen: (0, 1),
-            };
-            let second = Wanted {
-                reply: DONE,
-                view: (1, 1),
-                seen: (1, 1),
-            };
-            came_of(
-                dequeue,
-                first,
-                enqueue,
-                second,
-                &[place(1, NONE), place(0, DONE)],
-            )
+            came_of(dequeue, enqueue, DEQUEUE_FIRST)
         } else {
-            let first = Wanted {
-                reply: DONE,
-                view: (1, 0),
-                seen: (1, 0),
-            };
-            let second = Wanted {
-                reply: VALUE_5,
-                view: (1, 1),
-                seen: (1, 1),
-            };
-            came_of(
-                enqueue,
-                first,
-                dequeue,
-                second,
-                &[place(0, DONE), place(1, VALUE_5)],
-            )
+            came_of(enqueue, dequeue, ENQUEUE_FIRST)
         }
     }
 }
 
-// What came of two calls, the one behind the other, whose records explain one another by this order.
-fn came_of(first: &Found, a: Wanted, second: &Found, b: Wanted, order: &[Place]) -> Came {
-    let front = order.get(..1).unwrap_or(order);
-    if !is_right(first, a, front) || !is_right(second, b, order) {
+impl Wanted {
+    // Whether a call found this: its reply is delivered with this order, or it wasn't judged.
+    fn is_found(&self, found: &Found, order: &[Place]) -> bool {
+        let is_ended = match &found.end {
+            End::Delivered(places) => found.live && places.as_slice() == order,
+            End::Illegal => false,
+            End::Unjudged => !found.live,
+        };
+        is_ended && found.reply == self.reply && found.view == self.view && found.seen == self.seen
+    }
+
+    fn place(&self) -> Place {
+        Place {
+            caller: self.caller,
+            number: 0,
+            reply: self.reply,
+        }
+    }
+}
+
+// What came of two calls, the one behind the other. Whatever became of the first, its record is in the order of the second.
+fn came_of(first: &Found, second: &Found, wanted: [Wanted; 2]) -> Came {
+    let [a, b] = wanted;
+    let order = [a.place(), b.place()];
+    if !a.is_found(first, &order[..1]) || !b.is_found(second, &order) {
         return Came::Wrong;
     }
     if first.is_unjudged() || second.is_unjudged() {
         Came::Unjudged
     } else {
         Came::Ordinary
-    }
-}
-
-// Whether a call found what it is to find: its reply is delivered with this order, or it wasn't judged.
-fn is_right(found: &Found, wanted: Wanted, order: &[Place]) -> bool {
-    let is_ended = match &found.end {
-        End::Delivered(places) => found.live && places.as_slice() == order,
-        End::Illegal => false,
-        End::Unjudged => !found.live,
-    };
-    is_ended
-        && found.reply == wanted.reply
-        && found.view == wanted.view
-        && found.seen == wanted.seen
-}
-
-// The place of the first call of a caller.
-fn place(caller: u32, reply: u64) -> Place {
-    Place {
-        caller,
-        number: 0,
-        reply,
     }
 }
