@@ -1,5 +1,5 @@
 -- The passes of all callers of an object, before a run and after it.
-use Rattle.std.proofs.Common.{◌≡◌, ◌∙◌, sym, subst, ap, inl, inr, ℕ, zero, suc, ◌<◌, ◌≤◌, List, [], ◌∷◌, Some, length, map, get_or, slice_get, arith}
+use Rattle.std.proofs.Common.{◌≡◌, ◌∙◌, sym, subst, ap, inl, inr, ℕ, zero, suc, ◌<◌, ◌≤◌, List, [], ◌∷◌, ◌++◌, Some, length, map, get_or, slice_get, arith}
 use Rattle.std.specs.Prelude.{option_map}
 use Rattle.std.specs.List.{All, range_with_len}
 use Rattle.std.proofs.lemmas.List.{length-map, same_lists}
@@ -10,12 +10,21 @@ use Rattle.client_scripts.specs.Plans.{sizes}
 use Rattle.call_lines.specs.Allotments.{operations_at}
 use Rattle.bench_clients.specs.Places.{AreInOrder}
 use Rattle.run_report.specs.Passes.{IsOwnPass, IsUnusedPass}
+use Rattle.list_laws.proofs.Places.{slice_get-push_cases}
 
 -- no caller of a script makes more calls than a text may have
 pub few_operations : (most : ℕ) (operations : List (List ℕ)) → AreAtMost most (sizes operations) → (i : ℕ) → length (operations_at operations i) ≤ most
 few_operations most [] h i = omega arith
 few_operations most (ops ∷ operations) h zero = h.0
 few_operations most (ops ∷ operations) h (suc i) = few_operations most operations h.1 i
+
+-- items in order, and one more
+pub one_more_in_order : {X : Type 0} (Is : ℕ → X → Type 0) (xs all : List X) (x : X) → all ≡ xs ++ x ∷ [] → Is (length xs) x → AreInOrder Is xs → AreInOrder Is all
+one_more_in_order {X} Is xs all x pushed new h i y there =
+    elim (slice_get-push_cases xs x i y (subst (λ (ys : List X). slice_get ys i ≡ Some y) pushed there)) [
+      | inl old ↦ h i y old
+      | inr last ↦ subst (λ (k : ℕ). Is k y) (sym last.0) (subst (Is (length xs)) (sym last.1) new)
+    ]
 
 module _ {T : Type 0} (is_own : T → Type 0) (caller : T → ℕ) where
   -- the caller of a pass in a list of the passes of all callers

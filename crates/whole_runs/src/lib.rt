@@ -2,4 +2,8 @@
 #![tactic(auto)]
 
 #[cfg(test)]
+mod meetings;
+#[cfg(test)]
 mod tests;
+#[cfg(test)]
+mod written;

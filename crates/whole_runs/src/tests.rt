@@ -21,7 +21,7 @@ use world_core::{Outside, Program};
 
 // How the callers of a script go on: each by itself, or by its turns.
 #[derive(Clone, Copy, Debug)]
-enum Course {
+pub(crate) enum Course {
     Beside,
     ByTurns,
 }
@@ -57,7 +57,7 @@ where
 }
 
 // Runs a script over an object, whose passes come back in order, in a table of its own.
-fn run<R: Threads + Sync, B: BlackBox + Sync>(
+pub(crate) fn run<R: Threads + Sync, B: BlackBox + Sync>(
     rt: &R,
     alloc: Global,
     script: &Script,
