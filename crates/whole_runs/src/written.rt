@@ -1,6 +1,5 @@
 //! What is written of whole runs.
-ghost use Rattle.std.specs.Prelude.{◌≡◌, IfOk, length, vec_len};
-ghost use Rattle.std.proofs.Common.{rules};
+ghost use Rattle.std.specs.Prelude.{◌≡◌, length, vec_len};
 ghost use Rattle.bench_clients.specs.Places.{AreInOrder};
 ghost use Rattle.run_report.specs.Passes.{IsUnusedPass};
 
@@ -15,46 +14,21 @@ use std::alloc::Global;
 use std::test::Fail;
 use std::thread::Threads;
 use world_core::Outside;
+use wrapped_objects::CountingPass;
 
 // An object that replies that there is none, whatever it is asked.
 #[derive(Drop)]
 struct NoneToAll;
 
-// What one caller holds to call it.
-#[derive(Drop)]
-struct NonePass {
-    caller: u32,
-    made: u64,
-    cap: u64,
-}
-
-impl ObjectPass for NonePass {
-    ghost caller = { λ pass. pass.caller };
-
-    ghost made = { λ pass. pass.made };
-
-    ghost cap = { λ pass. pass.cap };
-
-    fn caller(&self) -> u32 {
-        self.caller
-    }
-
-    fn made(&self) -> u64 {
-        self.made
-    }
-
-    fn cap(&self) -> u64 {
-        self.cap
-    }
-}
-
 impl BlackBox for NoneToAll {
-    type Pass = NonePass;
+    ghost use Rattle.wrapped_objects.specs.Silence.{tells_none};
 
-    ghost tells_each = { Prim.search rules };
+    type Pass = CountingPass;
 
-    fn call(&self, pass: &mut NonePass, _announced: &Announced) -> u64 {
-        pass.made += 1;
+    ghost tells_each = { tells_none };
+
+    fn call(&self, pass: &mut CountingPass, _announced: &Announced) -> u64 {
+        pass.count();
         NONE
     }
 }
@@ -83,25 +57,6 @@ where
     Ok((status, sink))
 }
 
-// A pass of each caller of a script, with which no call was made.
-fn none_passes(alloc: Global, script: &Script) -> Result<Vec<NonePass>, NoMemory>
-    ensures all_passes { IfOk result (λ passes. vec_len passes ≡ length script.now.operations) }
-    ensures passes { IfOk result (λ passes. AreInOrder (IsUnusedPass (λ _. Unit {0})
-        (λ pass. pass.caller) (λ pass. pass.made) (λ pass. pass.cap) script.now.operations)
-        passes.items) }
-{
-    let callers = script.callers();
-    let mut passes = Vec::with_capacity(alloc, callers as usize)?;
-    for caller in 0..callers {
-        passes.push(NonePass {
-            caller,
-            made: 0,
-            cap: MAX_CALLS,
-        })?;
-    }
-    Ok(passes)
-}
-
 // One caller enqueues 5, and is told that there is none.
 #[test]
 fn an_object_that_replies_none_is_found_in_both_forms(rt: HostRuntime) -> Result<(), Fail> {
@@ -118,7 +73,7 @@ fn an_object_that_replies_none_is_found_in_both_forms(rt: HostRuntime) -> Result
         (Form::Counts, "calls 1 delivered 0 errors 1\n"),
     ];
     for (form, text) in runs {
-        let mut passes = none_passes(alloc, &script)?;
+        let mut passes = CountingPass::for_script(alloc, &script)?;
         let (status, sink) = written(&rt, alloc, &script, &NoneToAll, &mut passes, form)?;
         assert_eq!(rt; status, Status::Found);
         assert_eq!(rt; str::from_utf8(sink.bytes()), Ok(text));
