@@ -98,6 +98,54 @@ const LOST_FOUND: &[u8] = b"report 2\n\
       0 3 deq none view 0:4\n\
       end\n";
 
+/// The report of the two callers, one after the other.
+const REPLAYED: &[u8] = b"report 2\n\
+      object queue\n\
+      callers 2\n\
+      calls 1 1\n\
+      0 0 enq 5 done view 0:1 ok seen 0:1\n\
+      1 0 deq =5 view 0:1 1:1 ok seen 0:1 1:1\n\
+      end\n";
+
+/// The same over an object that puts late, and the witness.
+const REPLAYED_LATE: &[u8] = b"report 2\n\
+      object queue\n\
+      callers 2\n\
+      calls 1 1\n\
+      0 0 enq 5 done view 0:1 ok seen 0:1\n\
+      1 0 deq none view 0:1 1:1 error seen 0:1 1:1\n\
+      end\n\
+      book 2\n\
+      object queue\n\
+      callers 2\n\
+      calls 1 1\n\
+      0 0 enq 5 done view 0:1\n\
+      1 0 deq none view 0:1 1:1\n\
+      end\n";
+
+/// One caller of a queue.
+const CALLS_OF_ONE: &[u8] = b"script 2\n\
+      object queue\n\
+      callers 1\n\
+      calls 2\n\
+      0 0 enq 5\n\
+      0 1 deq\n\
+      turns\n\
+      end\n";
+
+/// The certificate of its run.
+const CERTIFIED: &[u8] = b"book 2\n\
+      object queue\n\
+      callers 1\n\
+      calls 2\n\
+      0 0 enq 5 done view 0:1\n\
+      0 1 deq =5 view 0:2\n\
+      end\n\
+      order 2\n\
+      0 0 done\n\
+      0 1 =5\n\
+      end\n";
+
 /// What a command is to write, with ample memory.
 #[derive(Clone, Copy)]
 enum Wanted {
@@ -138,6 +186,26 @@ impl Command {
     pub fn of_name(alloc: Global, name: &str) -> Result<Option<Command>> {
         let (words, input, wanted): (&[&str], &[u8], Wanted) = match name {
             "run" => (&["run", "lawful"], SCRIPT, Wanted::TwoDelivered),
+            "replay" => (
+                &["replay", "lawful"],
+                SCRIPT,
+                Wanted::Text(Status::Fine, REPLAYED),
+            ),
+            "replay-late" => (
+                &["replay", "late"],
+                SCRIPT,
+                Wanted::Text(Status::Found, REPLAYED_LATE),
+            ),
+            "certify" => (
+                &["certify", "lawful"],
+                CALLS_OF_ONE,
+                Wanted::Text(Status::Fine, CERTIFIED),
+            ),
+            "soak" => (
+                &["soak", "7"],
+                b"",
+                Wanted::Text(Status::Fine, b"calls 128 delivered 128 errors 0\n"),
+            ),
             "run-lossy" => (
                 &["run", "lossy"],
                 LOST,
