@@ -7,4 +7,4 @@ pub returns-in-Replay-clause-ends : goal.returns-in-Replay-clause-ends
 returns-in-Replay-clause-ends g c = rw c.in-Replay.is c.replay_behaviour.ensures.ends
 
 pub returns-in-Certify-clause-ends : goal.returns-in-Certify-clause-ends
-returns-in-Certify-clause-ends g c = rw c.in-Certify.is c.run_behaviour.ensures.ends
+returns-in-Certify-clause-ends g c = rw c.in-Certify.is c.run_behaviour-in-Certify.ensures.ends
