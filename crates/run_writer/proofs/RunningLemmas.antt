@@ -1,5 +1,5 @@
 -- A bench has one report, and that has each form.
-use Rattle.std.proofs.Common.{◌≡◌, sym, ap, subst, List, ℕ}
+use Rattle.std.proofs.Common.{◌≡◌, sym, ap, subst, List, Option, ℕ}
 use Rattle.std.specs.List.{list_any}
 use Rattle.world_core.specs.Shape.{Shape}
 use Rattle.world_core.specs.Local.{Local}
@@ -10,11 +10,15 @@ use Rattle.seq_objects.specs.declared.kind.Kind.{Kind}
 use Rattle.seq_objects.specs.Objects.{kind_init, kind_next}
 use Rattle.client_scripts.specs.Plans.{Plan}
 use Rattle.reports.specs.Findings.{Findings}
+use Rattle.row_table.specs.declared.bench.Bench.{Bench}
+use Rattle.bench_clients.specs.Returns.{IsBackOn}
+use Rattle.bench_clients.specs.Starts.{course_of}
 use Rattle.run_report.specs.Reporting.{IsReportOf}
 use Rattle.report_certificates.specs.Certificates.{HasDeliveredOrder}
 use Rattle.report_certificates.proofs.CertificateLaws.{lawful_reports_have_an_order}
 use Rattle.run_writer.specs.declared.form.Form.{Form}
 use Rattle.run_writer.specs.declared.form.Form.TheVariants.{Report, Counts, Certificate}
+use Rattle.run_writer.specs.Running.{IsBackOf}
 use Rattle.run_writer.specs.Runs.{HasForm}
 
 module _ (s : Shape) (locals : List Local) (plan : Plan) (allotments : List ℕ) where
@@ -36,3 +40,11 @@ module _ (s : Shape) (locals : List Local) (plan : Plan) (allotments : List ℕ)
   has_form Certificate f is =
       subst (λ (kind : Kind). HasDeliveredOrder (kind_init kind) (kind_next kind) f.lines) (sym is.kind)
       (lawful_reports_have_an_order (kind_init plan.kind) (kind_next plan.kind) s plan.operations allotments f.lines is.lawful)
+
+-- a caller is back on the bench whatever object judges
+pub back_by_kind : {P T : Type 0} (is_own : T → Type 0) (caller made : T → ℕ) (told : T → Option (List (ℕ × ℕ))) (plan : Plan) (allotments : List ℕ) (bench : Bench P) (passes : List T) (i : ℕ)
+    (kind : Kind) → kind ≡ plan.kind
+    → IsBackOn (λ pass who. is_own pass × (caller pass ≡ who)) made told (course_of plan allotments (record { init = kind_init kind; next = kind_next kind })) bench passes i
+    → IsBackOf is_own caller made told plan allotments bench passes i
+back_by_kind is_own caller made told plan allotments bench passes i kind same back =
+    subst (λ (k : Kind). IsBackOn (λ pass who. is_own pass × (caller pass ≡ who)) made told (course_of plan allotments (record { init = kind_init k; next = kind_next k })) bench passes i) same back

@@ -1,5 +1,5 @@
 -- What a run of a script's callers reports, by the bench that it leaves.
-use Rattle.std.specs.Prelude.{ℕ, List, Option}
+use Rattle.std.specs.Prelude.{◌≡◌, ℕ, List, Option}
 use Rattle.seq_objects.specs.Objects.{kind_init, kind_next}
 use Rattle.world_core.specs.Shape.{Meaning}
 use Rattle.call_lines.specs.Allotments.{allotments_of, allotments_by_turns}
@@ -9,6 +9,8 @@ use Rattle.row_table.specs.Callers.{shape_of, locals_on}
 use Rattle.client_scripts.specs.Plans.{Plan}
 use Rattle.reports.specs.Findings.{Findings}
 use Rattle.bench_clients.specs.Places.{AreInOrder}
+use Rattle.bench_clients.specs.Returns.{IsBackOn}
+use Rattle.bench_clients.specs.Starts.{course_of}
 use Rattle.run_report.specs.Reporting.{IsReportOf, IsToldIn}
 
 -- The report of a plan's callers that each went on by themselves, judged by the object of the plan's kind: of the locals that are on
@@ -33,3 +35,9 @@ pub record IsToldRunReport {P T : Type 0} (meaning : P → ℕ → ℕ → Meani
 pub record IsToldReplayReport {P T : Type 0} (meaning : P → ℕ → ℕ → Meaning) (rows : Rows P) (bench : Bench P) (made : T → ℕ) (told : T → Option (List (ℕ × ℕ))) (passes : List T) (plan : Plan) (findings : Findings) : Type 0 where
   pub report : IsReplayReport meaning rows bench plan findings
   pub told_in : AreInOrder (IsToldIn made told (allotments_by_turns plan.operations plan.stops plan.turns) findings) passes
+
+-- Caller i of a plan is back on the bench with its own pass, in its place among these: it has made so many first phases of its
+-- allotment, and the object was asked for just the calls of these, and tells of them where it tells any.
+abbrev pub IsBackOf : {P T : Type 0} → (T → Type 0) → (T → ℕ) → (T → ℕ) → (T → Option (List (ℕ × ℕ))) → Plan → List ℕ → Bench P → List T → ℕ → Type 0
+IsBackOf is_own caller made told plan allotments bench passes i =
+    IsBackOn (λ pass who. is_own pass × (caller pass ≡ who)) made told (course_of plan allotments (record { init = kind_init plan.kind; next = kind_next plan.kind })) bench passes i

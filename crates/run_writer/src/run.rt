@@ -2,6 +2,7 @@
 
 ghost use Rattle.std.specs.Prelude.{◌≡◌, ◌⊎◌, ◌≤◌, ◌<◌, ℕ, true, false, length, vec_len};
 ghost use Rattle.std.specs.List.{list_any};
+ghost use Rattle.call_lines.specs.Allotments.{allotments_of};
 ghost use Rattle.call_lines.specs.Lines.{any_error};
 ghost use Rattle.row_table.specs.Callers.{IsBenchOf, HoldsAll};
 ghost use Rattle.bench_clients.specs.Places.{AreInOrder};
@@ -10,7 +11,7 @@ ghost use Rattle.run_report.specs.Passes.{IsOwnPass, IsUnusedPass};
 ghost use Rattle.reports.specs.Findings.{Findings};
 ghost use Rattle.byte_streams.specs.Fault.{Rose};
 ghost use Rattle.run_writer.specs.Runs.{RunEnds};
-ghost use Rattle.run_writer.specs.Running.{IsRunReport, IsToldRunReport};
+ghost use Rattle.run_writer.specs.Running.{IsBackOf, IsRunReport, IsToldRunReport};
 
 use crate::form::Form;
 use crate::report_output::write_report;
@@ -56,6 +57,9 @@ where
     ensures bench { IsBenchOf ⟦<Outside as Program>⟧.meaning rows.now bench.new × HoldsAll bench.new }
     ensures all_passes { vec_len passes.new ≡ length script.now.operations }
     ensures passes { AreInOrder (IsOwnPass (B.is_own object.now) B.Pass.caller) passes.new.items }
+    ensures back { (i : ℕ) → i < length script.now.operations
+        → IsBackOf (B.is_own object.now) B.Pass.caller B.Pass.made B.Pass.told script.now
+        (allotments_of script.now.operations script.now.stops) bench.new passes.new.items i }
 
     // The headline: what was written, by the status, is of a lawful report of the locals on the
     // bench.

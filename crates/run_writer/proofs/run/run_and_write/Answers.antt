@@ -1,6 +1,6 @@
 use Rattle.std.proofs.Common.{◌∙◌}
 use Rattle.run_writer.proofs.RunLemmas.{RunEnds-from_report}
-use Rattle.run_writer.proofs.RunningLemmas.{by_its_kind, one_report, has_form}
+use Rattle.run_writer.proofs.RunningLemmas.{back_by_kind, by_its_kind, one_report, has_form}
 use Rattle.run_writer.proofs.run.run_and_write.Goals as goal
 
 pub write_report-requires : goal.write_report-requires
@@ -19,3 +19,9 @@ returns-in-Ok-clause-found g c report is error =
 pub returns-in-Ok-clause-fine : goal.returns-in-Ok-clause-fine
 returns-in-Ok-clause-fine g c report is none =
     c.write_report.ensures.fine (one_report _ _ _ _ _ _ _ _ (by_its_kind _ _ _ _ _ _ c.kind-kind.ensures c.in-Ok.ensures.report) is ∙ none)
+
+pub returns-in-Ok-clause-back : goal.returns-in-Ok-clause-back
+returns-in-Ok-clause-back g c i low = back_by_kind _ _ _ _ c.args.script.now _ _ _ _ _ c.kind-kind.ensures (c.in-Ok.ensures.back i low)
+
+pub returns-in-Err-clause-back : goal.returns-in-Err-clause-back
+returns-in-Err-clause-back g c i low = back_by_kind _ _ _ _ c.args.script.now _ _ _ _ _ c.kind-kind.ensures (c.in-Err.ensures.back i low)
