@@ -1,12 +1,14 @@
-//! The books at the smaller cuts of a legal book: each of them is legal too, since an error is final.
+//! The books at the smaller cuts of a legal book: each of them is legal too, since an error is final, and the order that the
+//! search gives is one that a judge without a search accepts.
 ghost use Rattle.std.specs.Prelude.{◌≡◌, ℕ, length, IsTrue};
 ghost use Rattle.book_base.specs.Cut.{IsWithin};
 ghost use Rattle.book_base.specs.Book.{answered};
 
 use anyhow::{Result, anyhow};
-use book_base::{Book, Cut};
+use book_base::{Book, Cut, Place};
 use book_text::read_book;
 use frontier_check::{Verdict, check};
+use order_check::check_order;
 use seq_objects::Kind;
 use std::alloc::Global;
 
@@ -38,9 +40,19 @@ fn is_legal_at(alloc: Global, kind: Kind, book: &Book, cut: &Cut) -> Result<bool
         .at(alloc, cut)
         .map_err(|_| anyhow!("no memory for a book at a cut"))?;
     match check(alloc, &kind, &part).map_err(|_| anyhow!("no memory for a check"))? {
-        Verdict::Legal(_) => Ok(true),
+        Verdict::Legal(order) => is_accepted(alloc, kind, &part, &order),
         Verdict::Illegal => Ok(false),
     }
+}
+
+// Whether a given order of a book is accepted.
+fn is_accepted(alloc: Global, kind: Kind, book: &Book, order: &[Place]) -> Result<bool> {
+    let judged = check_order(alloc, &kind, book, order);
+    Ok(
+        judged
+            .map_err(|_| anyhow!("no memory to judge an order"))?
+            .is_ok(),
+    )
 }
 
 // Whether a cut is within the record counts of a book.
