@@ -4,3 +4,4 @@ pub mod ServingLaws
 pub mod Joins
 pub mod Verdict
 pub mod Search
+pub mod Cases

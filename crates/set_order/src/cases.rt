@@ -1,0 +1,33 @@
+//! Worked cases: what joins are served as, from lists that are written out.
+
+ghost use Rattle.std.specs.Prelude.{◌≡◌, [], ◌∷◌, Some};
+ghost use Rattle.seq_objects.specs.Replies.{reply_bad, reply_value};
+ghost use Rattle.set_order.specs.Joins.{served_joins, HasMask};
+ghost use Rattle.set_order.specs.Cases.{join};
+
+/// Joins that are served at once all reply with all numbers: 3, then 0 and 31, and 1 again. The mask
+/// takes the place of the list, of which only the low half of the first word counts, and an empty list
+/// has joined none. What joins nothing leaves the list and the mask: the words on both sides of the
+/// joins, or no operation at all.
+pub fn joins_are_served_at_once()
+    ensures empty_list { served_joins [] (join 3 ∷ []) ≡ Some (8 ∷ [], reply_value 8 ∷ []) }
+    ensures two { served_joins (0 ∷ []) (join 0 ∷ join 31 ∷ [])
+        ≡ Some (2147483649 ∷ [], reply_value 2147483649 ∷ reply_value 2147483649 ∷ []) }
+    ensures again { served_joins (6 ∷ []) (join 1 ∷ []) ≡ Some (6 ∷ [], reply_value 6 ∷ []) }
+    ensures low_half { served_joins (4294967302 ∷ 9 ∷ []) (join 0 ∷ [])
+        ≡ Some (7 ∷ [], reply_value 7 ∷ []) }
+    ensures beside { served_joins (6 ∷ []) (4294967328 ∷ join 0 ∷ 4294967295 ∷ [])
+        ≡ Some (7 ∷ [], reply_bad ∷ reply_value 7 ∷ reply_bad ∷ []) }
+    ensures alone { served_joins (6 ∷ 9 ∷ []) (4294967328 ∷ [])
+        ≡ Some (6 ∷ 9 ∷ [], reply_bad ∷ []) }
+    ensures none { served_joins (6 ∷ 9 ∷ []) [] ≡ Some (6 ∷ 9 ∷ [], []) }
+{}
+
+/// A reply has the numbers of a mask where it gives those, or more. One that gives no numbers has none.
+pub fn replies_have_masks()
+    ensures same { HasMask (reply_value 6) 6 }
+    ensures more { HasMask (reply_value 7) 6 }
+    ensures others { ¬ HasMask (reply_value 5) 6 }
+    ensures gives_none { ¬ HasMask 12884901895 6 }
+    ensures bad { ¬ HasMask reply_bad 0 }
+{}
