@@ -121,7 +121,7 @@ contained : (x : ℕ) (xs : List ℕ) → Contains xs x → 1 ≤ times x xs
 contained x xs h = times-stands x xs h.0 (slice_get-get_or xs h.0 x h.1 ∙ ap (λ (n : ℕ). Some n) h.2)
 
 -- So it is hopeless where the list has that value.
-hopeless_where_covered : (reading : Reading) (init : List ℕ) (next : List ℕ → ℕ → List ℕ × ℕ) (book : List Page) → IsStack reading next → reading.values init ≡ []
+pub hopeless_where_covered : (reading : Reading) (init : List ℕ) (next : List ℕ → ℕ → List ℕ × ℕ) (book : List Page) → IsStack reading next → reading.values init ≡ []
     → (x v : ℕ) (take_x put_x put_v : Call) → TakesOut reading book take_x x → PutsInAlone reading book put_x x → PutsIn reading book put_v v
     → ((order : List Place) → IsLegalOrder init next book order
     → (a k : ℕ) (step : ℕ × ℕ) → StandsAt order a take_x → k ≤ a → slice_get (steps_of book order) k ≡ Some step → taken_by reading step ≡ Some v → ⊥)
