@@ -1,5 +1,5 @@
 -- The levels of a walk: one more, one fewer, and the order that they make.
-use Rattle.std.proofs.Common.{◌≡◌, ℕ, ◌+◌, ◌*◌, ◌<◌, ◌≤◌, ◌∙◌, List, [], ◌∷◌, ◌++◌, length, get_or, set, sum, replicate, refl, sym, ap, subst, inl, inr, arith}
+use Rattle.std.proofs.Common.{◌≡◌, ℕ, ◌+◌, ◌*◌, ◌<◌, ◌≤◌, ◌∙◌, List, [], ◌∷◌, ◌++◌, length, get_or, set, sum, replicate, Option, Some, None, Result, Ok, Err, IfOk, IfNone, refl, sym, ap, subst, inl, inr, arith}
 use Rattle.std.specs.List.{All}
 use Rattle.std.proofs.lemmas.Bool.{cases_eq}
 use Rattle.std.proofs.lemmas.List.{append-nil, append_assoc, length-set, length-replicate, set-set, set-get_or}
@@ -9,16 +9,18 @@ use Rattle.list_laws.proofs.Places.{get_or-replicate_default}
 use Rattle.book_base.specs.declared.call.Call.{Call}
 use Rattle.book_base.specs.declared.call.Place.{Place}
 use Rattle.book_base.specs.declared.TheConstants.{MAX_CALLERS, MAX_CALLS}
-use Rattle.book_base.specs.Book.{Page, calls_of, IsSmall}
+use Rattle.book_base.specs.Book.{Page, calls_of, IsCall, IsSmall}
 use Rattle.book_base.specs.Order.{call_at, step_at, IsLegalOrder, HasLegalOrder}
 use Rattle.book_base.specs.Foresight.{Reaches}
-use Rattle.book_base.proofs.ReachingLemmas.{no_places_reach_the_start, one_more_place_reaches_on}
+use Rattle.book_base.proofs.ReachingLemmas.{one_more_place_reaches_on}
 use Rattle.book_base.proofs.PageLemmas.{caller_from_call}
 use Rattle.book_laws.specs.Next.{raised, list_after, HoldsAnswered, MayComeNext, Continues}
-use Rattle.book_laws.proofs.LegalOrder.{raised_same, raised_other, within_cut, legal_order_from_continues, continues_from_legal_order}
+use Rattle.book_laws.proofs.LegalOrder.{raised_same, raised_other, within_cut, continues_from_legal_order}
 use Rattle.frontier_check.specs.declared.walk.Level.{Level}
 use Rattle.frontier_check.specs.declared.walk.TheConstants.{ROOM}
-use Rattle.frontier_check.specs.Search.{no_calls, places_of, IsOpen, IsDeadEnd, Leads, Fits, IsReached, order_of}
+use Rattle.frontier_check.specs.declared.front.Front.{Front}
+use Rattle.frontier_check.specs.Front.{no_calls, IsFront}
+use Rattle.frontier_check.specs.Search.{places_of, IsOpen, IsDeadEnd, Leads, Fits, IsReached, order_of}
 
 -- one level more
 pub leads-push : (book : List Page) (next : List ℕ → ℕ → List ℕ × ℕ) (cut list : List ℕ) (levels : List Level) (to_cut to_list : List ℕ) (level : Level)
@@ -91,29 +93,26 @@ leads-reaches init next book before cut list (first ∷ levels) to_cut to_list w
     subst (λ (order : List Place). Reaches init next book order to_cut to_list) (append_assoc before (first.place ∷ []) (order_of levels))
     (leads-reaches init next book (before ++ first.place ∷ []) (raised cut first.place.caller) (list_after book next list first.place) levels to_cut to_list (omega arith) one later)
 
--- The levels that lead from the start to a cut and a list reach them.
-pub reached-from_leads : (init : List ℕ) (next : List ℕ → ℕ → List ℕ × ℕ) (book : List Page) (levels : List Level) (cut list : List ℕ) → Leads book next (no_calls book) init levels cut list
-    → IsReached init next book cut list
-reached-from_leads init next book levels cut list leads =
-    let long : length (no_calls book) ≡ length book = length-replicate (length book) 0 in
-    record {
-      before = order_of levels;
-      reaches = leads-reaches init next book [] (no_calls book) init levels cut list (omega arith) (no_places_reach_the_start init next book (length book)) leads;
-      legal = λ rest goes. legal_order_from_continues book init next (no_calls book) (order_of levels ++ rest) (omega arith) (zeros book)
-          (leads-more book next (no_calls book) init levels cut list rest leads goes);
-    }
+-- The levels that lead from a front to a cut and a list reach them, behind its places.
+pub reached-from_leads : (init : List ℕ) (next : List ℕ → ℕ → List ℕ × ℕ) (book : List Page) (front : Front) (levels : List Level) (cut list : List ℕ)
+    → IsFront init next book front → Leads book next front.cut front.here.words levels cut list → IsReached init next book cut list
+reached-from_leads init next book front levels cut list f leads = record {
+  before = front.places.items ++ order_of levels;
+  reaches = leads-reaches init next book front.places.items front.cut front.here.words levels cut list (omega (arith, f.stands.wide)) f.stands.reaches leads;
+  legal = λ rest goes. subst (λ (order : List Place). IsLegalOrder init next book order) (sym (append_assoc front.places.items (order_of levels) rest))
+      (f.legal (order_of levels ++ rest) (leads-more book next front.cut front.here.words levels cut list rest leads goes));
+}
 
 -- a raised cut holds one call more
 pub sum_raised : (cut : List ℕ) (i : ℕ) → i < length cut → sum (raised cut i) ≡ sum cut + 1
 sum_raised cut i h = omega (arith, sum_by-set (λ (n : ℕ). n) cut i (get_or cut i 0 + 1) 0 h)
 
--- counts within those of the book still are with one more call that may come next
-raised_within : (book : List Page) (cut : List ℕ) (call : Call) → call.caller < length cut → MayComeNext book cut call → ((i : ℕ) → get_or cut i 0 ≤ calls_of book i)
-    → (i : ℕ) → get_or (raised cut call.caller) i 0 ≤ calls_of book i
-raised_within book cut call inside may within i =
+-- counts within those of the book still are with one more call, which is its caller's next
+pub raised_within : (book : List Page) (cut : List ℕ) (call : Call) → call.caller < length cut → IsCall book call → call.number ≡ get_or cut call.caller 0
+    → ((i : ℕ) → get_or cut i 0 ≤ calls_of book i) → (i : ℕ) → get_or (raised cut call.caller) i 0 ≤ calls_of book i
+raised_within book cut call inside is at within i =
     elim (cases_eq i call.caller) [
-      | inl same ↦
-          omega (arith, raised_same cut call.caller inside, ap (λ (j : ℕ). get_or (raised cut call.caller) j 0) same, may.is_call, may.next, ap (calls_of book) same)
+      | inl same ↦ omega (arith, raised_same cut call.caller inside, ap (λ (j : ℕ). get_or (raised cut call.caller) j 0) same, is, at, ap (calls_of book) same)
       | inr other ↦ omega (arith, raised_other cut call.caller i other, within i)
     ]
 
@@ -138,7 +137,7 @@ leads-reach book next cut list (first ∷ levels) to_cut to_list grows wide with
     let inside : first.place.caller < length cut = (let there = caller_from_call book first.place.caller first.place.number may.is_call in omega arith) in
     let long : length (raised cut first.place.caller) ≡ length cut = length-set cut first.place.caller (get_or cut first.place.caller 0 + 1) in
     let rest = leads-reach book next (raised cut first.place.caller) (list_after book next list first.place) levels to_cut to_list grows (omega arith)
-    (raised_within book cut (call_at first.place) inside may within) later in
+    (raised_within book cut (call_at first.place) inside may.is_call may.next within) later in
     record {
       wide = rest.wide ∙ long;
       calls = omega (arith, rest.calls, sum_raised cut first.place.caller inside);
@@ -166,41 +165,38 @@ pub record Standing (book : List Page) (levels : List Level) (cut list : List �
   pub fits : Fits cut list
   pub after : length levels + 1 < ROOM
 
-pub standing : (book : List Page) (init : List ℕ) (next : List ℕ → ℕ → List ℕ × ℕ) (levels : List Level) (cut list : List ℕ) (place : Place)
-    → IsSmall book → length init ≤ 1 → ((list : List ℕ) (op : ℕ) → length (next list op).0 ≤ length list + 1)
-    → Leads book next (no_calls book) init levels cut list → MayComeNext book cut (call_at place) → Standing book levels cut list place
-standing book init next levels cut list place small begins grows leads may =
-    let long : length (no_calls book) ≡ length book = length-replicate (length book) 0 in
-    let reach = leads-reach book next (no_calls book) init levels cut list grows (omega arith) (λ (i : ℕ). omega (arith, zeros book i)) leads in
-    let wide : length cut ≡ length book = reach.wide ∙ long in
+pub standing : (book : List Page) (front : Front) (init : List ℕ) (next : List ℕ → ℕ → List ℕ × ℕ) (levels : List Level) (cut list : List ℕ) (place : Place)
+    → IsFront init next book front → ((list : List ℕ) (op : ℕ) → length (next list op).0 ≤ length list + 1)
+    → Leads book next front.cut front.here.words levels cut list → MayComeNext book cut (call_at place) → Standing book levels cut list place
+standing book front init next levels cut list place f grows leads may =
+    let small = f.stands.small in
+    let reach = leads-reach book next front.cut front.here.words levels cut list grows (omega (arith, f.stands.wide)) f.stands.within leads in
+    let wide : length cut ≡ length book = reach.wide ∙ f.stands.wide in
     let there : place.caller < length book = caller_from_call book place.caller place.number may.is_call in
     let inside : place.caller < length cut = omega arith in
     let longer : length (raised cut place.caller) ≡ length book = length-set cut place.caller (get_or cut place.caller 0 + 1) ∙ wide in
-    let few : sum (raised cut place.caller) ≤ MAX_CALLERS * MAX_CALLS = sum_small book (raised cut place.caller) small longer (raised_within book cut (call_at place) inside may reach.within) in
-    let none : sum (no_calls book) ≡ 0 = sum-zeros (length book) in
+    let few : sum (raised cut place.caller) ≤ MAX_CALLERS * MAX_CALLS = sum_small book (raised cut place.caller) small longer (raised_within book cut (call_at place) inside may.is_call may.next reach.within) in
     let more = sum_raised cut place.caller inside in
     record {
       wide = wide;
       caller = inside;
       number = omega (arith, may.is_call, small.calls place.caller);
       depth = omega (arith, reach.calls);
-      fits = omega (arith, reach.calls, reach.words);
+      fits = omega (arith, reach.calls, reach.words, f.stands.words);
       after = omega (arith, reach.calls);
     }
 
 -- the cut at which a walk stands has a count for each caller
-pub leads-wide : (book : List Page) (init : List ℕ) (next : List ℕ → ℕ → List ℕ × ℕ) (levels : List Level) (cut list : List ℕ)
-    → ((list : List ℕ) (op : ℕ) → length (next list op).0 ≤ length list + 1) → Leads book next (no_calls book) init levels cut list → length cut ≡ length book
-leads-wide book init next levels cut list grows leads =
-    let long : length (no_calls book) ≡ length book = length-replicate (length book) 0 in
-    (leads-reach book next (no_calls book) init levels cut list grows (omega arith) (λ (i : ℕ). omega (arith, zeros book i)) leads).wide ∙ long
+pub leads-wide : (book : List Page) (front : Front) (init : List ℕ) (next : List ℕ → ℕ → List ℕ × ℕ) (levels : List Level) (cut list : List ℕ) → IsFront init next book front
+    → ((list : List ℕ) (op : ℕ) → length (next list op).0 ≤ length list + 1) → Leads book next front.cut front.here.words levels cut list → length cut ≡ length book
+leads-wide book front init next levels cut list f grows leads =
+    (leads-reach book next front.cut front.here.words levels cut list grows (omega (arith, f.stands.wide)) f.stands.within leads).wide ∙ f.stands.wide
 
--- The levels that lead to a cut with all answered calls make a legal order.
-pub legal-from_leads : (book : List Page) (init : List ℕ) (next : List ℕ → ℕ → List ℕ × ℕ) (levels : List Level) (cut list : List ℕ)
-    → Leads book next (no_calls book) init levels cut list → HoldsAnswered book cut → IsLegalOrder init next book (order_of levels)
-legal-from_leads book init next levels cut list leads all =
-    let long : length (no_calls book) ≡ length book = length-replicate (length book) 0 in
-    legal_order_from_continues book init next (no_calls book) (order_of levels) (omega arith) (zeros book) (leads-continues book next (no_calls book) init levels cut list leads all)
+-- The levels that lead to a cut with all answered calls make a legal order, behind the places of the front.
+pub legal-from_leads : (book : List Page) (front : Front) (init : List ℕ) (next : List ℕ → ℕ → List ℕ × ℕ) (levels : List Level) (cut list : List ℕ) → IsFront init next book front
+    → Leads book next front.cut front.here.words levels cut list → HoldsAnswered book cut → IsLegalOrder init next book (front.places.items ++ order_of levels)
+legal-from_leads book front init next levels cut list f leads all =
+    f.legal (order_of levels) (leads-continues book next front.cut front.here.words levels cut list leads all)
 
 -- Where the start is a dead end, the book has no legal order.
 pub none-from_dead : (book : List Page) (init : List ℕ) (next : List ℕ → ℕ → List ℕ × ℕ) → IsDeadEnd book next (no_calls book) init → HasLegalOrder init next book → ⊥
@@ -211,3 +207,11 @@ none-from_dead book init next dead legal =
 -- a raised cut, with the caller's count as it was
 pub lowered : (cut : List ℕ) (i n : ℕ) → n ≡ get_or cut i 0 → set (raised cut i) i n ≡ cut
 lowered cut i n e = set-set cut i (get_or cut i 0 + 1) n ∙ (ap (λ (m : ℕ). set cut i m) e ∙ set-get_or cut i 0)
+
+-- So a search behind a front without places that finds none is right.
+pub none-found : {X E : Type 0} (book : List Page) (init : List ℕ) (next : List ℕ → ℕ → List ℕ × ℕ) (cut list : List ℕ) (result : Result (Option X) E) → cut ≡ no_calls book → list ≡ init
+    → IfOk result (λ found. IfNone found (IsDeadEnd book next cut list)) → IfOk result (λ found. IfNone found (HasLegalOrder init next book → ⊥))
+none-found book init next cut list (Ok None) same_cut same_list dead =
+    none-from_dead book init next (subst (λ (c : List ℕ). IsDeadEnd book next c init) same_cut (subst (λ (l : List ℕ). IsDeadEnd book next cut l) same_list dead))
+none-found book init next cut list (Ok (Some found)) same_cut same_list dead = tt
+none-found book init next cut list (Err e) same_cut same_list dead = tt

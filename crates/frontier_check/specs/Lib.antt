@@ -1,3 +1,4 @@
+pub mod Front
 pub mod Search
 pub mod Memo
 pub mod Verdict

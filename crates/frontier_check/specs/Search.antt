@@ -1,26 +1,24 @@
 -- The search for a legal order: where it stands, and what is known there.
-use Rattle.std.specs.Prelude.{◌≡◌, ℕ, zero, suc, ◌+◌, ◌*◌, ◌-◌, ◌<◌, ◌≤◌, ◌⊎◌, List, [], ◌∷◌, ◌++◌, length, map, replicate, Some}
+use Rattle.std.specs.Prelude.{◌≡◌, ℕ, zero, suc, ◌+◌, ◌*◌, ◌-◌, ◌<◌, ◌≤◌, ◌⊎◌, List, [], ◌∷◌, ◌++◌, length, map, Some}
 use Rattle.std.specs.List.{AllByRecursion}
 use Rattle.book_base.specs.declared.call.Call.{Call}
 use Rattle.book_base.specs.declared.call.Record.{Record}
 use Rattle.book_base.specs.declared.call.Place.{Place}
 use Rattle.book_base.specs.declared.TheConstants.{MAX_CALLERS}
 use Rattle.book_base.specs.Cut.{IsWithin}
-use Rattle.book_base.specs.Order.{IsLegalOrder, HasLegalOrder}
+use Rattle.book_base.specs.Order.{IsLegalOrder}
 use Rattle.book_base.specs.Book.{Page, IsAnswered, record_of}
 use Rattle.book_base.specs.Foresight.{Reaches, HasEarly}
 use Rattle.book_laws.specs.Next.{next_call, raised, list_after, HoldsAnswered, MayStandNext, Continues}
 use Rattle.frontier_check.specs.declared.choice.Choice.{Choice}
+use Rattle.frontier_check.specs.declared.front.Front.{Front}
 use Rattle.frontier_check.specs.declared.walk.Level.{Level}
 use Rattle.frontier_check.specs.declared.walk.Walk.{Walk}
 use Rattle.frontier_check.specs.declared.walk.Outcome.{Outcome}
 use Rattle.frontier_check.specs.declared.walk.Outcome.TheVariants.{Found, NoneLeft, GoesOn}
 use Rattle.frontier_check.specs.declared.walk.TheConstants.{ROOM}
 use Rattle.frontier_check.specs.Memo.{IsMemo, Remembers}
-
--- the cut that holds no call of a book
-abbrev pub no_calls : List Page → List ℕ
-no_calls book = replicate (length book) 0
+use Rattle.frontier_check.specs.Front.{IsFront}
 
 -- the object's list may grow by one word for each call of a book
 abbrev pub Fits : List ℕ → List ℕ → Type 0
@@ -93,9 +91,10 @@ Leads book next cut list (level ∷ levels) to_cut to_list =
 abbrev pub AllDead : List Page → (List ℕ → ℕ → List ℕ × ℕ) → Walk → Type 0
 AllDead book next walk = (cut list : List ℕ) → Remembers walk.memo cut list → IsDeadEnd book next cut list
 
--- A walk from the object's first list on, at whose end these places are still to be tried.
-pub record IsWalk (book : List Page) (init : List ℕ) (next : List ℕ → ℕ → List ℕ × ℕ) (walk : Walk) (places : List Place) : Type 0 where
-  pub leads : Leads book next (no_calls book) init walk.levels.items walk.counts.items walk.here.words
+-- A walk from where a front ends, at whose own end these places are still to be tried.
+pub record IsWalk (book : List Page) (front : Front) (init : List ℕ) (next : List ℕ → ℕ → List ℕ × ℕ) (walk : Walk) (places : List Place) : Type 0 where
+  pub begins : IsFront init next book front
+  pub leads : Leads book next front.cut front.here.words walk.levels.items walk.counts.items walk.here.words
   pub here : IsOpen book next walk.counts.items walk.here.words places
   pub dead : AllDead book next walk
   pub memo : IsMemo walk.memo
@@ -121,8 +120,9 @@ weigh depth (level ∷ levels) choices = (length level.choices.items + 1) * ways
 abbrev pub weight : Walk → ℕ
 weight walk = weigh ROOM walk.levels.items (length walk.choices.items)
 
--- What came of a step is so: a legal order is found, there is none, or the walk goes on with less weight than before.
-abbrev pub IsRightOutcome : List Page → List ℕ → (List ℕ → ℕ → List ℕ × ℕ) → ℕ → Walk → Outcome → Type 0
-IsRightOutcome book init next before walk Found = IsLegalOrder init next book (order_of walk.levels.items)
-IsRightOutcome book init next before walk NoneLeft = HasLegalOrder init next book → ⊥
-IsRightOutcome book init next before walk GoesOn = IsWalk book init next walk (places_of walk.choices.items) × (weight walk < before)
+-- What came of a step is so: the levels make a legal order behind the front, nothing goes on from the front, or the walk goes on
+-- with less weight than before.
+abbrev pub IsRightOutcome : List Page → Front → List ℕ → (List ℕ → ℕ → List ℕ × ℕ) → ℕ → Walk → Outcome → Type 0
+IsRightOutcome book front init next before walk Found = IsLegalOrder init next book (front.places.items ++ order_of walk.levels.items)
+IsRightOutcome book front init next before walk NoneLeft = IsDeadEnd book next front.cut front.here.words
+IsRightOutcome book front init next before walk GoesOn = IsWalk book front init next walk (places_of walk.choices.items) × (weight walk < before)

@@ -2,6 +2,7 @@
 #![tactic(auto)]
 
 mod choice;
+mod front;
 mod guide;
 mod memo;
 mod plan;

@@ -1,5 +1,6 @@
 ghost use Rattle.std.specs.Prelude.{◌≡◌, ◌<◌, ◌≤◌, length};
 
+use crate::front::Front;
 use book_base::{Book, Call, Cut, MAX_CALLERS, MAX_CALLS, NoMemory, Place};
 use std::alloc::Global;
 
@@ -14,27 +15,34 @@ pub struct Plan {
 }
 
 impl Plan {
-    /// The calls of a guide come first, in its order, then the answered calls by what their views count,
-    /// and last all others.
-    pub fn new(alloc: Global, book: &Book, guide: &[Place]) -> Result<Plan, NoMemory> {
+    /// Behind the places of a front: the calls of a guide come first, in its order, then the answered
+    /// calls by what their views count, and last all others.
+    pub fn new(
+        alloc: Global,
+        book: &Book,
+        guide: &[Place],
+        front: &Front,
+    ) -> Result<Plan, NoMemory> {
         let mut plan = Plan {
             turns: vec![in alloc; u32::MAX; MAX_CALLERS * MAX_CALLS as usize]?,
             guided: u32::try_from(guide.len()).unwrap_or(u32::MAX),
         };
-        for caller in 0..book.callers() {
-            plan.guess(book, caller, guide.len());
+        for caller in 0..book.callers().min(front.cut.n()) {
+            plan.guess(book, caller, front.cut.get(caller), guide.len());
         }
-        for (index, place) in guide.iter().enumerate() {
+        for index in front.places.len()..guide.len() {
+            let place = guide[index];
             plan.put(place.caller, place.number, index);
         }
         Ok(plan)
     }
 
-    // Guesses that the answered calls of a caller took effect in the order of what their views count.
-    fn guess(&mut self, book: &Book, caller: u32, later: usize)
+    // Guesses that the answered calls of a caller, from this one on, took effect in the order of what their
+    // views count.
+    fn guess(&mut self, book: &Book, caller: u32, first: u64, later: usize)
         requires { caller < length book.now }
     {
-        for number in 0..book.answers(caller) {
+        for number in first..book.answers(caller) {
             let view = book.record(Call { caller, number }).view;
             self.put(caller, number, total(&view).saturating_add(later));
         }

@@ -1,14 +1,16 @@
-ghost use Rattle.std.specs.Prelude.{◌≡◌, ℕ, ◌+◌, ◌<◌, ◌≤◌, ◌↔◌, ◌∷◌, [], List, length, slice_index, IfOk, IfSome, IfNone, IsTrue, Some, OnOk};
+ghost use Rattle.std.specs.Prelude.{◌≡◌, ℕ, ◌+◌, ◌<◌, ◌≤◌, ◌↔◌, ◌∷◌, ◌++◌, [], List, length, slice_index, IfOk, IfSome, IfNone, IsTrue, Some, OnOk};
 ghost use Rattle.book_base.specs.declared.call.Place.{Place};
 ghost use Rattle.book_base.specs.declared.call.Record.{Record};
-ghost use Rattle.book_base.specs.Book.{IsValid, IsSmall, IsCall, IsAnswered, record_of};
-ghost use Rattle.book_base.specs.Order.{IsLegalOrder, HasLegalOrder};
+ghost use Rattle.book_base.specs.Book.{IsCall, IsAnswered, record_of};
+ghost use Rattle.book_base.specs.Order.{IsLegalOrder};
 ghost use Rattle.book_base.specs.Foresight.{IsForesight, IsHopeless};
-ghost use Rattle.book_base.specs.declared.TheConstants.{MAX_CALLERS};
+ghost use Rattle.book_base.specs.declared.TheConstants.{MAX_CALLERS, MAX_CALLS};
 ghost use Rattle.book_laws.specs.Next.{next_call, raised, list_after, HoldsAnswered, MayComeNext};
-ghost use Rattle.frontier_check.specs.Search.{IsLeast, ViewsAreWithin, places_of, AreChosen, IsOpen, IsReached, IsWalk, IsRightOutcome, StandsAtOnce, IsRankIn, Fits, weigh, weight};
+ghost use Rattle.frontier_check.specs.Front.{IsFront};
+ghost use Rattle.frontier_check.specs.Search.{IsLeast, IsDeadEnd, ViewsAreWithin, places_of, AreChosen, IsOpen, IsReached, IsWalk, IsRightOutcome, StandsAtOnce, IsRankIn, Fits, weigh, weight};
 
 use crate::choice::Choice;
+use crate::front::Front;
 use crate::memo::Memo;
 use crate::plan::Plan;
 use crate::walk::{Level, Outcome, ROOM, Walk, load, places, set_count};
@@ -16,7 +18,7 @@ use book_base::{Book, Call, Cut, Foresight, NoMemory, Place, SeqObject, State};
 use std::alloc::Global;
 use std::mem;
 
-/// A search for a legal order of a book of a sequential object.
+/// A search for a legal order of a book of a sequential object, behind the places of a front.
 pub struct Search<'a, S> {
     pub alloc: Global,
     pub object: &'a S,
@@ -24,6 +26,7 @@ pub struct Search<'a, S> {
     pub known: &'a Foresight,
     pub limited: bool,
     pub plan: &'a Plan,
+    pub front: &'a Front,
 }
 
 impl<S> Drop for Search<'_, S> {
@@ -35,45 +38,73 @@ impl<S> Drop for Search<'_, S> {
             known: _,
             limited: _,
             plan: _,
+            front: _,
         } = self;
     }
 }
 
 impl<S: SeqObject> Search<'_, S> {
-    /// Finds the places of a legal order, if there is one.
+    /// Finds the places that make a legal order behind those of the front, if there are any.
     pub fn run(&self) -> Result<Option<Vec<Place>>, NoMemory>
         requires foresight { IsForesight (S.init self.now.object.now) (S.next self.now.object.now) self.now.book.now self.now.known.now }
-        ensures found { IfOk result (λ found. IfSome found (λ order. IsLegalOrder (S.init self.now.object.now) (S.next self.now.object.now) self.now.book.now order.items)) }
-        ensures none { IfOk result (λ found. IfNone found (HasLegalOrder (S.init self.now.object.now) (S.next self.now.object.now) self.now.book.now → ⊥)) }
+        requires front { IsFront (S.init self.now.object.now) (S.next self.now.object.now) self.now.book.now self.now.front.now }
+        ensures found { IfOk result (λ found. IfSome found (λ rest. IsLegalOrder (S.init self.now.object.now) (S.next self.now.object.now) self.now.book.now (self.now.front.now.places.items ++ rest.items))) }
+        ensures none { IfOk result (λ found. IfNone found (IsDeadEnd self.now.book.now (S.next self.now.object.now) self.now.front.now.cut self.now.front.now.here.words)) }
     {
-        let callers = self.book.callers() as usize;
-        let counts = vec![in self.alloc; 0; callers]?;
+        let mut spare = State::with_room(self.alloc, ROOM)?;
+        match self.begin(&mut spare)? {
+            None => Ok(Some(Vec::new(self.alloc))),
+            Some(mut walk) => self.go_on(&mut walk, &mut spare),
+        }
+    }
+
+    /// Finds the places that make a legal order behind those of the front, if that takes no more than
+    /// so many steps.
+    pub fn run_few(&self, steps: u64) -> Result<Option<Vec<Place>>, NoMemory>
+        requires foresight { IsForesight (S.init self.now.object.now) (S.next self.now.object.now) self.now.book.now self.now.known.now }
+        requires front { IsFront (S.init self.now.object.now) (S.next self.now.object.now) self.now.book.now self.now.front.now }
+        ensures found { IfOk result (λ found. IfSome found (λ rest. IsLegalOrder (S.init self.now.object.now) (S.next self.now.object.now) self.now.book.now (self.now.front.now.places.items ++ rest.items))) }
+    {
+        let mut spare = State::with_room(self.alloc, ROOM)?;
+        match self.begin(&mut spare)? {
+            None => Ok(Some(Vec::new(self.alloc))),
+            Some(mut walk) => self.go_few(&mut walk, &mut spare, steps),
+        }
+    }
+
+    // The walk that stands where the front ends; there is none where all answered calls stand.
+    fn begin(&self, spare: &mut State) -> Result<Option<Walk>, NoMemory>
+        requires foresight { IsForesight (S.init self.now.object.now) (S.next self.now.object.now) self.now.book.now self.now.known.now }
+        requires front { IsFront (S.init self.now.object.now) (S.next self.now.object.now) self.now.book.now self.now.front.now }
+        requires room { spare.old.room ≡ ROOM }
+        ensures room { spare.new.room ≡ ROOM }
+        ensures walk { IfOk result (λ begun. IfSome begun (λ walk. IsWalk self.now.book.now self.now.front.now (S.init self.now.object.now) (S.next self.now.object.now) walk (places_of walk.choices.items))) }
+        ensures none { IfOk result (λ begun. IfNone begun (HoldsAnswered self.now.book.now self.now.front.now.cut)) }
+    {
+        let counts = counts_of(self.alloc, &self.front.cut)?;
         let Some(first) = self.least_open(&counts) else {
-            return Ok(Some(Vec::new(self.alloc)));
+            return Ok(None);
         };
         let mut here = State::with_room(self.alloc, ROOM)?;
-        let mut spare = State::with_room(self.alloc, ROOM)?;
-        self.object.reset(&mut here);
-        let choices = self.choices(&counts, &here, &mut spare, first)?;
-        let mut walk = Walk {
+        here.copy_from(&self.front.here);
+        let choices = self.choices(&counts, &here, spare, first)?;
+        let memo = Memo::new(self.alloc, counts.len());
+        Ok(Some(Walk {
             levels: Vec::new(self.alloc),
             counts,
             here,
             choices,
-            memo: Memo::new(self.alloc, callers),
-        };
-        self.go_on(&mut walk, &mut spare)
+            memo,
+        }))
     }
 
     // Goes on with a walk until it has found a legal order, or all is tried.
     fn go_on(&self, walk: &mut Walk, spare: &mut State) -> Result<Option<Vec<Place>>, NoMemory>
         requires foresight { IsForesight (S.init self.now.object.now) (S.next self.now.object.now) self.now.book.now self.now.known.now }
-        requires valid { IsValid self.now.book.now }
-        requires small { IsSmall self.now.book.now }
-        requires walk { IsWalk self.now.book.now (S.init self.now.object.now) (S.next self.now.object.now) walk.old (places_of walk.old.choices.items) }
+        requires walk { IsWalk self.now.book.now self.now.front.now (S.init self.now.object.now) (S.next self.now.object.now) walk.old (places_of walk.old.choices.items) }
         requires room { spare.old.room ≡ ROOM }
-        ensures found { IfOk result (λ found. IfSome found (λ order. IsLegalOrder (S.init self.now.object.now) (S.next self.now.object.now) self.now.book.now order.items)) }
-        ensures none { IfOk result (λ found. IfNone found (HasLegalOrder (S.init self.now.object.now) (S.next self.now.object.now) self.now.book.now → ⊥)) }
+        ensures found { IfOk result (λ found. IfSome found (λ rest. IsLegalOrder (S.init self.now.object.now) (S.next self.now.object.now) self.now.book.now (self.now.front.now.places.items ++ rest.items))) }
+        ensures none { IfOk result (λ found. IfNone found (IsDeadEnd self.now.book.now (S.next self.now.object.now) self.now.front.now.cut self.now.front.now.here.words)) }
     {
         'steps: loop {
             match self.advance(walk, spare)? {
@@ -84,15 +115,35 @@ impl<S: SeqObject> Search<'_, S> {
         }
     }
 
+    // Goes on with a walk for so many steps.
+    fn go_few(
+        &self,
+        walk: &mut Walk,
+        spare: &mut State,
+        steps: u64,
+    ) -> Result<Option<Vec<Place>>, NoMemory>
+        requires foresight { IsForesight (S.init self.now.object.now) (S.next self.now.object.now) self.now.book.now self.now.known.now }
+        requires walk { IsWalk self.now.book.now self.now.front.now (S.init self.now.object.now) (S.next self.now.object.now) walk.old (places_of walk.old.choices.items) }
+        requires room { spare.old.room ≡ ROOM }
+        ensures found { IfOk result (λ found. IfSome found (λ rest. IsLegalOrder (S.init self.now.object.now) (S.next self.now.object.now) self.now.book.now (self.now.front.now.places.items ++ rest.items))) }
+    {
+        for _ in 0..steps {
+            match self.advance(walk, spare)? {
+                Outcome::Found => return Ok(Some(places(self.alloc, &walk.levels)?)),
+                Outcome::NoneLeft => return Ok(None),
+                Outcome::GoesOn => {}
+            }
+        }
+        Ok(None)
+    }
+
     // Tries the best choice that is left, or leaves a dead end.
     fn advance(&self, walk: &mut Walk, spare: &mut State) -> Result<Outcome, NoMemory>
         requires foresight { IsForesight (S.init self.now.object.now) (S.next self.now.object.now) self.now.book.now self.now.known.now }
-        requires valid { IsValid self.now.book.now }
-        requires small { IsSmall self.now.book.now }
-        requires walk { IsWalk self.now.book.now (S.init self.now.object.now) (S.next self.now.object.now) walk.old (places_of walk.old.choices.items) }
+        requires walk { IsWalk self.now.book.now self.now.front.now (S.init self.now.object.now) (S.next self.now.object.now) walk.old (places_of walk.old.choices.items) }
         requires room { spare.old.room ≡ ROOM }
         ensures room { spare.new.room ≡ ROOM }
-        ensures outcome { IfOk result (IsRightOutcome self.now.book.now (S.init self.now.object.now) (S.next self.now.object.now) (weight walk.old) walk.new) }
+        ensures outcome { IfOk result (IsRightOutcome self.now.book.now self.now.front.now (S.init self.now.object.now) (S.next self.now.object.now) (weight walk.old) walk.new) }
     {
         match walk.choices.pop() {
             Some(choice) => self.enter(walk, spare, choice.place),
@@ -107,12 +158,10 @@ impl<S: SeqObject> Search<'_, S> {
     // Puts a place next, unless that leads to a remembered dead end.
     fn enter(&self, walk: &mut Walk, spare: &mut State, place: Place) -> Result<Outcome, NoMemory>
         requires foresight { IsForesight (S.init self.now.object.now) (S.next self.now.object.now) self.now.book.now self.now.known.now }
-        requires valid { IsValid self.now.book.now }
-        requires small { IsSmall self.now.book.now }
-        requires walk { IsWalk self.now.book.now (S.init self.now.object.now) (S.next self.now.object.now) walk.old (place ∷ places_of walk.old.choices.items) }
+        requires walk { IsWalk self.now.book.now self.now.front.now (S.init self.now.object.now) (S.next self.now.object.now) walk.old (place ∷ places_of walk.old.choices.items) }
         requires room { spare.old.room ≡ ROOM }
         ensures room { spare.new.room ≡ ROOM }
-        ensures outcome { IfOk result (IsRightOutcome self.now.book.now (S.init self.now.object.now) (S.next self.now.object.now)
+        ensures outcome { IfOk result (IsRightOutcome self.now.book.now self.now.front.now (S.init self.now.object.now) (S.next self.now.object.now)
             (weigh ROOM walk.old.levels.items (length walk.old.choices.items + 1)) walk.new) }
     {
         self.step(walk, spare, place);
@@ -147,8 +196,7 @@ impl<S: SeqObject> Search<'_, S> {
 
     // Makes the step of a place that may stand next. The list before it is kept in the spare state.
     fn step(&self, walk: &mut Walk, spare: &mut State, place: Place)
-        requires small { IsSmall self.now.book.now }
-        requires walk { IsWalk self.now.book.now (S.init self.now.object.now) (S.next self.now.object.now) walk.old (place ∷ places_of walk.old.choices.items) }
+        requires walk { IsWalk self.now.book.now self.now.front.now (S.init self.now.object.now) (S.next self.now.object.now) walk.old (place ∷ places_of walk.old.choices.items) }
         requires room { spare.old.room ≡ ROOM }
         ensures spare { spare.new ≡ record spare.old { words = walk.old.here.words } }
         ensures here { walk.new.here ≡ record walk.old.here { words = list_after self.now.book.now (S.next self.now.object.now) walk.old.here.words place } }
@@ -168,9 +216,8 @@ impl<S: SeqObject> Search<'_, S> {
 
     // Leaves a dead end: goes back by one level.
     fn retreat(&self, walk: &mut Walk) -> Outcome
-        requires small { IsSmall self.now.book.now }
-        requires walk { IsWalk self.now.book.now (S.init self.now.object.now) (S.next self.now.object.now) walk.old [] }
-        ensures { IsRightOutcome self.now.book.now (S.init self.now.object.now) (S.next self.now.object.now) (weigh ROOM walk.old.levels.items 0) walk.new result }
+        requires walk { IsWalk self.now.book.now self.now.front.now (S.init self.now.object.now) (S.next self.now.object.now) walk.old [] }
+        ensures { IsRightOutcome self.now.book.now self.now.front.now (S.init self.now.object.now) (S.next self.now.object.now) (weigh ROOM walk.old.levels.items 0) walk.new result }
     {
         let Some(level) = walk.levels.pop() else {
             return Outcome::NoneLeft;
@@ -408,6 +455,18 @@ impl<S: SeqObject> Search<'_, S> {
         let number = u64::from(counts[caller as usize]);
         self.book.record(Call { caller, number }).view
     }
+}
+
+// The counts of a cut, as a walk keeps them.
+fn counts_of(alloc: Global, cut: &Cut) -> Result<Vec<u16>, NoMemory>
+    requires { (i : ℕ) → slice_index cut.now i ≤ MAX_CALLS }
+    ensures { IfOk result (λ counts. counts.items ≡ cut.now) }
+{
+    let mut counts = Vec::with_capacity(alloc, cut.n() as usize)?;
+    for count in cut.counts() {
+        counts.push(*count as u16)?;
+    }
+    Ok(counts)
 }
 
 // The cut with these counts.

@@ -1,6 +1,10 @@
-ghost use Rattle.std.specs.Prelude.{◌≡◌, IfOk};
+ghost use Rattle.std.specs.Prelude.{◌≡◌, ◌++◌, IfOk, IfSome, IfNone};
+ghost use Rattle.book_base.specs.Foresight.{IsForesight};
+ghost use Rattle.book_base.specs.Order.{IsLegalOrder, HasLegalOrder};
+ghost use Rattle.frontier_check.specs.Front.{IsFront};
 ghost use Rattle.frontier_check.specs.Verdict.{IsRight, IsKept};
 
+use crate::front::Front;
 use crate::guide::Guide;
 use crate::plan::Plan;
 use crate::search::Search;
@@ -27,10 +31,12 @@ pub fn check<S: SeqObject>(alloc: Global, object: &S, book: &Book) -> Result<Ver
     check_from(alloc, object, book, &mut guide)
 }
 
-/// Looks for a legal order as `check` does, and tries the guide's places first.
+/// Looks for a legal order as `check` does, and first behind the guide's places.
 ///
 /// The guide keeps the order that is found, for the next book: a book with a few more calls than the
-/// last one mostly has an order that begins like the last one's.
+/// last one mostly has an order that begins like the last one's. Those places are stepped through, and
+/// the search looks among the calls behind them alone; only where that finds none soon it looks
+/// everywhere.
 pub fn check_from<S: SeqObject>(
     alloc: Global,
     object: &S,
@@ -40,8 +46,118 @@ pub fn check_from<S: SeqObject>(
     ensures verdict { IfOk result (λ verdict. IsRight (S.init object.now) (S.next object.now) book.now verdict) }
     ensures guide { IfOk result (IsKept guide.old guide.new) }
 {
+    let order = match near(alloc, object, book, guide.places())? {
+        Some(order) => Some(order),
+        None => anywhere(alloc, object, book, guide.places())?,
+    };
+    match order {
+        None => Ok(Verdict::Illegal),
+        Some(order) => {
+            guide.keep(alloc, &order)?;
+            Ok(Verdict::Legal(order))
+        }
+    }
+}
+
+// How often a search begins behind fewer of a guide's places, and how many steps it has each time.
+const ATTEMPTS: u32 = 9;
+
+const STEPS: u64 = 1000;
+
+// A legal order that begins as a guide does, if one is found soon: first behind all the places of the
+// guide that still follow one another, and then without ever more of its last ones.
+fn near<S: SeqObject>(
+    alloc: Global,
+    object: &S,
+    book: &Book,
+    guide: &[Place],
+) -> Result<Option<Vec<Place>>, NoMemory>
+    ensures { IfOk result (λ found. IfSome found
+        (λ order. IsLegalOrder (S.init object.now) (S.next object.now) book.now order.items)) }
+{
+    let mut without = 0;
+    for _ in 0..ATTEMPTS {
+        if without >= guide.len() {
+            return Ok(None);
+        }
+        let places = &guide[..guide.len() - without];
+        if let Some(order) = behind(alloc, object, book, places, guide)? {
+            return Ok(Some(order));
+        }
+        without = without.saturating_mul(2).max(book.callers() as usize);
+    }
+    Ok(None)
+}
+
+// A legal order that begins with these places, as far as they follow one another, if one is found soon.
+fn behind<S: SeqObject>(
+    alloc: Global,
+    object: &S,
+    book: &Book,
+    places: &[Place],
+    guide: &[Place],
+) -> Result<Option<Vec<Place>>, NoMemory>
+    ensures { IfOk result (λ found. IfSome found
+        (λ order. IsLegalOrder (S.init object.now) (S.next object.now) book.now order.items)) }
+{
+    let Some(front) = Front::following(alloc, object, book, places)? else {
+        return Ok(None);
+    };
+    let known = Foresight::none(alloc);
+    let Some(rest) = search_few(alloc, object, book, &known, guide, &front)? else {
+        return Ok(None);
+    };
+    let Front {
+        mut places,
+        cut: _,
+        here: _,
+    } = front;
+    places.extend_from_slice(&rest)?;
+    Ok(Some(places))
+}
+
+// The places that make a legal order behind those of a front, if they are found soon.
+fn search_few<S: SeqObject>(
+    alloc: Global,
+    object: &S,
+    book: &Book,
+    known: &Foresight,
+    guide: &[Place],
+    front: &Front,
+) -> Result<Option<Vec<Place>>, NoMemory>
+    requires foresight { IsForesight (S.init object.now) (S.next object.now) book.now known.now }
+    requires front { IsFront (S.init object.now) (S.next object.now) book.now front.now }
+    ensures { IfOk result (λ found. IfSome found (λ rest. IsLegalOrder (S.init object.now)
+        (S.next object.now) book.now (front.now.places.items ++ rest.items))) }
+{
+    let plan = Plan::new(alloc, book, guide, front)?;
+    let search = Search {
+        alloc,
+        object,
+        book,
+        known,
+        limited: false,
+        plan: &plan,
+        front,
+    };
+    search.run_few(STEPS)
+}
+
+// A legal order, if there is one: the search looks for it everywhere, and tries the guide's places first.
+fn anywhere<S: SeqObject>(
+    alloc: Global,
+    object: &S,
+    book: &Book,
+    guide: &[Place],
+) -> Result<Option<Vec<Place>>, NoMemory>
+    ensures found { IfOk result (λ found. IfSome found
+        (λ order. IsLegalOrder (S.init object.now) (S.next object.now) book.now order.items)) }
+    ensures none { IfOk result (λ found. IfNone found
+        (HasLegalOrder (S.init object.now) (S.next object.now) book.now → ⊥)) }
+{
     let known = object.foresee(alloc, book)?;
-    let plan = Plan::new(alloc, book, guide.places())?;
+    let front = Front::new(alloc, object, book)?;
+    let plan = Plan::new(alloc, book, guide, &front)?;
     let search = Search {
         alloc,
         object,
@@ -49,14 +165,9 @@ pub fn check_from<S: SeqObject>(
         known: &known,
         limited: has_limits(book, &known),
         plan: &plan,
+        front: &front,
     };
-    match search.run()? {
-        None => Ok(Verdict::Illegal),
-        Some(order) => {
-            guide.keep(alloc, &order)?;
-            Ok(Verdict::Legal(order))
-        }
-    }
+    search.run()
 }
 
 // Whether a call of a book has a limit. No clause says so: it costs or saves time alone.

@@ -120,7 +120,7 @@ steps_before book before place rest = take-map (step_at book) (length before) (b
 contained : (x : ℕ) (xs : List ℕ) → Contains xs x → 1 ≤ times x xs
 contained x xs h = times-stands x xs h.0 (slice_get-get_or xs h.0 x h.1 ∙ ap (λ (n : ℕ). Some n) h.2)
 
--- So it is hopeless where the list has that value.
+-- The put of v is hopeless at a list that has x, where in each legal order no step up to the take of x takes v out.
 pub hopeless_where_covered : (reading : Reading) (init : List ℕ) (next : List ℕ → ℕ → List ℕ × ℕ) (book : List Page) → IsStack reading next → reading.values init ≡ []
     → (x v : ℕ) (take_x put_x put_v : Call) → TakesOut reading book take_x x → PutsInAlone reading book put_x x → PutsIn reading book put_v v
     → ((order : List Place) → IsLegalOrder init next book order

@@ -16,8 +16,8 @@ set_count-requires-clause-caller g c =
     let object = c.args.self.now.object.now in
     let old = c.args.walk.now in
     let w = c.requires.walk in
-    let s = standing c.args.self.now.book.now (g.S.SeqObject.init object) (g.S.SeqObject.next object) old.levels.items old.counts.items old.here.words c.args.place
-    c.requires.small (g.met.S.SeqObject.begins_small object) (g.met.S.SeqObject.grows_by_one object) w.leads w.here.sound.0.may_come in
+    let s = standing c.args.self.now.book.now c.args.self.now.front.now (g.S.SeqObject.init object) (g.S.SeqObject.next object) old.levels.items old.counts.items old.here.words c.args.place
+    w.begins (g.met.S.SeqObject.grows_by_one object) w.leads w.here.sound.0.may_come in
     omega (arith, s.caller, ap length c.step.ensures.counts, length-set old.counts.items c.args.place.caller (get_or old.counts.items c.args.place.caller 0 + 1))
 
 pub copy_from-requires : goal.copy_from-requires
@@ -25,8 +25,8 @@ copy_from-requires g c =
     let object = c.args.self.now.object.now in
     let old = c.args.walk.now in
     let w = c.requires.walk in
-    let s = standing c.args.self.now.book.now (g.S.SeqObject.init object) (g.S.SeqObject.next object) old.levels.items old.counts.items old.here.words c.args.place
-    c.requires.small (g.met.S.SeqObject.begins_small object) (g.met.S.SeqObject.grows_by_one object) w.leads w.here.sound.0.may_come in
+    let s = standing c.args.self.now.book.now c.args.self.now.front.now (g.S.SeqObject.init object) (g.S.SeqObject.next object) old.levels.items old.counts.items old.here.words c.args.place
+    w.begins (g.met.S.SeqObject.grows_by_one object) w.leads w.here.sound.0.may_come in
     omega (arith, s.fits, w.room, ap (λ (x : Contents). length x.words) c.step.ensures.spare, ap (λ (x : Contents). x.room) c.step.ensures.here)
 
 pub returns-then-remembers-clause-outcome : goal.returns-then-remembers-clause-outcome
@@ -44,15 +44,15 @@ returns-then-remembers-clause-outcome g c =
     c.set_count.ensures ∙ (ap (λ (cut : List ℕ). set cut c.args.place.caller c.args.place.number) e.counts ∙ lowered old.counts.items c.args.place.caller c.args.place.number c.requires.walk.here.sound.0.may_come.next) in
     let here : new.here ≡ old.here =
     c.copy_from.ensures ∙ (ap (λ (words : List ℕ). made words c.step.new.walk.here.room) (ap (λ (s : Contents). s.words) e.spare) ∙ ap (made old.here.words) (ap (λ (s : Contents). s.room) e.here)) in
-    walk-skip book (g.S.SeqObject.init c.args.self.now.object.now) next old new c.args.place c.requires.walk there e.levels counts here e.choices e.memo
+    walk-skip book c.args.self.now.front.now (g.S.SeqObject.init c.args.self.now.object.now) next old new c.args.place c.requires.walk there e.levels counts here e.choices e.memo
 
 pub least_open-requires : goal.least_open-requires
 least_open-requires g c =
     let object = c.args.self.now.object.now in
     let old = c.args.walk.now in
     let w = c.requires.walk in
-    let s = standing c.args.self.now.book.now (g.S.SeqObject.init object) (g.S.SeqObject.next object) old.levels.items old.counts.items old.here.words c.args.place
-    c.requires.small (g.met.S.SeqObject.begins_small object) (g.met.S.SeqObject.grows_by_one object) w.leads w.here.sound.0.may_come in
+    let s = standing c.args.self.now.book.now c.args.self.now.front.now (g.S.SeqObject.init object) (g.S.SeqObject.next object) old.levels.items old.counts.items old.here.words c.args.place
+    w.begins (g.met.S.SeqObject.grows_by_one object) w.leads w.here.sound.0.may_come in
     ap length (c.deref-2.ensures.value ∙ c.step.ensures.counts) ∙ (length-set old.counts.items c.args.place.caller (get_or old.counts.items c.args.place.caller 0 + 1) ∙ s.wide)
 
 pub choices-requires-clause-wide : goal.choices-requires-clause-wide
@@ -60,8 +60,8 @@ choices-requires-clause-wide g c =
     let object = c.args.self.now.object.now in
     let old = c.args.walk.now in
     let w = c.requires.walk in
-    let s = standing c.args.self.now.book.now (g.S.SeqObject.init object) (g.S.SeqObject.next object) old.levels.items old.counts.items old.here.words c.args.place
-    c.requires.small (g.met.S.SeqObject.begins_small object) (g.met.S.SeqObject.grows_by_one object) w.leads w.here.sound.0.may_come in
+    let s = standing c.args.self.now.book.now c.args.self.now.front.now (g.S.SeqObject.init object) (g.S.SeqObject.next object) old.levels.items old.counts.items old.here.words c.args.place
+    w.begins (g.met.S.SeqObject.grows_by_one object) w.leads w.here.sound.0.may_come in
     ap length (c.deref-in-Some.ensures.value ∙ c.step.ensures.counts) ∙ (length-set old.counts.items c.args.place.caller (get_or old.counts.items c.args.place.caller 0 + 1) ∙ s.wide)
 
 pub choices-requires-clause-reached : goal.choices-requires-clause-reached
@@ -78,7 +78,7 @@ choices-requires-clause-reached g c =
       cut_is = c.deref-in-Some.ensures.value ∙ e.counts;
       list_is = ap (λ (s : Contents). s.words) e.here;
     } in
-    deeper-reached book (g.S.SeqObject.init object) next old level c.deref-in-Some.result.now c.step.new.walk.here.words c.requires.walk to
+    deeper-reached book c.args.self.now.front.now (g.S.SeqObject.init object) next old level c.deref-in-Some.result.now c.step.new.walk.here.words c.requires.walk to
 
 pub choices-requires-clause-fits : goal.choices-requires-clause-fits
 choices-requires-clause-fits g c =
@@ -96,8 +96,8 @@ choices-requires-clause-fits g c =
       cut_is = c.deref-in-Some.ensures.value ∙ e.counts;
       list_is = ap (λ (s : Contents). s.words) e.here;
     } in
-    deeper-fits book (g.S.SeqObject.init object) next old level c.deref-in-Some.result.now c.step.new.walk.here.words c.in-Some.first c.requires.valid c.requires.small
-    (g.met.S.SeqObject.begins_small object) (g.met.S.SeqObject.grows_by_one object) c.requires.walk to least
+    deeper-fits book c.args.self.now.front.now (g.S.SeqObject.init object) next old level c.deref-in-Some.result.now c.step.new.walk.here.words c.in-Some.first
+    (g.met.S.SeqObject.grows_by_one object) c.requires.walk to least
 
 pub returns-in_ok-push-in-None-clause-outcome : goal.returns-in_ok-push-in-None-clause-outcome
 returns-in_ok-push-in-None-clause-outcome g c =
@@ -116,7 +116,7 @@ returns-in_ok-push-in-None-clause-outcome g c =
       room = ap (λ (s : Contents). s.room) e.here;
       memo = e.memo;
     } in
-    walk-found book (g.S.SeqObject.init c.args.self.now.object.now) next old new level c.requires.walk deeper
+    walk-found book c.args.self.now.front.now (g.S.SeqObject.init c.args.self.now.object.now) next old new level c.requires.walk deeper
     (subst (λ (cut : List ℕ). HoldsAnswered book cut) c.deref-2.ensures.value c.in-None.ensures.none)
 
 pub returns-in_ok-push-in-Some-clause-outcome : goal.returns-in_ok-push-in-Some-clause-outcome
@@ -141,5 +141,5 @@ returns-in_ok-push-in-Some-clause-outcome g c =
     let here : IsOpen book next new.counts.items new.here.words (places_of new.choices.items) =
     same_open book next c.deref-in-Some.result.now new.counts.items new.here.words new.here.words (places_of c.in_ok-fresh-in-Some.fresh.items) (places_of new.choices.items)
     (sym c.deref-in-Some.ensures.value) refl (ap (λ v. places_of v.items) fresh) c.in_ok-fresh-in-Some.ensures.open in
-    walk-deeper book (g.S.SeqObject.init object) next old new level c.requires.small (g.met.S.SeqObject.begins_small object) (g.met.S.SeqObject.grows_by_one object) c.requires.walk deeper here
+    walk-deeper book c.args.self.now.front.now (g.S.SeqObject.init object) next old new level (g.met.S.SeqObject.grows_by_one object) c.requires.walk deeper here
     (omega (arith, ap (λ v. length v.items) fresh, c.in_ok-fresh-in-Some.ensures.few))

@@ -1,0 +1,177 @@
+ghost use Rattle.std.specs.Prelude.{◌≡◌, ℕ, ◌+◌, ◌<◌, [], List, length, slice_index, IfOk, IfSome, IsTrue, OnOk, Some};
+ghost use Rattle.book_base.specs.declared.call.Record.{Record};
+ghost use Rattle.book_base.specs.Cut.{IsWithin};
+ghost use Rattle.book_base.specs.Book.{record_of};
+ghost use Rattle.book_base.specs.Order.{call_at};
+ghost use Rattle.book_laws.specs.Next.{next_call};
+ghost use Rattle.frontier_check.specs.Front.{no_calls, IsNext, IsPut, IsFront, LeavesOpen};
+
+use crate::walk::ROOM;
+use book_base::{Book, Call, Cut, NoMemory, Place, SeqObject, State};
+use std::alloc::Global;
+
+/// A front of an order: the places that stand, and the cut and the object's list behind them.
+#[derive(Drop)]
+pub struct Front {
+    pub places: Vec<Place>,
+    pub cut: Cut,
+    pub here: State,
+}
+
+impl Front {
+    /// The front without places.
+    pub fn new<S: SeqObject>(alloc: Global, object: &S, book: &Book) -> Result<Front, NoMemory>
+        ensures put { IfOk result (IsPut (S.init object.now) (S.next object.now) book.now) }
+        ensures front { IfOk result (IsFront (S.init object.now) (S.next object.now) book.now) }
+        ensures places { IfOk result (λ front. front.places.items ≡ []) }
+        ensures cut { IfOk result (λ front. front.cut ≡ no_calls book.now) }
+        ensures list { IfOk result (λ front. front.here.words ≡ S.init object.now) }
+        ensures room { IfOk result (λ front. front.here.room ≡ ROOM) }
+    {
+        let mut here = State::with_room(alloc, ROOM)?;
+        object.reset(&mut here);
+        Ok(Front {
+            places: Vec::new(alloc),
+            cut: Cut::zero(book.callers()),
+            here,
+        })
+    }
+
+    /// A front of the first of these places, as far as they follow one another and leave each other
+    /// answered call of the book a place behind them. No clause says how far: that costs time alone.
+    pub fn following<S: SeqObject>(
+        alloc: Global,
+        object: &S,
+        book: &Book,
+        places: &[Place],
+    ) -> Result<Option<Front>, NoMemory>
+        ensures { IfOk result (λ found. IfSome found
+            (IsFront (S.init object.now) (S.next object.now) book.now)) }
+    {
+        let limit = limit_of(book, places);
+        let mut front = Front::new(alloc, object, book)?;
+        if front.put_all(object, book, &limit, places)? && front.leaves_open(book) {
+            Ok(Some(front))
+        } else {
+            Ok(None)
+        }
+    }
+
+    // Puts places behind the others as long as they follow. Whether the object gave their replies.
+    fn put_all<S: SeqObject>(
+        &mut self,
+        object: &S,
+        book: &Book,
+        limit: &Cut,
+        places: &[Place],
+    ) -> Result<bool, NoMemory>
+        requires limit { length limit.now ≡ length book.now }
+        requires put { IsPut (S.init object.now) (S.next object.now) book.now self.old }
+        requires room { self.old.here.room ≡ ROOM }
+        ensures { IfOk result (λ given. IsTrue given
+            → IsPut (S.init object.now) (S.next object.now) book.now self.new) }
+    {
+        for place in places {
+            if !self.may_take(book, limit, *place) {
+                return Ok(true);
+            }
+            if !self.put(object, book, *place)? {
+                return Ok(false);
+            }
+        }
+        Ok(true)
+    }
+
+    // Whether a place is the next of its caller, is within the limit, and has the recorded reply and a
+    // view that holds the cut, where its call is answered.
+    fn may_take(&self, book: &Book, limit: &Cut, place: Place) -> bool
+        requires wide { length self.now.cut ≡ length book.now }
+        requires limit { length limit.now ≡ length book.now }
+        ensures { IsTrue result → IsNext book.now self.now.cut place }
+    {
+        let Place {
+            caller,
+            number,
+            reply,
+        } = place;
+        if caller >= book.callers() || number != self.cut.get(caller) {
+            return false;
+        }
+        if number >= book.calls(caller) || number >= limit.get(caller) {
+            return false;
+        }
+        if number >= book.answers(caller) {
+            return true;
+        }
+        let record = book.record(Call { caller, number });
+        record.reply == reply && self.cut.within(&record.view)
+    }
+
+    // Puts a place behind the others. Whether the object gave its reply.
+    fn put<S: SeqObject>(&mut self, object: &S, book: &Book, place: Place) -> Result<bool, NoMemory>
+        requires put { IsPut (S.init object.now) (S.next object.now) book.now self.old }
+        requires next { IsNext book.now self.old.cut place }
+        requires room { self.old.here.room ≡ ROOM }
+        ensures put { IfOk result (λ given. IsTrue given
+            → IsPut (S.init object.now) (S.next object.now) book.now self.new) }
+        ensures room { self.new.here.room ≡ ROOM }
+    {
+        let op = book.op(Call {
+            caller: place.caller,
+            number: place.number,
+        });
+        let reply = object.step(&mut self.here, op);
+        self.cut.set(place.caller, place.number + 1);
+        self.places.push(place)?;
+        Ok(reply == place.reply)
+    }
+
+    // Whether the view of each caller's first call outside the cut holds the cut, where that call is
+    // answered.
+    fn leaves_open(&self, book: &Book) -> bool
+        requires { length self.now.cut ≡ length book.now }
+        ensures { IsTrue result → LeavesOpen book.now self.now.cut }
+    {
+        for caller in 0..book.callers() {
+            let number = self.cut.get(caller);
+            if number < book.answers(caller)
+                && !self.cut.within(&book.record(Call { caller, number }).view)
+            {
+                return false;
+            }
+        }
+        true
+    }
+}
+
+// How many calls of each caller stand at these places, where they are places of the book.
+fn calls_at(book: &Book, places: &[Place]) -> Cut
+    ensures { length result ≡ length book.now }
+{
+    let mut calls = Cut::zero(book.callers());
+    for place in places {
+        if place.caller < calls.n() {
+            calls.set(place.caller, place.number.saturating_add(1));
+        }
+    }
+    calls
+}
+
+// The calls that each answered call that isn't at these places leaves room for before it: the least
+// view of any. No clause says so: it costs or saves time alone.
+fn limit_of(book: &Book, places: &[Place]) -> Cut
+    ensures { length result ≡ length book.now }
+{
+    let calls = calls_at(book, places);
+    let mut limit = calls;
+    for caller in 0..book.callers() {
+        let number = calls.get(caller);
+        if number < book.answers(caller) {
+            let view = book.record(Call { caller, number }).view;
+            if view.within(&limit) {
+                limit = view;
+            }
+        }
+    }
+    limit
+}
