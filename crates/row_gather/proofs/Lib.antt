@@ -4,3 +4,4 @@ pub mod Counting
 pub mod Filling
 pub mod Gathering
 pub mod Ticking
+pub mod Kept

@@ -4,3 +4,4 @@ pub mod Known
 pub mod Filling
 pub mod Exact
 pub mod Worked
+pub mod Gathered

@@ -3,11 +3,13 @@
 
 mod answers;
 mod gather;
+mod gathered;
 mod held;
 mod operations;
 mod records;
 
-pub use gather::gather_at;
+pub use gather::{gather_at, grow_at};
+pub use gathered::Gathered;
 
 #[cfg(test)]
 mod tests;

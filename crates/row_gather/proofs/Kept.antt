@@ -1,0 +1,17 @@
+-- A book that a caller has gathered and kept stays gathered.
+use Rattle.std.proofs.Common.{◌≡◌, ℕ, List, Option, Some, None, length, sym, subst}
+use Rattle.world_core.specs.Local.{Local}
+use Rattle.world_core.specs.Calls.{IsGathered}
+use Rattle.world_books.proofs.Gathered.{gathered_stays}
+use Rattle.row_gather.specs.declared.gathered.Gathered.{Gathered}
+use Rattle.row_gather.specs.Gathered.{IsGatheredBy, GatheredByStays}
+
+-- while its caller peeks more
+pub gathered_by_stays : GatheredByStays
+gathered_by_stays l m None all h = tt
+gathered_by_stays l m (Some g) all h = gathered_stays (length g.book) l m g.cut g.book all h
+
+-- A book that was gathered just now can be kept with its cut.
+pub gathered_by_now : (n : ℕ) (l : Local) (cut : List ℕ) (g : Gathered) → g.cut ≡ cut → IsGathered n l cut g.book → IsGatheredBy l (Some g)
+gathered_by_now n l cut g is h =
+    subst (λ (x : List ℕ). IsGathered (length g.book) l x g.book) (sym is) (subst (λ (k : ℕ). IsGathered k l cut g.book) (sym h.callers) h)

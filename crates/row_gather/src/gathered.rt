@@ -1,0 +1,8 @@
+use book_base::{Book, Cut};
+
+/// A book that a caller has gathered, with the cut that it is at.
+#[derive(Debug, Drop)]
+pub struct Gathered {
+    pub book: Book,
+    pub cut: Cut,
+}
