@@ -1,7 +1,7 @@
--- Books with a front of another's records, and books that are filled with records.
-use Rattle.std.proofs.Common.{◌≡◌, ℕ, ◌+◌, ◌<◌, ◌≤◌, List, [], ◌∷◌, ◌++◌, length, take, set, get_or, slice_get, Some, refl, sym, ap, ◌∙◌, subst, arith, inl, inr}
+-- Books with a front of another's records, and books that are filled with further records.
+use Rattle.std.proofs.Common.{◌≡◌, ℕ, ◌+◌, ◌<◌, ◌≤◌, List, [], ◌∷◌, ◌++◌, length, take, set, get_or, slice_get, Some, refl, sym, ap, ◌∙◌, subst, arith, inl, inr, append_assoc}
 use Rattle.std.proofs.lemmas.Bool.{cases_lt, cases_eq}
-use Rattle.std.proofs.lemmas.List.{set-set, set-get_or, length-set, take_more, take_all, get_or_past, get_or-take, length-take}
+use Rattle.std.proofs.lemmas.List.{set-set, set-get_or, length-set, take_more, take_all, get_or_past, get_or-take, length-take, append-nil}
 use Rattle.std.proofs.lemmas.List.FromFn.{length-map-range_with_len, get_or-map-range_with_len}
 use Rattle.std.proofs.lemmas.Option.{slice_get_within, slice_get_read, none-some}
 use Rattle.list_laws.proofs.Places.{slice_get-take}
@@ -14,6 +14,7 @@ use Rattle.book_base.proofs.GrowthLemmas.{within_announced, below_calls, page_of
 use Rattle.book_base.proofs.ViewLemmas.{answer_stands}
 use Rattle.row_gather.specs.Words.{records_at}
 use Rattle.row_gather.specs.Filling.{with_records, filled, IsFilled}
+use Rattle.row_gather.proofs.Behind.{slice_get-append_right, slice_get-append_along}
 
 -- A book has the calls of another, and a front of its records.
 pub record IsFrontOf (part whole : List Page) : Type 0 where
@@ -40,28 +41,27 @@ front_is_valid part whole front valid =
       comparable = λ a b r s x y. valid.comparable a b r s (front.records a r x) (front.records b s y);
     }
 
--- ---- the records of one caller
+-- ---- the further records of one caller
 
 abbrev page_with : List Page → ℕ → List Record → Page
-page_with book j rs = record (page_of book j) { records = rs }
+page_with book j rs = record (page_of book j) { records = (page_of book j).records ++ rs }
 
--- a page without records is the page with none
-none_from_length : (rs : List Record) → length rs ≡ 0 → rs ≡ []
-none_from_length [] e = refl
-none_from_length (r ∷ rs) e = absurd (omega (arith, e))
-
-pub with_records_none : (book : List Page) (j : ℕ) (rs : List Record) → answers_of book j ≡ 0 → book ≡ with_records book j (take 0 rs)
-with_records_none book j rs none =
-    let nothing : (page_of book j).records ≡ take 0 rs = none_from_length (page_of book j).records none in
-    sym (set-get_or book j empty) ∙ ap (λ (x : List Record). set book j (page_with book j x)) nothing
+-- none
+pub with_records_none : (book : List Page) (j : ℕ) (rs : List Record) → book ≡ with_records book j (take 0 rs)
+with_records_none book j rs =
+    sym (set-get_or book j empty)
+    ∙ ap (λ (x : List Record). set book j (record (page_of book j) { records = x })) (sym (append-nil (page_of book j).records))
 
 -- one answer more
 pub with_records_more : (book : List Page) (j k : ℕ) (rs : List Record) (r : Record) → j < length book → k < length rs → r ≡ get_or rs k r
     → with_answer (with_records book j (take k rs)) j r ≡ with_records book j (take (k + 1) rs)
 with_records_more book j k rs r low inside is =
+    let had : List Record = (page_of book j).records in
+    let more : (had ++ take k rs) ++ r ∷ [] ≡ had ++ take (k + 1) rs
+    = append_assoc had (take k rs) (r ∷ []) ∙ ap (λ (x : List Record). had ++ x) (ap (λ (y : Record). take k rs ++ y ∷ []) is ∙ sym (take_more rs k r inside)) in
     ap (λ (q : Page). set (with_records book j (take k rs)) j (record q { records = q.records ++ r ∷ [] })) (page_of-set_same book j (page_with book j (take k rs)) low)
-    ∙ set-set book j (page_with book j (take k rs)) (page_with book j (take k rs ++ r ∷ []))
-    ∙ ap (λ (x : List Record). set book j (page_with book j x)) (ap (λ (y : Record). take k rs ++ y ∷ []) is ∙ sym (take_more rs k r inside))
+    ∙ set-set book j (page_with book j (take k rs)) (record (page_of book j) { records = (had ++ take k rs) ++ r ∷ [] })
+    ∙ ap (λ (x : List Record). set book j (record (page_of book j) { records = x })) more
 
 -- the first ones are a front of all
 with_records_front : (book : List Page) (j k : ℕ) (rs : List Record) → j < length book → IsFrontOf (with_records book j (take k rs)) (with_records book j rs)
@@ -78,10 +78,11 @@ with_records_front book j k rs low =
       ];
       records = λ call r e. elim (cases_eq call.caller j) [
         | inl same ↦
-            let here : slice_get (take k rs) call.number ≡ Some r
+            let here : slice_get ((page_of book j).records ++ take k rs) call.number ≡ Some r
             = sym (ap (λ (x : ℕ). slice_get (page_of (set book j few) x).records call.number) same ∙ ap (λ (q : Page). slice_get q.records call.number) (page_of-set_same book j few low)) ∙ e in
             ap (λ (x : ℕ). slice_get (page_of (set book j all) x).records call.number) same
-            ∙ (ap (λ (q : Page). slice_get q.records call.number) (page_of-set_same book j all low) ∙ slice_get-take k rs call.number r here)
+            ∙ (ap (λ (q : Page). slice_get q.records call.number) (page_of-set_same book j all low)
+            ∙ slice_get-append_along (page_of book j).records (take k rs) rs call.number r (λ m there. slice_get-take k rs m r there) here)
         | inr other ↦
             ap (λ (q : Page). slice_get q.records call.number) (page_of-set_other book j call.caller all other ∙ sym (page_of-set_other book j call.caller few other)) ∙ e
       ];
@@ -102,16 +103,18 @@ pub wide_next : (book now : List Page) (j k : ℕ) (rs : List Record) (r : Recor
     → IsValid (with_records book j rs) → length r.view ≡ length now
 wide_next book now j k rs r at low inside is valid =
     let all : Page = page_with book j rs in
-    let there : record_of (with_records book j rs) (record { caller = j; number = k }) ≡ Some r
-    = ap (λ (q : Page). slice_get q.records k) (page_of-set_same book j all low) ∙ slice_get_read rs (length rs) k r refl inside is in
-    valid.wide (record { caller = j; number = k }) r there
+    let at_place : ℕ = answers_of book j + k in
+    let there : record_of (with_records book j rs) (record { caller = j; number = at_place }) ≡ Some r
+    = ap (λ (q : Page). slice_get q.records at_place) (page_of-set_same book j all low)
+    ∙ slice_get-append_right (page_of book j).records rs at_place k r refl (slice_get_read rs (length rs) k r refl inside is) in
+    valid.wide (record { caller = j; number = at_place }) r there
     ∙ (length-set book j all ∙ sym (ap (length {A = Page}) at ∙ length-set book j (page_with book j (take k rs))))
 
--- ---- the records of all callers
+-- ---- the further records of all callers
 
 pub filled_is : (book : List Page) (lists : List (List Record)) → length lists ≡ length book → IsFilled book lists (filled book lists)
 filled_is book lists long =
-    let made : ℕ → Page = λ i. record { operations = (page_of book i).operations; records = records_at lists i } in
+    let made : ℕ → Page = λ i. record { operations = (page_of book i).operations; records = (page_of book i).records ++ records_at lists i } in
     let wide : length (filled book lists) ≡ length book = length-map-range_with_len made 0 (length book) in
     let inside : (i : ℕ) → i < length book → page_of (filled book lists) i ≡ made i = λ i low. get_or-map-range_with_len made 0 (length book) i i empty low (omega arith) in
     record {
@@ -122,13 +125,23 @@ filled_is book lists long =
       ];
       records = λ i. elim (cases_lt i (length book)) [
         | inl low ↦ ap (λ (q : Page). q.records) (inside i low)
-        | inr past ↦ ap (λ (q : Page). q.records) (page_past (filled book lists) i (omega (arith, past, wide))) ∙ sym (get_or_past lists i [] (omega (arith, past, long)))
+        | inr past ↦
+            ap (λ (q : Page). q.records) (page_past (filled book lists) i (omega (arith, past, wide)))
+            ∙ sym (ap (λ (rs : List Record). (page_of book i).records ++ rs) (get_or_past lists i [] (omega (arith, past, long))) ∙ ap (λ (q : Page). q.records ++ []) (page_past book i past))
       ];
     }
 
-pub filled_none : (book : List Page) (lists : List (List Record)) → ((i : ℕ) → answers_of book i ≡ 0) → IsFilled book (take 0 lists) book
-filled_none book lists none =
-    record { callers = refl; operations = λ i. refl; records = λ i. none_from_length (page_of book i).records (none i) ∙ sym (get_or_past (take 0 lists) i [] (omega arith)) }
+-- no records of a caller among those of the first ones
+none_past : (lists : List (List Record)) (j i : ℕ) → j ≤ i → records_at (take j lists) i ≡ []
+none_past lists j i past = get_or_past (take j lists) i [] (omega (arith, past, length-take j lists))
+
+-- further records none of which are there
+with_none : (had rs : List Record) → rs ≡ [] → had ++ rs ≡ had
+with_none had rs none = ap (λ (x : List Record). had ++ x) none ∙ append-nil had
+
+pub filled_none : (book : List Page) (lists : List (List Record)) → IsFilled book (take 0 lists) book
+filled_none book lists =
+    record { callers = refl; operations = λ i. refl; records = λ i. sym (with_none (page_of book i).records (records_at (take 0 lists) i) (none_past lists 0 i (omega arith))) }
 
 pub filled_all : (book now : List Page) (lists : List (List Record)) (n : ℕ) → length lists ≤ n → IsFilled book (take n lists) now → IsFilled book lists now
 filled_all book now lists n all h = subst (λ (ls : List (List Record)). IsFilled book ls now) (take_all n lists all) h
@@ -137,24 +150,17 @@ filled_all book now lists n all h = subst (λ (ls : List (List Record)). IsFille
 records_at-take : (lists : List (List Record)) (n i : ℕ) → i < n → records_at (take n lists) i ≡ records_at lists i
 records_at-take lists n i low = get_or-take n lists i [] low
 
-length-take-at_most : (n : ℕ) (lists : List (List Record)) → length (take n lists) ≤ n
-length-take-at_most n lists = omega (arith, length-take n lists)
-
 -- what they have at a place
-records_of_first : (lists : List (List Record)) (j i k : ℕ) (r : Record) → slice_get (records_at (take j lists) i) k ≡ Some r → (i < j) × (slice_get (records_at lists i) k ≡ Some r)
+records_of_first : (lists : List (List Record)) (j i k : ℕ) (r : Record) → slice_get (records_at (take j lists) i) k ≡ Some r → slice_get (records_at lists i) k ≡ Some r
 records_of_first lists j i k r e =
     elim (cases_lt i j) [
-      | inl below ↦ (below, ap (λ (rs : List Record). slice_get rs k) (sym (records_at-take lists j i below)) ∙ e)
-      | inr past ↦
-          let none : records_at (take j lists) i ≡ [] = get_or_past (take j lists) i [] (omega (arith, past, length-take-at_most j lists)) in
-          absurd (none-some r (sym (ap (λ (rs : List Record). slice_get rs k) none) ∙ e))
+      | inl below ↦ ap (λ (rs : List Record). slice_get rs k) (sym (records_at-take lists j i below)) ∙ e
+      | inr past ↦ absurd (none-some r (sym (ap (λ (rs : List Record). slice_get rs k) (none_past lists j i past)) ∙ e))
     ]
 
--- the caller j has no records yet where the first j have theirs
-pub unanswered_next : (book now : List Page) (lists : List (List Record)) (j : ℕ) → IsFilled book (take j lists) now → answers_of now j ≡ 0
-unanswered_next book now lists j h =
-    let none : records_at (take j lists) j ≡ [] = get_or_past (take j lists) j [] (length-take-at_most j lists) in
-    ap (length {A = Record}) (h.records j ∙ none)
+-- the caller j has no further records yet where the first j have theirs
+records_next : (book now : List Page) (lists : List (List Record)) (j : ℕ) → IsFilled book (take j lists) now → (page_of now j).records ≡ (page_of book j).records
+records_next book now lists j h = h.records j ∙ with_none (page_of book j).records (records_at (take j lists) j) (none_past lists j j (omega arith))
 
 -- and with them the book is a front of the one with all
 pub valid_next : (book now : List Page) (lists : List (List Record)) (j : ℕ) (rs : List Record) → IsFilled book (take j lists) now → length lists ≡ length book → j < length book
@@ -174,13 +180,17 @@ valid_next book now lists j rs h long low at valid =
       ];
       records = λ call r e. elim (cases_eq call.caller j) [
         | inl same ↦
-            let here : slice_get rs call.number ≡ Some r
+            let here : slice_get ((page_of now j).records ++ rs) call.number ≡ Some r
             = sym (ap (λ (x : ℕ). slice_get (page_of (set now j p) x).records call.number) same ∙ ap (λ (q : Page). slice_get q.records call.number) (page_of-set_same now j p inside)) ∙ e in
-            ap (λ (x : List Record). slice_get x call.number) (whole.records call.caller ∙ (ap (records_at lists) same ∙ at)) ∙ here
+            ap (λ (x : ℕ). slice_get (page_of (filled book lists) x).records call.number) same
+            ∙ (ap (λ (x : List Record). slice_get x call.number) (whole.records j ∙ (ap (λ (x : List Record). (page_of book j).records ++ x) at
+            ∙ ap (λ (x : List Record). x ++ rs) (sym (records_next book now lists j h)))) ∙ here)
         | inr other ↦
-            let here : slice_get (records_at (take j lists) call.caller) call.number ≡ Some r
+            let here : slice_get ((page_of book call.caller).records ++ records_at (take j lists) call.caller) call.number ≡ Some r
             = sym (ap (λ (q : Page). slice_get q.records call.number) (page_of-set_other now j call.caller p other) ∙ ap (λ (x : List Record). slice_get x call.number) (h.records call.caller)) ∙ e in
-            ap (λ (x : List Record). slice_get x call.number) (whole.records call.caller) ∙ (records_of_first lists j call.caller call.number r here).1
+            ap (λ (x : List Record). slice_get x call.number) (whole.records call.caller)
+            ∙ slice_get-append_along (page_of book call.caller).records (records_at (take j lists) call.caller) (records_at lists call.caller) call.number r
+            (λ m there. records_of_first lists j call.caller m r there) here
       ];
     })
     valid
@@ -202,16 +212,16 @@ filled_more book now new lists j rs h long low at is =
       ];
       records = λ i. elim (cases_eq i j) [
         | inl same ↦
-            subst (λ (x : ℕ). (page_of (set now j p) x).records ≡ records_at (take (j + 1) lists) x) (sym same)
-            (ap (λ (q : Page). q.records) (page_of-set_same now j p inside) ∙ (sym at ∙ sym (records_at-take lists (j + 1) j (omega arith))))
+            subst (λ (x : ℕ). (page_of (set now j p) x).records ≡ (page_of book x).records ++ records_at (take (j + 1) lists) x) (sym same)
+            (ap (λ (q : Page). q.records) (page_of-set_same now j p inside)
+            ∙ (ap (λ (x : List Record). x ++ rs) (records_next book now lists j h)
+            ∙ ap (λ (x : List Record). (page_of book j).records ++ x) (sym at ∙ sym (records_at-take lists (j + 1) j (omega arith)))))
         | inr other ↦
             ap (λ (q : Page). q.records) (page_of-set_other now j i p other)
-            ∙ (h.records i ∙ elim (cases_lt i j) as (λ _. records_at (take j lists) i ≡ records_at (take (j + 1) lists) i) [
+            ∙ (h.records i ∙ ap (λ (x : List Record). (page_of book i).records ++ x) (elim (cases_lt i j) as (λ _. records_at (take j lists) i ≡ records_at (take (j + 1) lists) i) [
               | inl below ↦ records_at-take lists j i below ∙ sym (records_at-take lists (j + 1) i (omega arith))
-              | inr past ↦
-                  get_or_past (take j lists) i [] (omega (arith, past, length-take-at_most j lists))
-                  ∙ sym (get_or_past (take (j + 1) lists) i [] (omega (arith, past, other, length-take-at_most (j + 1) lists)))
-            ])
+              | inr past ↦ none_past lists j i past ∙ sym (none_past lists (j + 1) i (omega (arith, past, other)))
+            ]))
       ];
     } in
     subst (IsFilled book (take (j + 1) lists)) (sym is) made

@@ -1,5 +1,5 @@
 -- A book that a caller has gathered and kept stays gathered.
-use Rattle.std.proofs.Common.{◌≡◌, ℕ, List, Option, Some, None, length, sym, subst}
+use Rattle.std.proofs.Common.{◌≡◌, ℕ, List, Some, None, length, sym, subst}
 use Rattle.world_core.specs.Local.{Local}
 use Rattle.world_core.specs.Calls.{IsGathered}
 use Rattle.world_books.proofs.Gathered.{gathered_stays}

@@ -1,7 +1,9 @@
+pub mod Behind
 pub mod Peeking
 pub mod Reading
 pub mod Counting
 pub mod Filling
 pub mod Gathering
+pub mod Beginning
 pub mod Ticking
 pub mod Kept

@@ -2,7 +2,7 @@
 use Rattle.std.specs.Prelude.{◌≡◌, ℕ, ◌<◌, IsTrue, Vec, List, map, slice_index}
 use Rattle.book_base.specs.declared.call.Call.{Call}
 use Rattle.book_base.specs.declared.call.Record.{Record}
-use Rattle.book_base.specs.Book.{Page, calls_of}
+use Rattle.book_base.specs.Book.{Page}
 use Rattle.world_core.specs.declared.region.Region.{Region}
 use Rattle.world_core.specs.declared.region.Region.TheVariants.{N, M}
 use Rattle.world_core.specs.Event.{knows_row}
@@ -28,16 +28,16 @@ module _ {P : Type 0} where
   abbrev pub KnowsFirst : Rows P → Caller P → Region → ℕ → ℕ → Type 0
   KnowsFirst r c region j count = KnowsRows r.callers (local_with c) region j count
 
-  -- It knows the rows of all records that a cut holds; and those of all calls of a book.
+  -- It knows the rows of all records that a cut holds; and those of all calls up to some counts.
   abbrev pub KnowsRecords : Rows P → Caller P → List ℕ → Type 0
   KnowsRecords r c cut = (j : ℕ) → j < r.callers → KnowsFirst r c M j (slice_index cut j)
 
-  abbrev pub KnowsCalls : Rows P → Caller P → List Page → Type 0
-  KnowsCalls r c book = (j : ℕ) → j < r.callers → KnowsFirst r c N j (calls_of book j)
+  abbrev pub KnowsCalls : Rows P → Caller P → List ℕ → Type 0
+  KnowsCalls r c counts = (j : ℕ) → j < r.callers → KnowsFirst r c N j (slice_index counts j)
 
-  -- It has peeked the first records of caller j; and all records that a cut holds.
-  abbrev pub HasRecords : Rows P → Caller P → ℕ → ℕ → List Record → Type 0
-  HasRecords r c j count records = ArePeekedRecords r.callers (local_with c) j count records
+  -- It has peeked the records of caller j from a number on, up to a count; and all records that a cut holds and a book lacks.
+  abbrev pub HasRecords : Rows P → Caller P → ℕ → ℕ → ℕ → List Record → Type 0
+  HasRecords r c j from count records = ArePeekedRecords r.callers (local_with c) j from count records
 
-  abbrev pub HasAllRecords : Rows P → Caller P → List ℕ → List (List Record) → Type 0
-  HasAllRecords r c cut lists = ArePeekedTo r.callers (local_with c) cut r.callers lists
+  abbrev pub HasAllRecords : Rows P → Caller P → List Page → List ℕ → List (List Record) → Type 0
+  HasAllRecords r c book cut lists = ArePeekedTo r.callers (local_with c) book cut r.callers lists

@@ -1,9 +1,9 @@
 -- The words of a book, as a caller has peeked them.
-use Rattle.std.specs.Prelude.{◌≡◌, ℕ, ◌+◌, ◌*◌, ◌<◌, IsTrue, max, sum, List, [], ◌∷◌, length, map, Some, slice_get, slice_index, slice_index_or}
+use Rattle.std.specs.Prelude.{◌≡◌, ◌≢◌, ℕ, ◌+◌, ◌*◌, ◌<◌, IsTrue, max, sum, List, [], ◌∷◌, length, map, Some, slice_get, slice_index, slice_index_or}
 use Rattle.book_base.specs.declared.call.Call.{Call}
 use Rattle.book_base.specs.declared.call.Record.{Record}
 use Rattle.book_base.specs.OperationWord.{low_of, high_of}
-use Rattle.book_base.specs.Book.{Page, calls_of, answers_of, announced, answered, operation_of}
+use Rattle.book_base.specs.Book.{Page, page_of, calls_of, answers_of, announced, answered, operation_of}
 use Rattle.book_base.specs.BookAt.{greatest_count}
 use Rattle.world_core.specs.declared.region.Region.{Region}
 use Rattle.world_core.specs.declared.region.Region.TheVariants.{N, M}
@@ -32,19 +32,19 @@ pub record IsPeekedRecord (n : ℕ) (l : Local) (call : Call) (r : Record) : Typ
   pub reply : HasPeeked l M call 0 r.reply
   pub view : IsPeekedView n l call r.view
 
--- The first records of caller j, by number, as many as the count says.
-pub record ArePeekedRecords (n : ℕ) (l : Local) (j count : ℕ) (records : List Record) : Type 0 where
-  pub long : length records ≡ count
-  pub each : (k : ℕ) (r : Record) → slice_get records k ≡ Some r → IsPeekedRecord n l (record { caller = j; number = k }) r
+-- The records of caller j from a number on, up to a count.
+pub record ArePeekedRecords (n : ℕ) (l : Local) (j from count : ℕ) (records : List Record) : Type 0 where
+  pub long : from + length records ≡ count
+  pub each : (k : ℕ) (r : Record) → slice_get records k ≡ Some r → IsPeekedRecord n l (record { caller = j; number = from + k }) r
 
 -- The records of a caller among those of all callers.
 abbrev pub records_at : List (List Record) → ℕ → List Record
 records_at lists j = slice_index_or lists j []
 
--- The records that a cut holds of the first callers, by caller and number.
-pub record ArePeekedTo (n : ℕ) (l : Local) (cut : List ℕ) (callers : ℕ) (lists : List (List Record)) : Type 0 where
+-- The records of the first callers that a cut holds and a book lacks, by caller and number.
+pub record ArePeekedTo (n : ℕ) (l : Local) (book : List Page) (cut : List ℕ) (callers : ℕ) (lists : List (List Record)) : Type 0 where
   pub wide : length lists ≡ callers
-  pub each : (j : ℕ) → j < callers → ArePeekedRecords n l j (slice_index cut j) (records_at lists j)
+  pub each : (j : ℕ) → j < callers → ArePeekedRecords n l j (answers_of book j) (slice_index cut j) (records_at lists j)
 
 -- The greatest count for a caller in the views of some records; and in those of all callers' records.
 abbrev pub greatest_of : List Record → ℕ → ℕ
@@ -58,20 +58,25 @@ greatest_in (records ∷ lists) i = max (greatest_of records i) (greatest_in lis
 abbrev pub AreWide : ℕ → List Record → Type 0
 AreWide n records = (k : ℕ) (r : Record) → slice_get records k ≡ Some r → length r.view ≡ n
 
--- Two books have the same numbers of calls, and no records.
-pub record HasCallsOf (book other : List Page) : Type 0 where
+-- All calls of a book have operations that were peeked.
+abbrev pub ArePeekedOperations : Local → List Page → Type 0
+ArePeekedOperations l book = (call : Call) (op : ℕ) → operation_of book call ≡ Some op → IsPeekedOperation l call op
+
+-- Another book has the records of this one, and all its calls have operations that were peeked.
+pub record HasPeekedCalls (l : Local) (book other : List Page) : Type 0 where
   pub callers : length other ≡ length book
-  pub calls : (i : ℕ) → calls_of other i ≡ calls_of book i
-  pub unanswered : (i : ℕ) → answers_of other i ≡ 0
+  pub records : (i : ℕ) → (page_of other i).records ≡ (page_of book i).records
+  pub operations : ArePeekedOperations l other
 
--- The first calls of caller j, as many as the number says, have operations that were peeked; and those of the other callers are
--- those of the other book.
-pub record ArePeekedCallsOf (l : Local) (j count : ℕ) (book other : List Page) : Type 0 where
-  pub each : (k op : ℕ) → k < count → operation_of other (record { caller = j; number = k }) ≡ Some op
-      → IsPeekedOperation l (record { caller = j; number = k }) op
-  pub others : (call : Call) → (call.caller ≡ j → ⊥) → operation_of other call ≡ operation_of book call
+-- Another book has the calls of caller j up to a count, or those that this one has if they are more; and as many of others.
+pub record IsLengthenedTo (j count : ℕ) (book other : List Page) : Type 0 where
+  pub mine : calls_of other j ≡ max (calls_of book j) count
+  pub others : (i : ℕ) → i ≢ j → calls_of other i ≡ calls_of book i
 
--- All calls of the first callers have operations that were peeked.
-abbrev pub ArePeekedCalls : Local → ℕ → List Page → Type 0
-ArePeekedCalls l callers book =
-    (call : Call) (op : ℕ) → call.caller < callers → operation_of book call ≡ Some op → IsPeekedOperation l call op
+-- The counter has ticked for each word of the records up to a count but the first ones: for the reply and the n entries of the view.
+abbrev pub TicksForRecords : ℕ → ℕ → ℕ → ℕ → ℕ → Type 0
+TicksForRecords n from count before after = after + (1 + n) * from ≡ before + (1 + n) * count
+
+-- It has ticked for both words of each operation that another book has and this one lacks.
+abbrev pub TicksForCalls : List Page → List Page → ℕ → ℕ → Type 0
+TicksForCalls book other before after = after + 2 * sum (announced book) ≡ before + 2 * sum (announced other)

@@ -1,6 +1,6 @@
 //! Puts records into a book that has their calls.
-ghost use Rattle.std.specs.Prelude.{ℕ, ◌≡◌, ◌<◌, OnOk, length};
-ghost use Rattle.book_base.specs.Book.{answers_of, IsValid, with_answer};
+ghost use Rattle.std.specs.Prelude.{◌≡◌, ◌<◌, OnOk, length};
+ghost use Rattle.book_base.specs.Book.{IsValid, with_answer};
 ghost use Rattle.book_base.specs.Refusal.{MayAnswer};
 ghost use Rattle.row_gather.specs.Known.{lists_in};
 ghost use Rattle.row_gather.specs.Filling.{with_records, filled, IsFilled};
@@ -21,10 +21,9 @@ fn add_answer(book: &mut Book, j: u32, answer: Record) -> Result<(), NoMemory>
     }
 }
 
-// Adds all answers of caller j, which has none so far.
+// Adds further answers of caller j, behind those that stand.
 fn add_answers_of(book: &mut Book, j: u32, records: &[Record]) -> Result<(), NoMemory>
     requires caller { j < length book.old }
-    requires unanswered { answers_of book.old j ≡ 0 }
     requires valid { IsValid (with_records book.old j records.now) }
     ensures { OnOk result (book.new ≡ with_records book.old j records.now) }
 {
@@ -34,10 +33,9 @@ fn add_answers_of(book: &mut Book, j: u32, records: &[Record]) -> Result<(), NoM
     Ok(())
 }
 
-// Adds the answers of all callers, which have none so far.
+// Adds further answers of all callers, behind those that stand.
 pub fn add_answers(book: &mut Book, lists: &[Vec<Record>]) -> Result<(), NoMemory>
     requires callers { length lists.now ≡ length book.old }
-    requires unanswered { (i : ℕ) → answers_of book.old i ≡ 0 }
     requires valid { IsValid (filled book.old (lists_in lists.now)) }
     ensures { OnOk result (IsFilled book.old (lists_in lists.now) book.new) }
 {

@@ -1,4 +1,4 @@
-ghost use Rattle.std.specs.Prelude.{◌≡◌, ◌+◌, IfOk, None};
+ghost use Rattle.std.specs.Prelude.{◌≡◌, ◌+◌, ◌≤◌, ◌↔◌, IfOk, IsTrue, None};
 ghost use Rattle.world_core.specs.declared.region.Region.{Region};
 ghost use Rattle.world_core.specs.Calls.{IsGathered};
 ghost use Rattle.world_laws.specs.Given.{IsGivenIn};
@@ -6,12 +6,12 @@ ghost use Rattle.row_table.specs.Callers.{local_with, stance_of, IsCallerOf, IsS
 ghost use Rattle.row_gather.specs.Peeks.{OnlyPeeks};
 ghost use Rattle.row_gather.specs.Words.{words_of_book};
 ghost use Rattle.row_gather.specs.Exact.{IsTheBookAt};
-ghost use Rattle.row_gather.specs.Gathered.{IsGatheredBy};
+ghost use Rattle.row_gather.specs.Gathered.{IsGatheredBy, HoldsAll, IsBegunWith, TicksForNew};
 
 use crate::answers::add_answers;
 use crate::gathered::Gathered;
 use crate::held::held_calls;
-use crate::operations::peek_operations;
+use crate::operations::add_calls;
 use crate::records::peek_records;
 use book_base::{Book, Cut, NoMemory};
 use row_table::{Caller, Rows, Steps};
@@ -19,37 +19,44 @@ use std::alloc::Global;
 use std::sync::ledger::Ledger;
 use world_core::Program;
 
-/// The book at a cut, read from the rows of the table: the records that the cut holds, of all callers, and
-/// the calls that some of their views hold, answered or not (Castañeda and Rodríguez 2023).
-///
-/// The cut is one that a scan of the region of answers gave this caller, and no scan of the caller is under
-/// way. Each word of the book is one peek. After want of memory the caller may have peeked a part of them.
-pub fn gather_at<P: Program, L: Ledger>(
-    alloc: Global,
-    rows: &Rows<P>,
-    caller: &mut Caller<P>,
-    cut: &Cut,
-    steps: &mut Steps<L>,
-) -> Result<Book, NoMemory>
-    requires caller { IsCallerOf P.meaning rows.now caller.old }
-    requires given { IsGivenIn (local_with caller.old).cuts Region.M cut.now }
-    requires unscanned { (local_with caller.old).scan ≡ None }
-    ensures caller { IsStill P.meaning rows.now caller.old caller.new }
-    ensures stance { stance_of caller.new ≡ stance_of caller.old }
-    ensures peeks { OnlyPeeks caller.old caller.new steps.old steps.new }
-    ensures gathered { IfOk result (IsGathered rows.now.callers (local_with caller.new) cut.now) }
-    ensures exact { IfOk result (IsTheBookAt P.meaning rows.now caller.new cut.now) }
-    ensures ticks { IfOk result (λ book. steps.new ≡ steps.old + words_of_book book) }
+// Whether the cut is of the callers of the book, and holds all its records.
+fn holds_all(cut: &Cut, book: &Book) -> bool
+    ensures { IsTrue result ↔ HoldsAll cut.now book.now }
 {
-    let records = peek_records(alloc, rows, caller, cut, steps)?;
-    let mut book = Book::with_calls(alloc, &held_calls(cut.n(), &records))?;
-    peek_operations(rows, caller, &mut book, steps);
-    add_answers(&mut book, &records)?;
-    Ok(book)
+    if book.callers() != cut.n() {
+        return false;
+    }
+    for j in 0..cut.n() {
+        if book.answers(j) > cut.get(j) {
+            return false;
+        }
+    }
+    true
 }
 
-/// The book at a cut, as [`gather_at`] reads it, to be kept with its cut. What the caller has gathered before is
-/// let go: each word is peeked anew.
+// The kept book, where the cut is of its callers and holds all its records; else the book without
+// calls.
+fn begin(alloc: Global, gathered: Option<Gathered>, cut: &Cut) -> Result<Book, NoMemory>
+    ensures { IfOk result (IsBegunWith gathered cut.now) }
+{
+    if let Some(kept) = gathered {
+        if holds_all(cut, &kept.book) {
+            return Ok(kept.book);
+        }
+    }
+    Book::new(alloc, cut.n())
+}
+
+/// The book at a cut, from what the caller has gathered before: only words that are new are peeked.
+///
+/// It is read from the rows of the table: the records that the cut holds, of all callers, and the
+/// calls that some of their views hold, answered or not (Castañeda and Rodríguez 2023). The kept
+/// book grows to it where the cut is of its callers and holds all its records, as the cut of a later
+/// scan of the same caller does; else the book is read from the beginning.
+///
+/// The cut is one that a scan of the region of answers gave this caller, and no scan of the caller is
+/// under way. Each word that the kept book lacks is one peek. After want of memory the caller may have
+/// peeked a part of them, and the kept book is gone.
 pub fn grow_at<P: Program, L: Ledger>(
     alloc: Global,
     rows: &Rows<P>,
@@ -66,12 +73,16 @@ pub fn grow_at<P: Program, L: Ledger>(
     ensures stance { stance_of caller.new ≡ stance_of caller.old }
     ensures peeks { OnlyPeeks caller.old caller.new steps.old steps.new }
     ensures cut { IfOk result (λ g. g.cut ≡ cut.now) }
-    ensures gathered { IfOk result (λ g. IsGathered rows.now.callers (local_with caller.new) cut.now g.book) }
+    ensures gathered { IfOk result (λ g.
+        IsGathered rows.now.callers (local_with caller.new) cut.now g.book) }
     ensures exact { IfOk result (λ g. IsTheBookAt P.meaning rows.now caller.new cut.now g.book) }
+    ensures ticks { IfOk result (λ g. TicksForNew rows.now.callers gathered g steps.old steps.new) }
+    ensures most { IfOk result (λ g. steps.new ≤ steps.old + words_of_book g.book) }
 {
-    drop(gathered);
-    Ok(Gathered {
-        book: gather_at(alloc, rows, caller, cut, steps)?,
-        cut: *cut,
-    })
+    let mut book = begin(alloc, gathered, cut)?;
+    let records = peek_records(alloc, rows, caller, &book, cut, steps)?;
+    let held = held_calls(cut.n(), &records);
+    add_calls(rows, caller, &mut book, &held, steps)?;
+    add_answers(&mut book, &records)?;
+    Ok(Gathered { book, cut: *cut })
 }

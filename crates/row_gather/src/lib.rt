@@ -1,4 +1,5 @@
-//! Reads the published records at a cut from the rows of a table, as a book: exactly the book at that cut.
+//! Reads the published records at a cut from the rows of a table, as a book: exactly the book at that
+//! cut, which grows from the one that was read before.
 #![tactic(auto)]
 
 mod answers;
@@ -8,7 +9,7 @@ mod held;
 mod operations;
 mod records;
 
-pub use gather::{gather_at, grow_at};
+pub use gather::grow_at;
 pub use gathered::Gathered;
 
 #[cfg(test)]

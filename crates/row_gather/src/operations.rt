@@ -1,13 +1,15 @@
 //! The operations of a book's calls, word by word.
-ghost use Rattle.std.specs.Prelude.{ℕ, ◌≡◌, ◌+◌, ◌*◌, ◌<◌, length, sum};
-ghost use Rattle.book_base.specs.Book.{calls_of, answers_of, announced};
+ghost use Rattle.std.specs.Prelude.{ℕ, ◌≡◌, ◌+◌, ◌<◌, ◌≤◌, max, length, slice_index, OnOk};
+ghost use Rattle.book_base.specs.declared.TheConstants.{MAX_CALLS};
+ghost use Rattle.book_base.specs.Book.{calls_of, with_call};
 ghost use Rattle.world_core.specs.declared.region.Region.{Region};
 ghost use Rattle.row_table.specs.Callers.{local_with};
 ghost use Rattle.row_gather.specs.Peeks.{IsReady, PeeksAlone};
-ghost use Rattle.row_gather.specs.Words.{IsPeekedOperation, HasCallsOf, ArePeekedCallsOf, ArePeekedCalls};
+ghost use Rattle.row_gather.specs.Words.{IsPeekedOperation, ArePeekedOperations, HasPeekedCalls};
+ghost use Rattle.row_gather.specs.Words.{IsLengthenedTo, TicksForCalls};
 ghost use Rattle.row_gather.specs.Known.{KnowsCall, KnowsFirst, KnowsCalls};
 
-use book_base::{Book, Call, OpWord, join};
+use book_base::{Book, BookFault, Call, Cut, NoMemory, OpWord, join};
 use row_table::{Caller, Rows, Steps};
 use std::sync::ledger::Ledger;
 use world_core::{Program, Region};
@@ -31,48 +33,68 @@ fn peek_operation<P: Program, L: Ledger>(
     join(low, high)
 }
 
-// Puts the operations of caller j's calls into the book.
-fn peek_operations_of<P: Program, L: Ledger>(
+// A call of a caller that has room for it is refused for want of memory alone.
+fn add_call(book: &mut Book, j: u32, op: OpWord) -> Result<(), NoMemory>
+    requires caller { j < length book.old }
+    requires room { calls_of book.old j < MAX_CALLS }
+    ensures { OnOk result (book.new ≡ with_call book.old j op) }
+{
+    match book.add_call(j, op) {
+        Ok(()) => Ok(()),
+        Err(BookFault::NoMemory) => Err(NoMemory),
+        Err(_) => unreachable!(),
+    }
+}
+
+// Adds the calls of caller j that the book lacks, up to a count, with their operations.
+fn add_calls_of<P: Program, L: Ledger>(
     rows: &Rows<P>,
     caller: &mut Caller<P>,
     book: &mut Book,
     j: u32,
+    count: u64,
     steps: &mut Steps<L>,
-)
+) -> Result<(), NoMemory>
     requires ready { IsReady P.meaning rows.now caller.old }
     requires caller_fits { j < rows.now.callers }
     requires callers { length book.old ≡ rows.now.callers }
-    requires unanswered { (i : ℕ) → answers_of book.old i ≡ 0 }
-    requires known { KnowsFirst rows.now caller.old Region.N j (calls_of book.old j) }
+    requires few { count ≤ MAX_CALLS }
+    requires known { KnowsFirst rows.now caller.old Region.N j count }
+    requires peeked { ArePeekedOperations (local_with caller.old) book.old }
     ensures peeks { PeeksAlone P.meaning rows.now caller.old caller.new steps.old steps.new }
-    ensures ticks { steps.new ≡ steps.old + 2 * calls_of book.old j }
-    ensures same { HasCallsOf book.old book.new }
-    ensures calls { ArePeekedCallsOf (local_with caller.new) j (calls_of book.old j) book.old book.new }
+    ensures ticks { OnOk result (TicksForCalls book.old book.new steps.old steps.new) }
+    ensures same { OnOk result (HasPeekedCalls (local_with caller.new) book.old book.new) }
+    ensures calls { OnOk result (IsLengthenedTo j count book.old book.new) }
 {
-    for number in 0..book.calls(j) {
-        let call = Call { caller: j, number };
-        let op = peek_operation(rows, caller, call, steps);
-        book.set_op(call, op);
+    for number in book.calls(j)..count {
+        let op = peek_operation(rows, caller, Call { caller: j, number }, steps);
+        add_call(book, j, op)?;
     }
+    Ok(())
 }
 
-// Puts the operations of all calls into the book.
-pub fn peek_operations<P: Program, L: Ledger>(
+// Adds the calls of all callers that the book lacks, up to these counts, with their operations.
+pub fn add_calls<P: Program, L: Ledger>(
     rows: &Rows<P>,
     caller: &mut Caller<P>,
     book: &mut Book,
+    counts: &Cut,
     steps: &mut Steps<L>,
-)
+) -> Result<(), NoMemory>
     requires ready { IsReady P.meaning rows.now caller.old }
     requires callers { length book.old ≡ rows.now.callers }
-    requires unanswered { (i : ℕ) → answers_of book.old i ≡ 0 }
-    requires known { KnowsCalls rows.now caller.old book.old }
+    requires wide { length counts.now ≡ rows.now.callers }
+    requires few { (j : ℕ) → slice_index counts.now j ≤ MAX_CALLS }
+    requires known { KnowsCalls rows.now caller.old counts.now }
+    requires peeked { ArePeekedOperations (local_with caller.old) book.old }
     ensures peeks { PeeksAlone P.meaning rows.now caller.old caller.new steps.old steps.new }
-    ensures ticks { steps.new ≡ steps.old + 2 * sum (announced book.old) }
-    ensures same { HasCallsOf book.old book.new }
-    ensures calls { ArePeekedCalls (local_with caller.new) rows.now.callers book.new }
+    ensures ticks { OnOk result (TicksForCalls book.old book.new steps.old steps.new) }
+    ensures same { OnOk result (HasPeekedCalls (local_with caller.new) book.old book.new) }
+    ensures calls { OnOk result ((j : ℕ) → j < rows.now.callers
+        → calls_of book.new j ≡ max (calls_of book.old j) (slice_index counts.now j)) }
 {
     for j in 0..rows.callers() {
-        peek_operations_of(rows, caller, book, j, steps);
+        add_calls_of(rows, caller, book, j, counts.get(j), steps)?;
     }
+    Ok(())
 }

@@ -1,12 +1,14 @@
 //! The records that a cut holds, word by word.
-ghost use Rattle.std.specs.Prelude.{◌≡◌, ◌+◌, ◌*◌, sum, ◌<◌, IfOk, length};
+ghost use Rattle.std.specs.Prelude.{◌≡◌, ◌+◌, ◌<◌, ◌≤◌, IfOk, length, sum};
+ghost use Rattle.book_base.specs.Cut.{IsWithin};
+ghost use Rattle.book_base.specs.Book.{answered};
 ghost use Rattle.world_core.specs.declared.region.Region.{Region};
 ghost use Rattle.row_table.specs.Callers.{local_with};
 ghost use Rattle.row_gather.specs.Peeks.{IsReady, PeeksAlone};
-ghost use Rattle.row_gather.specs.Words.{IsPeekedView, IsPeekedRecord};
+ghost use Rattle.row_gather.specs.Words.{IsPeekedView, IsPeekedRecord, TicksForRecords};
 ghost use Rattle.row_gather.specs.Known.{KnowsCall, KnowsFirst, KnowsRecords, HasRecords, HasAllRecords, lists_in};
 
-use book_base::{Call, Cut, NoMemory, Record};
+use book_base::{Book, Call, Cut, NoMemory, Record};
 use row_table::{Caller, Rows, Steps};
 use std::alloc::Global;
 use std::sync::ledger::Ledger;
@@ -53,49 +55,57 @@ fn peek_record<P: Program, L: Ledger>(
     Record { reply, view }
 }
 
-// The first so many records of caller j.
+// The records of caller j from a number on, up to a count.
 fn peek_records_of<P: Program, L: Ledger>(
     alloc: Global,
     rows: &Rows<P>,
     caller: &mut Caller<P>,
     j: u32,
+    from: u64,
     count: u64,
     steps: &mut Steps<L>,
 ) -> Result<Vec<Record>, NoMemory>
     requires ready { IsReady P.meaning rows.now caller.old }
     requires caller_fits { j < rows.now.callers }
+    requires order { from ≤ count }
     requires known { KnowsFirst rows.now caller.old Region.M j count }
     ensures peeks { PeeksAlone P.meaning rows.now caller.old caller.new steps.old steps.new }
-    ensures ticks { IfOk result (λ _. steps.new ≡ steps.old + (1 + rows.now.callers) * count) }
-    ensures records { IfOk result (λ records. HasRecords rows.now caller.new j count records.items) }
+    ensures ticks { IfOk result (λ _. TicksForRecords rows.now.callers from count steps.old steps.new) }
+    ensures records { IfOk result (λ rs. HasRecords rows.now caller.new j from count rs.items) }
 {
-    let mut records = Vec::with_capacity(alloc, count as usize)?;
-    for number in 0..count {
+    let mut records = Vec::with_capacity(alloc, (count - from) as usize)?;
+    for number in from..count {
         let call = Call { caller: j, number };
         records.push(peek_record(rows, caller, call, steps))?;
     }
     Ok(records)
 }
 
-// All records that the cut holds, by caller.
+// The records that the cut holds and the book lacks, by caller.
 pub fn peek_records<P: Program, L: Ledger>(
     alloc: Global,
     rows: &Rows<P>,
     caller: &mut Caller<P>,
+    book: &Book,
     cut: &Cut,
     steps: &mut Steps<L>,
 ) -> Result<Vec<Vec<Record>>, NoMemory>
     requires ready { IsReady P.meaning rows.now caller.old }
+    requires callers { length book.now ≡ rows.now.callers }
     requires wide { length cut.now ≡ rows.now.callers }
+    requires within { IsWithin (answered book.now) cut.now }
     requires known { KnowsRecords rows.now caller.old cut.now }
     ensures peeks { PeeksAlone P.meaning rows.now caller.old caller.new steps.old steps.new }
-    ensures ticks { IfOk result (λ _. steps.new ≡ steps.old + (1 + rows.now.callers) * sum cut.now) }
-    ensures records { IfOk result (λ lists. HasAllRecords rows.now caller.new cut.now (lists_in lists.items)) }
+    ensures ticks { IfOk result (λ _.
+        TicksForRecords rows.now.callers (sum (answered book.now)) (sum cut.now) steps.old steps.new) }
+    ensures records { IfOk result (λ lists.
+        HasAllRecords rows.now caller.new book.now cut.now (lists_in lists.items)) }
 {
     let mut lists = Vec::with_capacity(alloc, cut.n() as usize)?;
     for j in 0..cut.n() {
+        let from = book.answers(j);
         let count = cut.get(j);
-        lists.push(peek_records_of(alloc, rows, caller, j, count, steps)?)?;
+        lists.push(peek_records_of(alloc, rows, caller, j, from, count, steps)?)?;
     }
     Ok(lists)
 }

@@ -6,7 +6,7 @@ ghost use Rattle.row_table.specs.Stances.{FitsRegion, looked};
 ghost use Rattle.row_table.specs.Callers.{IsCallerOf, IsStill, MayBegin, opening_of, local_with, stance_of, who_of};
 ghost use Rattle.row_gather.specs.Worked.{scanned, first_scanned, first_announced, second_scanned, second_announced, first_viewed, first_published, second_viewed, second_published, second_judged};
 
-use crate::gather_at;
+use crate::{Gathered, grow_at};
 use book_base::{Book, Call, Cut, NoMemory, OpWord};
 use row_table::{Caller, Rows, Steps};
 use std::alloc::Global;
@@ -236,12 +236,24 @@ fn make_both<L: Ledger>(rows: &Rows, a: &mut Caller, b: &mut Caller, steps: &mut
     end_second(rows, b, steps)
 }
 
-// The books at the cuts of no record, of the first caller's, and of both.
+// The books at the cuts of no record, of the first caller's, and of both; and the last one as it grows from the one before.
 #[derive(Drop)]
 struct Books {
     none: Book,
     one: Book,
     both: Book,
+    grown: Book,
+}
+
+// A copy, to be kept.
+fn kept(alloc: Global, gathered: &Gathered) -> Result<Option<Gathered>, NoMemory>
+    ensures { IfOk result (λ kept. kept ≡ Some gathered.now) }
+{
+    let book = gathered.book.copy(alloc)?;
+    Ok(Some(Gathered {
+        book,
+        cut: gathered.cut,
+    }))
 }
 
 // The books, where both calls were made as they should be.
@@ -257,21 +269,29 @@ fn gather_all<L: Ledger>(
     requires first { (local_with a.old ≡ local.fresh) × ((stance_of a.old).reply ≡ None) }
     requires second { (local_with b.old ≡ local.fresh) × ((stance_of b.old).reply ≡ None) }
     ensures callers { IsStill ⟦<Outside as Program>⟧.meaning rows.now a.old a.new × IsStill ⟦<Outside as Program>⟧.meaning rows.now b.old b.new }
-    ensures wide { IfOk result (λ books. IfSome books (λ all. (length all.none ≡ 2) × (length all.one ≡ 2) × (length all.both ≡ 2))) }
+    ensures wide { IfOk result (λ books. IfSome books (λ all. (length all.none ≡ 2) × (length all.one ≡ 2) × (length all.both ≡ 2) × (length all.grown ≡ 2))) }
 {
     if !make_both(rows, a, b, steps) {
         return Ok(None);
     }
-    let none = gather_at(alloc, rows, a, &two(0, 0), steps)?;
-    let both = gather_at(alloc, rows, b, &two(1, 1), steps)?;
-    let one = gather_at(alloc, rows, b, &two(1, 0), steps)?;
-    Ok(Some(Books { none, one, both }))
+    let none = grow_at(alloc, rows, a, None, &two(0, 0), steps)?.book;
+    let both = grow_at(alloc, rows, b, None, &two(1, 1), steps)?;
+    let later = kept(alloc, &both)?;
+    let one = grow_at(alloc, rows, b, later, &two(1, 0), steps)?;
+    let early = kept(alloc, &one)?;
+    let grown = grow_at(alloc, rows, b, early, &two(1, 1), steps)?.book;
+    Ok(Some(Books {
+        none,
+        one: one.book,
+        both: both.book,
+        grown,
+    }))
 }
 
 // The same from a new table.
 fn gathered<L: Ledger>(alloc: Global, blank: Blank) -> Result<Option<Books>, NoMemory>
     requires { (blank.name ≡ L.name) × (blank.parts ≡ L.parts) × (0 < blank.parts) }
-    ensures { IfOk result (λ books. IfSome books (λ all. (length all.none ≡ 2) × (length all.one ≡ 2) × (length all.both ≡ 2))) }
+    ensures { IfOk result (λ books. IfSome books (λ all. (length all.none ≡ 2) × (length all.one ≡ 2) × (length all.both ≡ 2) × (length all.grown ≡ 2))) }
 {
     let mut steps = Steps::<L>::new(blank);
     let (rows, mut bench) = Rows::open(alloc, Outside, 2, 4)?;
@@ -319,5 +339,7 @@ fn books_at_three_cuts(rt: HostRuntime) -> Result<(), Fail> {
     assert!(rt; is_unanswered(&books.one, 1, 6));
     assert!(rt; is_answered(&books.both, 0, first, 50));
     assert!(rt; is_answered(&books.both, 1, 6, 60));
+    assert!(rt; is_answered(&books.grown, 0, first, 50));
+    assert!(rt; is_answered(&books.grown, 1, 6, 60));
     Ok(())
 }

@@ -4,7 +4,7 @@ use Rattle.book_base.specs.Book.{Page, with_answer}
 use Rattle.row_gather.proofs.answers.add_answers_of.Goals as goal
 
 pub loop-answer-init : goal.loop-answer-init
-loop-answer-init c = with_records_none c.args.book.now c.args.j c.args.records.now c.requires.unanswered
+loop-answer-init c = with_records_none c.args.book.now c.args.j c.args.records.now
 
 pub add_answer-requires-clause-wide : goal.add_answer-requires-clause-wide
 add_answer-requires-clause-wide c =

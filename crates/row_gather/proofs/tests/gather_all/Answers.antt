@@ -20,15 +20,21 @@ early_of_second = record { place = 2; since = 8; is = refl }
 late_of_second : IsGivenIn second_judged.cuts M (1 ∷ 1 ∷ [])
 late_of_second = record { place = 3; since = 12; is = refl }
 
-pub gather_at-requires-clause-given : goal.gather_at-requires-clause-given
-gather_at-requires-clause-given g c =
+pub grow_at-requires-clause-given : goal.grow_at-requires-clause-given
+grow_at-requires-clause-given g c =
     given_there (local_with c.make_both.new.a) first_published (0 ∷ 0 ∷ []) c.two.result (ap (λ (l : Local). l.cuts) (c.if-not-make_both.ensures.made refl).0) c.two.ensures of_first
 
-pub gather_at-requires-2-clause-given : goal.gather_at-requires-2-clause-given
-gather_at-requires-2-clause-given g c =
+pub grow_at-requires-2-clause-given : goal.grow_at-requires-2-clause-given
+grow_at-requires-2-clause-given g c =
     given_there (local_with c.make_both.new.b) second_judged (1 ∷ 1 ∷ []) c.two-2.result (ap (λ (l : Local). l.cuts) (c.if-not-make_both.ensures.made refl).1) c.two-2.ensures late_of_second
 
-pub gather_at-requires-3-clause-given : goal.gather_at-requires-3-clause-given
-gather_at-requires-3-clause-given g c =
-    given_there (local_with c.gather_at-2.new.caller) second_judged (1 ∷ 0 ∷ []) c.two-3.result
-    (ap (λ (l : Local). l.cuts) c.gather_at-2.ensures.peeks.local ∙ ap (λ (l : Local). l.cuts) (c.if-not-make_both.ensures.made refl).1) c.two-3.ensures early_of_second
+pub grow_at-requires-3-clause-given : goal.grow_at-requires-3-clause-given
+grow_at-requires-3-clause-given g c =
+    given_there (local_with c.grow_at-2.new.caller) second_judged (1 ∷ 0 ∷ []) c.two-3.result
+    (ap (λ (l : Local). l.cuts) c.grow_at-2.ensures.peeks.local ∙ ap (λ (l : Local). l.cuts) (c.if-not-make_both.ensures.made refl).1) c.two-3.ensures early_of_second
+
+pub grow_at-requires-4-clause-given : goal.grow_at-requires-4-clause-given
+grow_at-requires-4-clause-given g c =
+    given_there (local_with c.grow_at-3.new.caller) second_judged (1 ∷ 1 ∷ []) c.two-4.result
+    (ap (λ (l : Local). l.cuts) c.grow_at-3.ensures.peeks.local
+    ∙ (ap (λ (l : Local). l.cuts) c.grow_at-2.ensures.peeks.local ∙ ap (λ (l : Local). l.cuts) (c.if-not-make_both.ensures.made refl).1)) c.two-4.ensures late_of_second
