@@ -14,6 +14,7 @@ use Rattle.row_table.specs.declared.caller.Caller.{Caller}
 use Rattle.row_table.specs.declared.rows.Rows.{Rows}
 use Rattle.row_table.specs.declared.bench.Bench.{Bench}
 use Rattle.row_table.specs.Callers.{local_with, stance_of, who_of, on_bench, stance_on, IsCallerOf}
+use Rattle.row_gather.specs.Gathered.{IsGatheredBy}
 use Rattle.client_scripts.specs.Plans.{Plan, IsPlan, AreStops, sizes}
 use Rattle.call_phases.specs.declared.stand.Stand.{Stand}
 use Rattle.call_phases.specs.declared.stand.Stand.TheVariants.{Idle}
@@ -114,16 +115,16 @@ stops_within (ops ∷ operations) (stop ∷ stops) (suc i) h = stops_within oper
 
 -- the worker of a fresh caller
 module _ {P T E : Type 0} (meaning : P → ℕ → ℕ → Meaning) (r : Rows P) (says : Says) (object : E → Sequential) (is_own : T → ℕ → Type 0) (made room : T → ℕ) (told : T → Option (List (ℕ × ℕ))) (course : Course) (plan : Plan) where
-  pub fresh_start : (c : Caller P) (pass : T) (sheet : Sheet E) (allotment : ℕ)
+  pub fresh_start : (c : Caller P) (pass : T) (sheet : Sheet E) (kept : ∥ IsGatheredBy (local_with c) sheet.gathered ∥₁) (allotment : ℕ)
       → course ≡ course_of plan (allotments_of plan.operations plan.stops) course.object → AreRowsFor plan r → IsPlan Second plan
       → IsCallerOf meaning r c → IsFresh c → IsFreshPass is_own made room told plan.operations (who_of c) pass
       → sheet.who ≡ who_of c → sheet.operations.now ≡ operations_at plan.operations (who_of c) → IsRoomFor plan.operations (who_of c) (record { lines = sheet.lines }) → object sheet.ending ≡ course.object
       → allotment ≡ phases_for (stop_at plan.stops (who_of c)) (length (operations_at plan.operations (who_of c)))
-      → IsStart meaning r says object is_own made room told course (who_of c) (record { client = Some (record { stand = Idle c; pass = pass; sheet = sheet }); allotment = allotment })
-  fresh_start c pass sheet allotment is rows valid caller fresh free who operations empty judges phases =
+      → IsStart meaning r says object is_own made room told course (who_of c) (record { client = Some (record { stand = Idle c; pass = pass; sheet = sheet; kept = kept }); allotment = allotment })
+  fresh_start c pass sheet kept allotment is rows valid caller fresh free who operations empty judges phases =
       let low : who_of c < length plan.operations = omega (arith, caller.seat.who, rows.callers) in
       let ops : operations_at course.operations (who_of c) ≡ operations_at plan.operations (who_of c) = ap (λ (k : Course). operations_at k.operations (who_of c)) is in
-      let client : Client P T E = record { stand = Idle c; pass = pass; sheet = sheet } in
+      let client : Client P T E = record { stand = Idle c; pass = pass; sheet = sheet; kept = kept } in
       let few : length sheet.operations.now ≡ length (operations_at plan.operations (who_of c)) = ap (λ (o : List ℕ). length o) operations in
       record {
         client = client;

@@ -49,6 +49,7 @@ fn begin<'a, P: Program, T, E: Ending, A: Asks<Program = P, Pass = T>>(
         operations,
         lines,
         ending,
+        gathered: None,
     };
     let client = Client {
         stand: Stand::Idle(caller),

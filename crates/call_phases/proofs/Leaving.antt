@@ -19,7 +19,7 @@ use Rattle.row_table.specs.declared.rows.Rows.{Rows}
 use Rattle.drv_wrapper.specs.States.{reply_viewed, view_viewed}
 use Rattle.call_phases.specs.declared.stand.Stand.{Stand}
 use Rattle.call_phases.specs.declared.stand.Stand.TheVariants.{Idle, Announced, Answered, Viewed, Published, Halted, Unjudged}
-use Rattle.call_phases.specs.Ends.{IsLineOf, AreLinesOfCalls, HasLeft, HasLeftAt}
+use Rattle.call_phases.specs.Ends.{IsLineOf, AreLinesOfCalls, HasLeftAt}
 use Rattle.call_phases.specs.Endings.{record_published}
 use Rattle.call_phases.specs.Stands.{local_at_stand, phases_at}
 use Rattle.call_phases.specs.Course.{EndsInError, HasCome}

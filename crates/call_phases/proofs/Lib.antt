@@ -9,3 +9,4 @@ pub mod Standing
 pub mod Spending
 pub mod Leaving
 pub mod Worked
+pub mod Kept

@@ -1,5 +1,5 @@
--- What holds of a client that stands somewhere, at the stand that this is.
-use Rattle.std.proofs.Common.{◌≡◌, subst, ℕ, List}
+-- What holds of a client that stands somewhere, at the stand that this is, and with the sheet and the pass that these are.
+use Rattle.std.proofs.Common.{◌≡◌, ◌∙◌, refl, sym, subst, ap, ℕ, List, length}
 use Rattle.std.specs.Prelude.{Option}
 use Rattle.book_base.specs.declared.call.Record.{Record}
 use Rattle.world_core.specs.Shape.{Meaning}
@@ -7,7 +7,17 @@ use Rattle.world_core.specs.Local.{Local}
 use Rattle.call_lines.specs.declared.line.LineEnd.{LineEnd}
 use Rattle.call_lines.specs.declared.line.Line.{Line}
 use Rattle.row_table.specs.declared.rows.Rows.{Rows}
+use Rattle.row_table.specs.declared.caller.Caller.{Caller}
+use Rattle.row_gather.specs.Gathered.{IsGatheredBy}
+use Rattle.drv_wrapper.specs.declared.announced.Announced.{Announced}
+use Rattle.drv_wrapper.specs.declared.answered.Answered.{Answered}
+use Rattle.drv_wrapper.specs.declared.viewed.Viewed.{Viewed}
+use Rattle.enforcer.specs.declared.published_call.Published.{Published}
 use Rattle.call_phases.specs.declared.stand.Stand.{Stand}
+use Rattle.call_phases.specs.declared.stand.Stand.TheVariants as at
+use Rattle.call_phases.specs.declared.sheet.Sheet.{Sheet}
+use Rattle.call_phases.specs.Ends.{Sequential}
+use Rattle.call_phases.specs.Stands.{local_at_stand, phases_at, GoesOnFrom}
 use Rattle.call_phases.specs.Course.{HasCome, HasAskedFor}
 
 pub come_at : {P : Type 0} {meaning : P → ℕ → ℕ → Meaning} {r : Rows P} {says : ℕ → Local → Record → List ℕ → LineEnd → Type 0} {who : ℕ} {operations : List ℕ} {own : List Line} (s t : Stand P)
@@ -16,3 +26,37 @@ come_at {P} {meaning} {r} {says} {who} {operations} {own} s t is h = subst (λ (
 
 pub asked_at : {P : Type 0} {made : ℕ} {told : Option (List (ℕ × ℕ))} {own : List Line} (s t : Stand P) → s ≡ t → HasAskedFor made told s own → HasAskedFor made told t own
 asked_at {P} {made} {told} {own} s t is h = subst (λ (z : Stand P). HasAskedFor made told z own) is h
+
+-- a caller that goes on stands somewhere before the end of a call
+pub stands_before : {P : Type 0} (s : Stand P) → GoesOnFrom s → ((c : Caller P) → s ≡ at.Idle c → ⊥) → ((a : Announced P) → s ≡ at.Announced a → ⊥) → ((a : Answered P) → s ≡ at.Answered a → ⊥)
+    → ((v : Viewed P) → s ≡ at.Viewed v → ⊥) → ((p : Published P) → s ≡ at.Published p → ⊥) → ⊥
+stands_before (at.Idle c) goes idle announced answered viewed published = idle c refl
+stands_before (at.Announced a) goes idle announced answered viewed published = announced a refl
+stands_before (at.Answered a) goes idle announced answered viewed published = answered a refl
+stands_before (at.Viewed v) goes idle announced answered viewed published = viewed v refl
+stands_before (at.Published p) goes idle announced answered viewed published = published p refl
+stands_before (at.Halted c) goes idle announced answered viewed published = goes
+stands_before (at.Unjudged u) goes idle announced answered viewed published = goes
+
+-- with the stand and the sheet that these are
+module _ {P E : Type 0} (s t : Stand P) (h k : Sheet E) (stand_is : s ≡ t) (sheet_is : h ≡ k) where
+  pub phases_with : (phases : ℕ) → phases_at (length k.lines.items) t ≡ phases → phases_at (length h.lines.items) s ≡ phases
+  phases_with phases is = ap (λ (x : Sheet E). phases_at (length x.lines.items) s) sheet_is ∙ ap (λ (z : Stand P). phases_at (length k.lines.items) z) stand_is ∙ is
+
+  pub come_with : (meaning : P → ℕ → ℕ → Meaning) (r : Rows P) (says : Sequential → ℕ → Local → Record → List ℕ → LineEnd → Type 0) (object : E → Sequential)
+      → HasCome meaning r (says (object k.ending)) k.who k.operations.now t k.lines.items → HasCome meaning r (says (object h.ending)) h.who h.operations.now s h.lines.items
+  come_with meaning r says object come =
+      subst (λ (z : Stand P). HasCome meaning r (says (object h.ending)) h.who h.operations.now z h.lines.items) (sym stand_is)
+      (subst (λ (x : Sheet E). HasCome meaning r (says (object x.ending)) x.who x.operations.now t x.lines.items) (sym sheet_is) come)
+
+  pub asked_with : {T : Type 0} (p q : T) → p ≡ q → (made : T → ℕ) (told : T → Option (List (ℕ × ℕ)))
+      → HasAskedFor (made q) (told q) t k.lines.items → HasAskedFor (made p) (told p) s h.lines.items
+  asked_with {T} p q pass_is made told asked =
+      subst (λ (z : Stand P). HasAskedFor (made p) (told p) z h.lines.items) (sym stand_is)
+      (subst (λ (x : Sheet E). HasAskedFor (made p) (told p) t x.lines.items) (sym sheet_is)
+      (subst (λ (x : T). HasAskedFor (made x) (told x) t k.lines.items) (sym pass_is) asked))
+
+  pub kept_with : ∥ IsGatheredBy (local_at_stand t) k.gathered ∥₁ → ∥ IsGatheredBy (local_at_stand s) h.gathered ∥₁
+  kept_with kept =
+      subst (λ (z : Stand P). ∥ IsGatheredBy (local_at_stand z) h.gathered ∥₁) (sym stand_is)
+      (subst (λ (x : Sheet E). ∥ IsGatheredBy (local_at_stand t) x.gathered ∥₁) (sym sheet_is) kept)

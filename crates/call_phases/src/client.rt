@@ -1,4 +1,6 @@
 ghost use Rattle.std.specs.Prelude.{◌≡◌, ◌+◌, ◌*◌, ◌<◌, ◌≤◌, length, vec_capacity};
+ghost use Rattle.row_gather.specs.Gathered.{IsGatheredBy};
+ghost use Rattle.call_phases.specs.Stands.{local_at_stand};
 
 use crate::asks::Asks;
 use crate::ending::Ending;
@@ -13,11 +15,13 @@ use row_table::{Rows, Steps};
 use std::sync::ledger::Ledger;
 use world_core::Program;
 
-/// A caller at work: where it stands, the pass by which it asks, and its sheet.
+/// A caller at work: where it stands, the pass by which it asks, and its sheet, which keeps the book that this caller
+/// gathered last.
 pub struct Client<'a, P, T, E> {
     pub stand: Stand<P>,
     pub pass: T,
     pub sheet: Sheet<'a, E>,
+    pub ghost kept: { ∥ IsGatheredBy (local_at_stand stand) sheet.gathered ∥₁ },
 }
 
 impl<'a, P: Program, T, E: Ending> Client<'a, P, T, E> {
@@ -59,29 +63,15 @@ impl<'a, P: Program, T, E: Ending> Client<'a, P, T, E> {
         } = self;
         let rows = shared.rows;
         let op = sheet.next_op();
-        match stand {
-            Stand::Idle(caller) => {
-                let stand = Stand::Announced(announce(caller, rows, op, steps));
-                Client { stand, pass, sheet }
-            }
-            Stand::Announced(announced) => {
-                let stand = Stand::Answered(shared.asks.ask(announced, &mut pass));
-                Client { stand, pass, sheet }
-            }
-            Stand::Answered(answered) => {
-                let stand = Stand::Viewed(view(answered, rows, steps));
-                Client { stand, pass, sheet }
-            }
-            Stand::Viewed(viewed) => {
-                let stand = Stand::Published(publish(viewed, rows, steps));
-                Client { stand, pass, sheet }
-            }
-            Stand::Published(published) => {
-                let stand = sheet.end_call(rows, published, op, steps);
-                Client { stand, pass, sheet }
-            }
-            stand => Client { stand, pass, sheet },
-        }
+        let stand = match stand {
+            Stand::Idle(caller) => Stand::Announced(announce(caller, rows, op, steps)),
+            Stand::Announced(announced) => Stand::Answered(shared.asks.ask(announced, &mut pass)),
+            Stand::Answered(answered) => Stand::Viewed(view(answered, rows, steps)),
+            Stand::Viewed(viewed) => Stand::Published(publish(viewed, rows, steps)),
+            Stand::Published(published) => sheet.end_call(rows, published, op, steps),
+            stand => stand,
+        };
+        Client { stand, pass, sheet }
     }
 
     /// Makes so many further phases, or, where the caller is halted before, those up to there.
@@ -147,6 +137,7 @@ impl<'a, P: Program, T, E: Ending> Client<'a, P, T, E> {
             operations: _,
             lines,
             ending,
+            gathered: _,
         } = sheet;
         Finished {
             caller,

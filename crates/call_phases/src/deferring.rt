@@ -5,7 +5,7 @@ use crate::ended::Ended;
 use crate::ending::Ending;
 use book_base::Record;
 use call_lines::LineEnd;
-use enforcer::Seen;
+use enforcer::{Gathered, Seen};
 use row_table::{Rows, Steps};
 use std::sync::ledger::Ledger;
 use world_core::Program;
@@ -25,6 +25,7 @@ impl Ending for Deferring {
         &mut self,
         _rows: &Rows<P>,
         seen: Seen<P>,
+        _gathered: &mut Option<Gathered>,
         _steps: &mut Steps<L>,
     ) -> Ended<P> {
         let reply = seen.reply();

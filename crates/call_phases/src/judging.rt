@@ -6,7 +6,7 @@ use crate::ended::Ended;
 use crate::ending::Ending;
 use book_base::{Record, SeqObject};
 use call_lines::LineEnd;
-use enforcer::{Outcome, Seen, judge};
+use enforcer::{Gathered, Outcome, Seen, judge};
 use frontier_check::Guide;
 use row_table::{Caller, Rows, Steps};
 use std::alloc::Global;
@@ -68,6 +68,7 @@ impl<S: SeqObject> Ending for Judging<'_, S> {
         &mut self,
         rows: &Rows<P>,
         seen: Seen<P>,
+        gathered: &mut Option<Gathered>,
         steps: &mut Steps<L>,
     ) -> Ended<P> {
         match judge(
@@ -75,6 +76,7 @@ impl<S: SeqObject> Ending for Judging<'_, S> {
             self.sequential,
             rows,
             seen,
+            gathered,
             &mut self.guide,
             steps,
         ) {

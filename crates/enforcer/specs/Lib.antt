@@ -2,3 +2,4 @@ pub mod Recorded
 pub mod States
 pub mod Judged
 pub mod Enforced
+pub mod Kept

@@ -109,6 +109,10 @@ use world_core::{Outside, Program};
 ///   saves time alone, and never changes a verdict, so a new one is always good.
 /// - `steps`: the counter that ticks with each word of the table that is looked at or peeked.
 ///
+/// The book that a call is judged by is gathered for this call alone. A caller of many calls makes their parts by hand,
+/// `apply`, [`publish`], [`seen`] and [`judge`], and hands what it gathered from one `judge` to the next, so that only
+/// what is new is peeked.
+///
 /// Each caller keeps one pass, one guide and one counter of its own, and makes its calls from its own thread; on one
 /// thread, as above, guide and counter may be shared. No call takes a lock or waits for another caller, and a caller
 /// that stops in the midst of its call holds up nobody.
@@ -172,5 +176,6 @@ pub fn enforce<S: SeqObject, B: BlackBox, L: Ledger>(
     let viewed = apply(caller, rows, op, object, pass, steps);
     let published = publish(viewed, rows, steps);
     let seen = seen(published, rows, steps);
-    judge(alloc, sequential, rows, seen, guide, steps)
+    let mut gathered = None;
+    judge(alloc, sequential, rows, seen, &mut gathered, guide, steps)
 }

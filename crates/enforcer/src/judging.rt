@@ -1,46 +1,51 @@
-ghost use Rattle.std.specs.Prelude.{◌≡◌, ◌+◌, ◌≤◌, false, IfOk, IfErr};
+ghost use Rattle.std.specs.Prelude.{◌≡◌, ◌≤◌, false, None, IfOk, IfErr};
 ghost use Rattle.world_core.specs.Local.{IsIdle};
 ghost use Rattle.world_core.specs.Calls.{IsGathered};
 ghost use Rattle.row_table.specs.Callers.{local_with, stance_of, IsCallerOf, IsStill};
 ghost use Rattle.row_gather.specs.Peeks.{OnlyPeeks};
 ghost use Rattle.row_gather.specs.Exact.{IsTheBookAt};
-ghost use Rattle.row_gather.specs.Words.{words_of_book};
+ghost use Rattle.row_gather.specs.Gathered.{IsGatheredBy};
 ghost use Rattle.frontier_check.specs.Verdict.{IsRight};
 ghost use Rattle.drv_wrapper.specs.Stands.{ready};
 ghost use Rattle.enforcer.specs.Recorded.{HoldsOwn};
 ghost use Rattle.enforcer.specs.States.{caller_seen, reply_seen, view_seen, cut_seen};
 ghost use Rattle.enforcer.specs.Judged.{record_in, cut_in, stance_after, IsRightByPeeks, IsRightOf};
+ghost use Rattle.enforcer.specs.Kept.{IsKeptBehind};
 
 use crate::outcome::{Outcome, Unjudged};
 use crate::seen_call::Seen;
-use book_base::{Book, NoMemory, SeqObject};
+use book_base::{NoMemory, SeqObject};
 use frontier_check::{Guide, Verdict, check_from};
-use row_gather::gather_at;
+use row_gather::{Gathered, grow_at};
 use row_table::{Caller, Rows, Steps};
 use std::alloc::Global;
 use std::sync::ledger::Ledger;
 use world_core::Program;
 
-/// The book at the seen cut of a call: the records that were published by then, of all callers, and the calls
-/// that some of their views hold.
+/// The book at the seen cut of a call, with that cut: the records that were published by then, of all callers, and
+/// the calls that some of their views hold.
 ///
-/// After want of memory the caller may have peeked a part of its words, and all else is as it was.
+/// What the caller has gathered before, where it hands that in, is grown to it, and only what is new is peeked.
+/// After want of memory the caller may have peeked a part of the new words, what it handed in is gone, and all else
+/// is as it was.
 pub fn gather<P: Program, L: Ledger>(
     alloc: Global,
     rows: &Rows<P>,
     seen: &mut Seen<P>,
+    gathered: Option<Gathered>,
     steps: &mut Steps<L>,
-) -> Result<Book, NoMemory>
+) -> Result<Gathered, NoMemory>
     requires rows { IsCallerOf P.meaning rows.now (caller_seen seen.old) }
+    requires gathered { IsGatheredBy (local_with (caller_seen seen.old)) gathered }
     ensures caller { IsStill P.meaning rows.now (caller_seen seen.old) (caller_seen seen.new) }
     ensures record { (reply_seen seen.new ≡ reply_seen seen.old) × (view_seen seen.new ≡ view_seen seen.old) }
     ensures cut { cut_seen seen.new ≡ cut_seen seen.old }
     ensures peeks { OnlyPeeks (caller_seen seen.old) (caller_seen seen.new) steps.old steps.new }
-    ensures gathered { IfOk result (IsGathered rows.now.callers (local_with (caller_seen seen.new)) (cut_seen seen.new)) }
-    ensures exact { IfOk result (IsTheBookAt P.meaning rows.now (caller_seen seen.new) (cut_seen seen.new)) }
-    ensures ticks { IfOk result (λ book. steps.new ≡ steps.old + words_of_book book) }
+    ensures at { IfOk result (λ g. g.cut ≡ cut_seen seen.new) }
+    ensures gathered { IfOk result (λ g. IsGathered rows.now.callers (local_with (caller_seen seen.new)) (cut_seen seen.new) g.book) }
+    ensures exact { IfOk result (λ g. IsTheBookAt P.meaning rows.now (caller_seen seen.new) (cut_seen seen.new) g.book) }
 {
-    gather_at(alloc, rows, &mut seen.caller, &seen.cut, steps)
+    grow_at(alloc, rows, &mut seen.caller, gathered, &seen.cut, steps)
 }
 
 // The gathered book, and whether it has a legal order.
@@ -49,21 +54,24 @@ fn decide<P: Program, S: SeqObject, L: Ledger>(
     object: &S,
     rows: &Rows<P>,
     seen: &mut Seen<P>,
+    gathered: Option<Gathered>,
     guide: &mut Guide,
     steps: &mut Steps<L>,
-) -> Result<(Book, Verdict), NoMemory>
+) -> Result<(Gathered, Verdict), NoMemory>
     requires rows { IsCallerOf P.meaning rows.now (caller_seen seen.old) }
+    requires gathered { IsGatheredBy (local_with (caller_seen seen.old)) gathered }
     ensures caller { IsStill P.meaning rows.now (caller_seen seen.old) (caller_seen seen.new) }
     ensures record { (reply_seen seen.new ≡ reply_seen seen.old) × (view_seen seen.new ≡ view_seen seen.old) }
     ensures cut { cut_seen seen.new ≡ cut_seen seen.old }
     ensures peeks { OnlyPeeks (caller_seen seen.old) (caller_seen seen.new) steps.old steps.new }
-    ensures gathered { IfOk result (λ r. IsGathered rows.now.callers (local_with (caller_seen seen.new)) (cut_seen seen.new) r.0) }
-    ensures exact { IfOk result (λ r. IsTheBookAt P.meaning rows.now (caller_seen seen.new) (cut_seen seen.new) r.0) }
-    ensures verdict { IfOk result (λ r. IsRight (S.init object.now) (S.next object.now) r.0 r.1) }
+    ensures at { IfOk result (λ r. r.0.cut ≡ cut_seen seen.new) }
+    ensures gathered { IfOk result (λ r. IsGathered rows.now.callers (local_with (caller_seen seen.new)) (cut_seen seen.new) r.0.book) }
+    ensures exact { IfOk result (λ r. IsTheBookAt P.meaning rows.now (caller_seen seen.new) (cut_seen seen.new) r.0.book) }
+    ensures verdict { IfOk result (λ r. IsRight (S.init object.now) (S.next object.now) r.0.book r.1) }
 {
-    let book = gather(alloc, rows, seen, steps)?;
-    let verdict = check_from(alloc, object, &book, guide)?;
-    Ok((book, verdict))
+    let gathered = gather(alloc, rows, seen, gathered, steps)?;
+    let verdict = check_from(alloc, object, &gathered.book, guide)?;
+    Ok((gathered, verdict))
 }
 
 // The caller of these rows, which makes no more calls.
@@ -81,15 +89,20 @@ fn halted<P: Program>(rows: &Rows<P>, caller: Caller<P>) -> Caller<P>
 ///
 /// After `Delivered` the caller is live and idle, and after `Illegal` it is halted. `Unjudged` comes for want of
 /// memory alone. The guide keeps the last order that was found; it costs or saves time, and never changes a verdict.
+///
+/// `gathered` is what this caller has gathered before, or `None`: the book is grown from it. After `Delivered` it is
+/// the book that was judged, for the caller's next call, and else it is `None`: an error takes its book along.
 pub fn judge<P: Program, S: SeqObject, L: Ledger>(
     alloc: Global,
     object: &S,
     rows: &Rows<P>,
     mut seen: Seen<P>,
+    gathered: &mut Option<Gathered>,
     guide: &mut Guide,
     steps: &mut Steps<L>,
 ) -> Result<(Caller<P>, Outcome), Unjudged<P>>
     requires rows { IsCallerOf P.meaning rows.now (caller_seen seen) }
+    requires gathered { IsGatheredBy (local_with (caller_seen seen)) gathered.old }
     ensures caller { IfOk result (λ r. IsStill P.meaning rows.now (caller_seen seen) r.0) }
     ensures peeks { IfOk result (λ r. OnlyPeeks (caller_seen seen) r.0 steps.old steps.new) }
     ensures idle { IfOk result (λ r. IsIdle (local_with r.0)) }
@@ -99,14 +112,25 @@ pub fn judge<P: Program, S: SeqObject, L: Ledger>(
     ensures own { IfOk result (λ r. HoldsOwn (cut_in r.1) r.0) }
     ensures gathered { IfOk result (λ r. IsRightByPeeks (S.init object.now) (S.next object.now) rows.now.callers (local_with r.0) r.1) }
     ensures verdict { IfOk result (λ r. IsRightOf (S.init object.now) (S.next object.now) P.meaning rows.now r.0 r.1) }
+    ensures kept { IfOk result (λ r. IsGatheredBy (local_with r.0) gathered.new) }
+    ensures kept_book { IfOk result (λ r. IsKeptBehind rows.now.callers r.1 gathered.new) }
     ensures unjudged_caller { IfErr result (λ u. IsStill P.meaning rows.now (caller_seen seen) u.caller) }
     ensures unjudged_peeks { IfErr result (λ u. OnlyPeeks (caller_seen seen) u.caller steps.old steps.new) }
     ensures unjudged_stands { IfErr result (λ u. stance_of u.caller ≡ record ready { live = false }) }
     ensures unjudged_record { IfErr result (λ u. (u.reply ≡ reply_seen seen) × (u.view ≡ view_seen seen) × (u.seen ≡ cut_seen seen)) }
     ensures unjudged_own { IfErr result (λ u. HoldsOwn u.seen u.caller) }
+    ensures unjudged_kept { IfErr result (λ u. gathered.new ≡ None) }
     ensures ticks { steps.old ≤ steps.new }
 {
-    let decided = decide(alloc, object, rows, &mut seen, guide, steps);
+    let decided = decide(
+        alloc,
+        object,
+        rows,
+        &mut seen,
+        gathered.take(),
+        guide,
+        steps,
+    );
     let Seen {
         caller,
         reply,
@@ -114,25 +138,31 @@ pub fn judge<P: Program, S: SeqObject, L: Ledger>(
         cut: seen,
     } = seen;
     match decided {
-        Ok((book, verdict)) => match verdict {
-            Verdict::Legal(order) => Ok((
-                caller,
-                Outcome::Delivered {
-                    reply,
-                    view,
-                    seen,
-                    order,
-                },
-            )),
-            Verdict::Illegal => Ok((
-                halted(rows, caller),
-                Outcome::Illegal {
-                    reply,
-                    view,
-                    seen,
-                    book,
-                },
-            )),
+        Ok((found, verdict)) => match verdict {
+            Verdict::Legal(order) => {
+                *gathered = Some(found);
+                Ok((
+                    caller,
+                    Outcome::Delivered {
+                        reply,
+                        view,
+                        seen,
+                        order,
+                    },
+                ))
+            }
+            Verdict::Illegal => {
+                let Gathered { book, cut: _ } = found;
+                Ok((
+                    halted(rows, caller),
+                    Outcome::Illegal {
+                        reply,
+                        view,
+                        seen,
+                        book,
+                    },
+                ))
+            }
         },
         Err(NoMemory) => Err(Unjudged {
             caller: halted(rows, caller),

@@ -15,7 +15,7 @@ pub use judging::{gather, judge};
 pub use outcome::{Outcome, Unjudged};
 pub use published_call::Published;
 pub use publishing::publish;
-pub use row_gather::gather_at;
+pub use row_gather::{Gathered, grow_at};
 pub use seeing::seen;
 pub use seen_call::Seen;
 

@@ -20,5 +20,5 @@ returns g c =
           let calls : w.calls.result ≡ length (operations_at plan.operations who) = w.calls.ensures ∙ ap (λ (i : ℕ). length (operations_at plan.operations i)) c.who-who.ensures in
           w.allotment-is ∙ ap (λ (n : ℕ). 5 * n) calls ∙ sym (phases_of_all plan.stops who (length (operations_at plan.operations who)) (sym stop ∙ w.in-None.is))
     ] in
-    fresh_start _ _ _ _ _ _ _ _ _ plan c.args.caller c.args.pass _ c.match-stop.allotment asked.0 asked.1.1.0 asked.1.0 asked.1.1.1.0 asked.1.1.1.1.0 asked.1.1.1.1.1.0
+    fresh_start _ _ _ _ _ _ _ _ _ plan c.args.caller c.args.pass _ _ c.match-stop.allotment asked.0 asked.1.1.0 asked.1.0 asked.1.1.1.0 asked.1.1.1.1.0 asked.1.1.1.1.1.0
     c.who-who.ensures operations asked.1.1.1.1.1.1.0 asked.1.1.1.1.1.1.1 allotment

@@ -3,6 +3,8 @@ use Rattle.book_base.specs.Book.{Page}
 use Rattle.book_base.specs.Order.{IsLegalOrder}
 use Rattle.frontier_check.specs.Verdict.{IsRight}
 use Rattle.frontier_check.specs.declared.verdict.Verdict.{Verdict}
+use Rattle.row_table.specs.Callers.{local_with}
+use Rattle.row_gather.proofs.Kept.{gathered_by_now}
 use Rattle.enforcer.proofs.judging.judge.Goals as goal
 
 pub returns-in-Legal-clause-verdict : goal.returns-in-Legal-clause-verdict
@@ -10,4 +12,11 @@ returns-in-Legal-clause-verdict g c = λ locals together is.
     let init = g.S.SeqObject.init c.args.object.now in
     let next = g.S.SeqObject.next c.args.object.now in
     subst (λ (book : List Page). IsLegalOrder init next book c.in-Legal.order.items) (c.in-Ok.ensures.exact locals together is)
-    (subst (λ (verdict : Verdict). IsRight init next c.in-Ok.book verdict) c.in-Legal.is c.in-Ok.ensures.verdict)
+    (subst (λ (verdict : Verdict). IsRight init next c.in-Ok.found.book verdict) c.in-Legal.is c.in-Ok.ensures.verdict)
+
+pub returns-in-Legal-clause-kept : goal.returns-in-Legal-clause-kept
+returns-in-Legal-clause-kept g c =
+    gathered_by_now c.args.rows.now.callers (local_with c.decide-decided.new.seen.caller) c.decide-decided.new.seen.cut c.in-Ok.found c.in-Ok.ensures.at c.in-Ok.ensures.gathered
+
+pub returns-in-Legal-clause-kept_book : goal.returns-in-Legal-clause-kept_book
+returns-in-Legal-clause-kept_book g c = (c.in-Ok.ensures.gathered.callers, c.in-Ok.ensures.at)

@@ -5,11 +5,13 @@ use Rattle.call_phases.specs.declared.stand.Stand.{Stand}
 use Rattle.call_phases.specs.declared.stand.Stand.TheVariants as at
 use Rattle.call_phases.specs.Stands.{phases_at}
 use Rattle.call_phases.specs.Course.{HasCome}
-use Rattle.call_phases.proofs.Standing.{come_at, asked_at}
+use Rattle.call_phases.proofs.Standing.{come_at, asked_at, stands_before, phases_with, come_with, asked_with, kept_with}
+use Rattle.call_phases.proofs.Kept.{gathered_by_is, stays_kept, kept_at}
 use Rattle.call_phases.proofs.Coming.{announced_come, answered_come, viewed_come, published_come}
 use Rattle.call_phases.proofs.Ends.{idle_announced, ended_come, phases_noted}
-use Rattle.call_phases.proofs.Told.{announced_asked, answered_asked, viewed_asked, ended_asked}
+use Rattle.call_phases.proofs.Told.{announced_asked, answered_asked, viewed_asked, published_asked, ended_asked}
 use Rattle.call_phases.proofs.client.Client.advance.Goals as goal
+use Rattle.call_phases.proofs.client.Client.advance.Goals.{in-Idle, in-Announced, in-Answered, in-Viewed, in-Published, in_default}
 
 pub announce-requires-clause-left : goal.announce-requires-clause-left
 announce-requires-clause-left g c =
@@ -17,73 +19,129 @@ announce-requires-clause-left g c =
     subst (λ (s : Stand _). phases_at (length c.args.self.sheet.lines.items) s < 5 * length c.args.self.sheet.operations.now) c.in-Idle.is c.requires.left in
     omega (arith, left, idle_announced _ _ _ (g.met.E.Ending.stays (g.E.Ending.object c.args.self.sheet.ending)) _ _ _ c.in-Idle.caller (come_at _ _ c.in-Idle.is c.requires.course), c.requires.room.rows)
 
-pub returns-in-Idle-clause-course : goal.returns-in-Idle-clause-course
-returns-in-Idle-clause-course g c =
-    let left : phases_at (length c.args.self.sheet.lines.items) (at.Idle c.in-Idle.caller) < 5 * length c.args.self.sheet.operations.now =
-    subst (λ (s : Stand _). phases_at (length c.args.self.sheet.lines.items) s < 5 * length c.args.self.sheet.operations.now) c.in-Idle.is c.requires.left in
-    announced_come _ _ _ (g.met.E.Ending.stays (g.E.Ending.object c.args.self.sheet.ending)) _ _ _ c.in-Idle.caller c.announce.result _ c.next_op-op.ensures
-    (come_at _ _ c.in-Idle.is c.requires.course) (omega (arith, left)) c.announce.ensures.caller c.announce.ensures.operation c.announce.ensures.progress c.announce.ensures.grows
+pub end_call-stand-requires-clause-gathered : goal.end_call-stand-requires-clause-gathered
+end_call-stand-requires-clause-gathered g c = gathered_by_is _ _ (kept_at _ _ c.args.self.sheet.gathered c.in-Published.is c.args.self.kept)
 
-pub returns-in-Idle-clause-asked : goal.returns-in-Idle-clause-asked
-returns-in-Idle-clause-asked g c =
-    announced_asked _ _ _ _ _ _ _ _ c.in-Idle.caller c.announce.result _ (come_at _ _ c.in-Idle.is c.requires.course) c.announce.ensures.progress (asked_at _ _ c.in-Idle.is c.requires.asked)
+pub invariant_of-result : goal.invariant_of-result
+invariant_of-result g c =
+    let self = c.args.self in
+    let s = c.match-stand.stand in
+    let h = c.match-stand.sheet in
+    record {
+      kept = elim c.match-stand.branch [
+        | in-Idle w ↦
+            kept_with s _ h _ w.stand-is w.sheet-is (stays_kept _ _ self.sheet.gathered w.announce.ensures.grows (kept_at _ _ self.sheet.gathered w.in-Idle.is self.kept))
+        | in-Announced w ↦
+            kept_with s _ h _ w.stand-is w.sheet-is (stays_kept _ _ self.sheet.gathered w.ask.ensures.grows (kept_at _ _ self.sheet.gathered w.in-Announced.is self.kept))
+        | in-Answered w ↦
+            kept_with s _ h _ w.stand-is w.sheet-is (stays_kept _ _ self.sheet.gathered w.view.ensures.grows (kept_at _ _ self.sheet.gathered w.in-Answered.is self.kept))
+        | in-Viewed w ↦
+            kept_with s _ h _ w.stand-is w.sheet-is (stays_kept _ _ self.sheet.gathered w.publish.ensures.grows (kept_at _ _ self.sheet.gathered w.in-Viewed.is self.kept))
+        | in-Published w ↦ kept_with s _ h _ w.stand-is w.sheet-is ∣ w.end_call-stand.ensures.kept ∣₁
+        | in_default w ↦ kept_with s self.stand h self.sheet w.stand-is w.sheet-is self.kept
+      ];
+    }
 
-pub returns-in-Announced-clause-course : goal.returns-in-Announced-clause-course
-returns-in-Announced-clause-course g c =
-    answered_come _ _ _ (g.met.E.Ending.stays (g.E.Ending.object c.args.self.sheet.ending)) _ _ _ c.in-Announced.announced c.ask.result (come_at _ _ c.in-Announced.is c.requires.course)
-    ((c.ask.ensures.rows _ c.args.shared.now.rows.now (come_at _ _ c.in-Announced.is c.requires.course).caller), c.ask.ensures.who) c.ask.ensures.operation (c.ask.ensures.allowed c.args.shared.now.rows.now (come_at _ _ c.in-Announced.is c.requires.course).caller) c.ask.ensures.progress c.ask.ensures.grows
+pub returns-clause-phase : goal.returns-clause-phase
+returns-clause-phase g c =
+    let self = c.args.self in
+    let own = self.sheet.lines.items in
+    let s = c.match-stand.stand in
+    let h = c.match-stand.sheet in
+    let before = λ (t : Stand _) (is : self.stand ≡ t). ap (λ (z : Stand _). phases_at (length own) z + 1) is in
+    elim c.match-stand.branch [
+      | in-Idle w ↦ phases_with s _ h _ w.stand-is w.sheet-is _ (omega (arith, before _ w.in-Idle.is))
+      | in-Announced w ↦ phases_with s _ h _ w.stand-is w.sheet-is _ (omega (arith, before _ w.in-Announced.is))
+      | in-Answered w ↦ phases_with s _ h _ w.stand-is w.sheet-is _ (omega (arith, before _ w.in-Answered.is))
+      | in-Viewed w ↦ phases_with s _ h _ w.stand-is w.sheet-is _ (omega (arith, before _ w.in-Viewed.is))
+      | in-Published w ↦
+          let sheet = w.end_call-stand.new.self in
+          let ends = w.end_call-stand.ensures.ends in
+          let after : phases_at (length sheet.lines.items) w.end_call-stand.result ≡ 5 * length own + 5 =
+          phases_noted c.next_op-op.result own w.in-Published.published ends.0 w.end_call-stand.result sheet.lines.items ends.2 in
+          phases_with s _ h _ w.stand-is w.sheet-is _ (omega (arith, before _ w.in-Published.is, after))
+      | in_default w ↦
+          absurd (stands_before self.stand c.requires.goes w.in_default.not-Idle w.in_default.not-Announced w.in_default.not-Answered w.in_default.not-Viewed w.in_default.not-Published)
+    ]
 
-pub returns-in-Announced-clause-asked : goal.returns-in-Announced-clause-asked
-returns-in-Announced-clause-asked g c =
-    answered_asked _ _ _ _ _ _ _ _ c.in-Announced.announced c.ask.result _ _ (come_at _ _ c.in-Announced.is c.requires.course)
-    c.ask.ensures.progress c.ask.ensures.operation c.ask.ensures.made c.ask.ensures.told (asked_at _ _ c.in-Announced.is c.requires.asked)
-
-pub returns-in-Answered-clause-course : goal.returns-in-Answered-clause-course
-returns-in-Answered-clause-course g c =
-    viewed_come _ _ _ (g.met.E.Ending.stays (g.E.Ending.object c.args.self.sheet.ending)) _ _ _ c.in-Answered.answered c.view.result (come_at _ _ c.in-Answered.is c.requires.course)
-    c.view.ensures.caller c.view.ensures.wide c.view.ensures.progress c.view.ensures.grows
-
-pub returns-in-Answered-clause-asked : goal.returns-in-Answered-clause-asked
-returns-in-Answered-clause-asked g c =
-    viewed_asked _ _ _ _ _ _ _ _ c.in-Answered.answered c.view.result (come_at _ _ c.in-Answered.is c.requires.course)
-    c.view.ensures.call.1 c.view.ensures.progress (asked_at _ _ c.in-Answered.is c.requires.asked)
-
-pub returns-in-Viewed-clause-course : goal.returns-in-Viewed-clause-course
-returns-in-Viewed-clause-course g c =
-    published_come _ _ _ (g.met.E.Ending.stays (g.E.Ending.object c.args.self.sheet.ending)) _ _ _ c.in-Viewed.viewed c.publish.result (come_at _ _ c.in-Viewed.is c.requires.course)
-    c.publish.ensures.caller c.publish.ensures.record c.publish.ensures.progress c.publish.ensures.grows
-
-pub returns-in-Published-clause-phase : goal.returns-in-Published-clause-phase
-returns-in-Published-clause-phase g c =
-    let sheet = c.end_call-stand.new.self in
-    let own = c.args.self.sheet.lines.items in
-    let ends = c.end_call-stand.ensures.ends in
-    let before : phases_at (length own) c.args.self.stand ≡ 5 * length own + 4 = ap (λ (s : Stand _). phases_at (length own) s) c.in-Published.is in
-    let after : phases_at (length sheet.lines.items) c.end_call-stand.result ≡ 5 * length own + 5 =
-    phases_noted c.next_op-op.result own c.in-Published.published ends.0 c.end_call-stand.result sheet.lines.items ends.2 in
-    omega (arith, before, after)
-
-pub returns-in-Published-clause-course : goal.returns-in-Published-clause-course
-returns-in-Published-clause-course g c =
-    let sheet = c.end_call-stand.new.self in
-    let old = c.args.self.sheet in
-    let ends = c.end_call-stand.ensures.ends in
+pub returns-clause-course : goal.returns-clause-course
+returns-clause-course g c =
+    let self = c.args.self in
+    let old = self.sheet in
+    let meaning = g.P.Program.meaning in
     let rows = c.args.shared.now.rows.now in
-    let come = ended_come g.P.Program.meaning rows (g.E.Ending.says (g.E.Ending.object old.ending)) (g.met.E.Ending.stays (g.E.Ending.object old.ending)) old.who old.operations.now old.lines.items
-    c.in-Published.published ends.0 c.end_call-stand.result sheet.lines.items (come_at _ _ c.in-Published.is c.requires.course)
-    (subst (λ (o : Sequential). HasEnded g.P.Program.meaning rows (g.E.Ending.says o) c.in-Published.published ends.0) c.end_call-stand.ensures.object ends.1)
-    (subst (λ (o : ℕ). IsNoted o old.lines.items ends.0 sheet.lines.items c.end_call-stand.result) c.next_op-op.ensures ends.2) in
-    subst (λ (o : Sequential). HasCome g.P.Program.meaning rows (g.E.Ending.says o) sheet.who sheet.operations.now c.end_call-stand.result sheet.lines.items) (sym c.end_call-stand.ensures.object)
-    (subst (λ (w : ℕ). HasCome g.P.Program.meaning rows (g.E.Ending.says (g.E.Ending.object old.ending)) w sheet.operations.now c.end_call-stand.result sheet.lines.items) (sym c.end_call-stand.ensures.same.0)
-    (subst (λ (ops : List ℕ). HasCome g.P.Program.meaning rows (g.E.Ending.says (g.E.Ending.object old.ending)) old.who ops c.end_call-stand.result sheet.lines.items) (sym c.end_call-stand.ensures.same.1) come))
+    let says = g.E.Ending.says in
+    let object = g.E.Ending.object in
+    let stays = g.met.E.Ending.stays (object old.ending) in
+    let s = c.match-stand.stand in
+    let h = c.match-stand.sheet in
+    elim c.match-stand.branch [
+      | in-Idle w ↦
+          let left : phases_at (length old.lines.items) (at.Idle w.in-Idle.caller) < 5 * length old.operations.now =
+          subst (λ (z : Stand _). phases_at (length old.lines.items) z < 5 * length old.operations.now) w.in-Idle.is c.requires.left in
+          come_with s _ h old w.stand-is w.sheet-is meaning rows says object
+          (announced_come meaning rows (says (object old.ending)) stays old.who old.operations.now old.lines.items w.in-Idle.caller w.announce.result _ c.next_op-op.ensures
+          (come_at _ _ w.in-Idle.is c.requires.course) (omega (arith, left)) w.announce.ensures.caller w.announce.ensures.operation w.announce.ensures.progress w.announce.ensures.grows)
+      | in-Announced w ↦
+          let come = come_at _ _ w.in-Announced.is c.requires.course in
+          come_with s _ h old w.stand-is w.sheet-is meaning rows says object
+          (answered_come meaning rows (says (object old.ending)) stays old.who old.operations.now old.lines.items w.in-Announced.announced w.ask.result come
+          (w.ask.ensures.rows _ rows come.caller, w.ask.ensures.who) w.ask.ensures.operation (w.ask.ensures.allowed rows come.caller) w.ask.ensures.progress w.ask.ensures.grows)
+      | in-Answered w ↦
+          come_with s _ h old w.stand-is w.sheet-is meaning rows says object
+          (viewed_come meaning rows (says (object old.ending)) stays old.who old.operations.now old.lines.items w.in-Answered.answered w.view.result (come_at _ _ w.in-Answered.is c.requires.course)
+          w.view.ensures.caller w.view.ensures.wide w.view.ensures.progress w.view.ensures.grows)
+      | in-Viewed w ↦
+          come_with s _ h old w.stand-is w.sheet-is meaning rows says object
+          (published_come meaning rows (says (object old.ending)) stays old.who old.operations.now old.lines.items w.in-Viewed.viewed w.publish.result (come_at _ _ w.in-Viewed.is c.requires.course)
+          w.publish.ensures.caller w.publish.ensures.record w.publish.ensures.progress w.publish.ensures.grows)
+      | in-Published w ↦
+          let sheet = w.end_call-stand.new.self in
+          let ends = w.end_call-stand.ensures.ends in
+          let come = ended_come meaning rows (says (object old.ending)) stays old.who old.operations.now old.lines.items
+          w.in-Published.published ends.0 w.end_call-stand.result sheet.lines.items (come_at _ _ w.in-Published.is c.requires.course)
+          (subst (λ (o : Sequential). HasEnded meaning rows (says o) w.in-Published.published ends.0) w.end_call-stand.ensures.object ends.1)
+          (subst (λ (o : ℕ). IsNoted o old.lines.items ends.0 sheet.lines.items w.end_call-stand.result) c.next_op-op.ensures ends.2) in
+          come_with s _ h sheet w.stand-is w.sheet-is meaning rows says object
+          (subst (λ (o : Sequential). HasCome meaning rows (says o) sheet.who sheet.operations.now w.end_call-stand.result sheet.lines.items) (sym w.end_call-stand.ensures.object)
+          (subst (λ (i : ℕ). HasCome meaning rows (says (object old.ending)) i sheet.operations.now w.end_call-stand.result sheet.lines.items) (sym w.end_call-stand.ensures.same.0)
+          (subst (λ (ops : List ℕ). HasCome meaning rows (says (object old.ending)) old.who ops w.end_call-stand.result sheet.lines.items) (sym w.end_call-stand.ensures.same.1) come)))
+      | in_default w ↦ come_with s self.stand h old w.stand-is w.sheet-is meaning rows says object c.requires.course
+    ]
 
-pub returns-in-Published-clause-asked : goal.returns-in-Published-clause-asked
-returns-in-Published-clause-asked g c =
-    let sheet = c.end_call-stand.new.self in
-    let old = c.args.self.sheet in
-    let ends = c.end_call-stand.ensures.ends in
-    ended_asked g.P.Program.meaning c.args.shared.now.rows.now _ old.who old.operations.now old.lines.items (g.A.Asks.made c.args.self.pass) (g.A.Asks.told c.args.self.pass)
-    c.in-Published.published ends.0 c.end_call-stand.result sheet.lines.items ends.1
-    (subst (λ (o : ℕ). IsNoted o old.lines.items ends.0 sheet.lines.items c.end_call-stand.result) c.next_op-op.ensures ends.2)
-    (phases_noted c.next_op-op.result old.lines.items c.in-Published.published ends.0 c.end_call-stand.result sheet.lines.items ends.2)
-    (asked_at _ _ c.in-Published.is c.requires.asked)
+pub returns-clause-asked : goal.returns-clause-asked
+returns-clause-asked g c =
+    let self = c.args.self in
+    let old = self.sheet in
+    let made = g.A.Asks.made in
+    let told = g.A.Asks.told in
+    let s = c.match-stand.stand in
+    let h = c.match-stand.sheet in
+    let p = c.match-stand.pass in
+    elim c.match-stand.branch [
+      | in-Idle w ↦
+          asked_with s _ h old w.stand-is w.sheet-is p _ w.pass-is made told
+          (announced_asked _ _ _ _ _ _ _ _ w.in-Idle.caller w.announce.result _ (come_at _ _ w.in-Idle.is c.requires.course) w.announce.ensures.progress (asked_at _ _ w.in-Idle.is c.requires.asked))
+      | in-Announced w ↦
+          asked_with s _ h old w.stand-is w.sheet-is p _ w.pass-is made told
+          (answered_asked _ _ _ _ _ _ _ _ w.in-Announced.announced w.ask.result _ _ (come_at _ _ w.in-Announced.is c.requires.course)
+          w.ask.ensures.progress w.ask.ensures.operation w.ask.ensures.made w.ask.ensures.told (asked_at _ _ w.in-Announced.is c.requires.asked))
+      | in-Answered w ↦
+          asked_with s _ h old w.stand-is w.sheet-is p _ w.pass-is made told
+          (viewed_asked _ _ _ _ _ _ _ _ w.in-Answered.answered w.view.result (come_at _ _ w.in-Answered.is c.requires.course)
+          w.view.ensures.call.1 w.view.ensures.progress (asked_at _ _ w.in-Answered.is c.requires.asked))
+      | in-Viewed w ↦
+          asked_with s _ h old w.stand-is w.sheet-is p _ w.pass-is made told
+          (published_asked g.P.Program.meaning c.args.shared.now.rows.now (g.E.Ending.says (g.E.Ending.object old.ending)) old.who old.operations.now _ _ _ w.in-Viewed.viewed w.publish.result
+          w.publish.ensures.progress (asked_at _ _ w.in-Viewed.is c.requires.asked))
+      | in-Published w ↦
+          let sheet = w.end_call-stand.new.self in
+          let ends = w.end_call-stand.ensures.ends in
+          asked_with s _ h sheet w.stand-is w.sheet-is p _ w.pass-is made told
+          (ended_asked g.P.Program.meaning c.args.shared.now.rows.now _ old.who old.operations.now old.lines.items (made self.pass) (told self.pass)
+          w.in-Published.published ends.0 w.end_call-stand.result sheet.lines.items ends.1
+          (subst (λ (o : ℕ). IsNoted o old.lines.items ends.0 sheet.lines.items w.end_call-stand.result) c.next_op-op.ensures ends.2)
+          (phases_noted c.next_op-op.result old.lines.items w.in-Published.published ends.0 w.end_call-stand.result sheet.lines.items ends.2)
+          (asked_at _ _ w.in-Published.is c.requires.asked))
+      | in_default w ↦ asked_with s self.stand h old w.stand-is w.sheet-is p _ w.pass-is made told c.requires.asked
+    ]

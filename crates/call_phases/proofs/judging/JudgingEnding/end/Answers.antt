@@ -1,4 +1,4 @@
-use Rattle.std.proofs.Common.{◌≡◌, ◌∙◌, sym, subst, ap}
+use Rattle.std.proofs.Common.{◌≡◌, ◌∙◌, sym, subst, ap, Option}
 use Rattle.world_core.specs.Local.{Local}
 use Rattle.world_core.specs.Event.{is_unstaged}
 use Rattle.row_table.specs.declared.caller.Caller.{Caller}
@@ -6,6 +6,8 @@ use Rattle.row_table.specs.Callers.{local_with, IsStill}
 use Rattle.drv_wrapper.specs.Growth.{Grows}
 use Rattle.enforcer.specs.States.{caller_seen}
 use Rattle.enforcer.specs.Recorded.{is_announcing}
+use Rattle.row_gather.specs.declared.gathered.Gathered.{Gathered}
+use Rattle.row_gather.specs.Gathered.{IsGatheredBy}
 use Rattle.call_phases.proofs.Judged.{idle_is, peeks_grow, caller_is, stands_behind, says_judged}
 use Rattle.call_phases.proofs.judging.JudgingEnding.end.Goals as goal
 
@@ -34,3 +36,12 @@ pub returns-in-Ok-clause-says : goal.returns-in-Ok-clause-says
 returns-in-Ok-clause-says g c =
     says_judged (record { init = g.S.SeqObject.init c.args.self.now.sequential.now; next = g.S.SeqObject.next c.args.self.now.sequential.now }) c.args.rows.now.callers
     c.in-Ok.caller c.in-Ok.outcome c.ended_by.result _ _ c.ended_by.ensures c.in-Ok.ensures.record c.in-Ok.ensures.cut c.in-Ok.ensures.gathered
+
+pub returns-in-Ok-clause-kept : goal.returns-in-Ok-clause-kept
+returns-in-Ok-clause-kept g c =
+    subst (λ (d : Caller _). IsGatheredBy (local_with d) c.judge.new.gathered)
+    (sym (caller_is c.in-Ok.caller c.in-Ok.outcome c.ended_by.result c.ended_by.ensures)) c.in-Ok.ensures.kept
+
+pub returns-in-Err-clause-kept : goal.returns-in-Err-clause-kept
+returns-in-Err-clause-kept g c =
+    subst (λ (o : Option Gathered). IsGatheredBy (local_with c.in-Err.unjudged.caller) o) (sym c.in-Err.ensures.unjudged_kept) tt
