@@ -1,6 +1,7 @@
 -- What is kept of a judgement for the next one.
-use Rattle.std.specs.Prelude.{◌≡◌, ℕ, Option, None, IsSomeAnd, length}
+use Rattle.std.specs.Prelude.{◌≡◌, ℕ, Option, None, IfSome, IsSomeAnd, length}
 use Rattle.row_gather.specs.declared.gathered.Gathered.{Gathered}
+use Rattle.row_gather.specs.Gathered.{TicksForNew}
 use Rattle.enforcer.specs.declared.outcome.Outcome.{Outcome}
 use Rattle.enforcer.specs.declared.outcome.Outcome.TheVariants.{Delivered, Illegal}
 
@@ -9,3 +10,9 @@ use Rattle.enforcer.specs.declared.outcome.Outcome.TheVariants.{Delivered, Illeg
 abbrev pub IsKeptBehind : ℕ → Outcome → Option Gathered → Type 0
 IsKeptBehind n (Delivered reply view seen order) gathered = IsSomeAnd gathered (λ g. (length g.book ≡ n) × (g.cut ≡ seen))
 IsKeptBehind n (Illegal reply view seen book) gathered = gathered ≡ None
+
+-- The counter ticked once for each word that is new, as against the book that was kept before: of the book that is kept behind a reply
+-- that is delivered, and of the one that an error carries.
+abbrev pub TicksForNewBehind : ℕ → Option Gathered → Outcome → Option Gathered → ℕ → ℕ → Type 0
+TicksForNewBehind n kept (Delivered reply view seen order) gathered before after = IfSome gathered (λ g. TicksForNew n kept g before after)
+TicksForNewBehind n kept (Illegal reply view seen book) gathered before after = TicksForNew n kept (record { book = book; cut = seen }) before after

@@ -1,16 +1,17 @@
-ghost use Rattle.std.specs.Prelude.{◌≡◌, ◌≤◌, false, None, IfOk, IfErr};
+ghost use Rattle.std.specs.Prelude.{◌≡◌, ◌+◌, ◌≤◌, false, None, IfOk, IfErr};
 ghost use Rattle.world_core.specs.Local.{IsIdle};
 ghost use Rattle.world_core.specs.Calls.{IsGathered};
 ghost use Rattle.row_table.specs.Callers.{local_with, stance_of, IsCallerOf, IsStill};
 ghost use Rattle.row_gather.specs.Peeks.{OnlyPeeks};
 ghost use Rattle.row_gather.specs.Exact.{IsTheBookAt};
-ghost use Rattle.row_gather.specs.Gathered.{IsGatheredBy};
+ghost use Rattle.row_gather.specs.Words.{words_of_book};
+ghost use Rattle.row_gather.specs.Gathered.{IsGatheredBy, TicksForNew};
 ghost use Rattle.frontier_check.specs.Verdict.{IsRight};
 ghost use Rattle.drv_wrapper.specs.Stands.{ready};
 ghost use Rattle.enforcer.specs.Recorded.{HoldsOwn};
 ghost use Rattle.enforcer.specs.States.{caller_seen, reply_seen, view_seen, cut_seen};
 ghost use Rattle.enforcer.specs.Judged.{record_in, cut_in, stance_after, IsRightByPeeks, IsRightOf};
-ghost use Rattle.enforcer.specs.Kept.{IsKeptBehind};
+ghost use Rattle.enforcer.specs.Kept.{IsKeptBehind, TicksForNewBehind};
 
 use crate::outcome::{Outcome, Unjudged};
 use crate::seen_call::Seen;
@@ -42,8 +43,12 @@ pub fn gather<P: Program, L: Ledger>(
     ensures cut { cut_seen seen.new ≡ cut_seen seen.old }
     ensures peeks { OnlyPeeks (caller_seen seen.old) (caller_seen seen.new) steps.old steps.new }
     ensures at { IfOk result (λ g. g.cut ≡ cut_seen seen.new) }
-    ensures gathered { IfOk result (λ g. IsGathered rows.now.callers (local_with (caller_seen seen.new)) (cut_seen seen.new) g.book) }
-    ensures exact { IfOk result (λ g. IsTheBookAt P.meaning rows.now (caller_seen seen.new) (cut_seen seen.new) g.book) }
+    ensures gathered { IfOk result (λ g.
+        IsGathered rows.now.callers (local_with (caller_seen seen.new)) (cut_seen seen.new) g.book) }
+    ensures exact { IfOk result (λ g.
+        IsTheBookAt P.meaning rows.now (caller_seen seen.new) (cut_seen seen.new) g.book) }
+    ensures ticks { IfOk result (λ g. TicksForNew rows.now.callers gathered g steps.old steps.new) }
+    ensures most { IfOk result (λ g. steps.new ≤ steps.old + words_of_book g.book) }
 {
     grow_at(alloc, rows, &mut seen.caller, gathered, &seen.cut, steps)
 }
@@ -65,8 +70,12 @@ fn decide<P: Program, S: SeqObject, L: Ledger>(
     ensures cut { cut_seen seen.new ≡ cut_seen seen.old }
     ensures peeks { OnlyPeeks (caller_seen seen.old) (caller_seen seen.new) steps.old steps.new }
     ensures at { IfOk result (λ r. r.0.cut ≡ cut_seen seen.new) }
-    ensures gathered { IfOk result (λ r. IsGathered rows.now.callers (local_with (caller_seen seen.new)) (cut_seen seen.new) r.0.book) }
-    ensures exact { IfOk result (λ r. IsTheBookAt P.meaning rows.now (caller_seen seen.new) (cut_seen seen.new) r.0.book) }
+    ensures gathered { IfOk result (λ r.
+        IsGathered rows.now.callers (local_with (caller_seen seen.new)) (cut_seen seen.new) r.0.book) }
+    ensures exact { IfOk result (λ r.
+        IsTheBookAt P.meaning rows.now (caller_seen seen.new) (cut_seen seen.new) r.0.book) }
+    ensures ticks { IfOk result (λ r.
+        TicksForNew rows.now.callers gathered r.0 steps.old steps.new) }
     ensures verdict { IfOk result (λ r. IsRight (S.init object.now) (S.next object.now) r.0.book r.1) }
 {
     let gathered = gather(alloc, rows, seen, gathered, steps)?;
@@ -90,8 +99,9 @@ fn halted<P: Program>(rows: &Rows<P>, caller: Caller<P>) -> Caller<P>
 /// After `Delivered` the caller is live and idle, and after `Illegal` it is halted. `Unjudged` comes for want of
 /// memory alone. The guide keeps the last order that was found; it costs or saves time, and never changes a verdict.
 ///
-/// `gathered` is what this caller has gathered before, or `None`: the book is grown from it. After `Delivered` it is
-/// the book that was judged, for the caller's next call, and else it is `None`: an error takes its book along.
+/// `gathered` is what this caller has gathered before, or `None`: the book is grown from it, and only what is new is
+/// peeked. After `Delivered` it is the book that was judged, for the caller's next call, and else it is `None`: an
+/// error takes its book along.
 pub fn judge<P: Program, S: SeqObject, L: Ledger>(
     alloc: Global,
     object: &S,
@@ -114,6 +124,8 @@ pub fn judge<P: Program, S: SeqObject, L: Ledger>(
     ensures verdict { IfOk result (λ r. IsRightOf (S.init object.now) (S.next object.now) P.meaning rows.now r.0 r.1) }
     ensures kept { IfOk result (λ r. IsGatheredBy (local_with r.0) gathered.new) }
     ensures kept_book { IfOk result (λ r. IsKeptBehind rows.now.callers r.1 gathered.new) }
+    ensures new_words { IfOk result (λ r.
+        TicksForNewBehind rows.now.callers gathered.old r.1 gathered.new steps.old steps.new) }
     ensures unjudged_caller { IfErr result (λ u. IsStill P.meaning rows.now (caller_seen seen) u.caller) }
     ensures unjudged_peeks { IfErr result (λ u. OnlyPeeks (caller_seen seen) u.caller steps.old steps.new) }
     ensures unjudged_stands { IfErr result (λ u. stance_of u.caller ≡ record ready { live = false }) }

@@ -1,9 +1,11 @@
-use Rattle.std.proofs.Common.{List, subst}
+use Rattle.std.proofs.Common.{ℕ, List, Option, subst}
 use Rattle.book_base.specs.Book.{Page}
 use Rattle.book_base.specs.Order.{IsLegalOrder}
 use Rattle.frontier_check.specs.Verdict.{IsRight}
 use Rattle.frontier_check.specs.declared.verdict.Verdict.{Verdict}
 use Rattle.row_table.specs.Callers.{local_with}
+use Rattle.row_gather.specs.declared.gathered.Gathered.{Gathered}
+use Rattle.row_gather.specs.Gathered.{TicksForNew}
 use Rattle.row_gather.proofs.Kept.{gathered_by_now}
 use Rattle.enforcer.proofs.judging.judge.Goals as goal
 
@@ -20,3 +22,11 @@ returns-in-Legal-clause-kept g c =
 
 pub returns-in-Legal-clause-kept_book : goal.returns-in-Legal-clause-kept_book
 returns-in-Legal-clause-kept_book g c = (c.in-Ok.ensures.gathered.callers, c.in-Ok.ensures.at)
+
+pub returns-in-Illegal-clause-new_words : goal.returns-in-Illegal-clause-new_words
+returns-in-Illegal-clause-new_words g c =
+    let n = c.args.rows.now.callers in
+    let before = c.args.steps.now in
+    let after = c.decide-decided.new.steps in
+    subst (λ (cut : List ℕ). TicksForNew n c.args.gathered.now (record { book = c.in-Ok.found.book; cut = cut }) before after) c.in-Ok.ensures.at
+    (subst (λ (kept : Option Gathered). TicksForNew n kept c.in-Ok.found before after) c.take.ensures.value c.in-Ok.ensures.ticks)
