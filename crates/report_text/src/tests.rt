@@ -60,10 +60,11 @@ fn every_prefix_is_cut(rt: HostRuntime) {
     }
 }
 
-// The lines of a report about a counter behind its first two lines, and their first fault.
+// The lines of a report about a counter behind its first two lines, and their first fault: of a line that fails two tests the
+// first is answered, so a wrong view comes before a wrong mark and before a wrong seen cut.
 #[test]
 fn faults_of_lines(rt: HostRuntime) -> Result<(), Fail> {
-    let cases: [(&[u8], u64, What); 37] = [
+    let cases: [(&[u8], u64, What); 44] = [
         (b"callers 17\n", 3, What::Callers),
         (b"callers 1\ncalls 257\n", 4, What::Calls),
         (b"callers 1\ncalls 1\nend\n", 5, What::Place),
@@ -117,6 +118,41 @@ fn faults_of_lines(rt: HostRuntime) -> Result<(), Fail> {
         ),
         (
             b"callers 2\ncalls 1 1\n0 0 inc =0 view 0:1 unchecked\n1 0 inc =0 view 1:1 unchecked\nend\n",
+            6,
+            What::ViewsCross,
+        ),
+        (
+            b"callers 1\ncalls 1\n0 0 inc =0 view done\nend\n",
+            5,
+            What::ViewLacksOwn,
+        ),
+        (
+            b"callers 1\ncalls 2\n0 0 inc =0 view 0:2 done\nend\n",
+            5,
+            What::ViewHasLater,
+        ),
+        (
+            b"callers 2\ncalls 1 1\n0 0 inc =0 view 0:1 unchecked\n1 0 inc =0 view 1:1 done\nend\n",
+            6,
+            What::ViewsCross,
+        ),
+        (
+            b"callers 1\ncalls 1\n0 0 inc =0 view 0:2 ok seen 0:0\nend\n",
+            5,
+            What::ViewOutside,
+        ),
+        (
+            b"callers 1\ncalls 1\n0 0 inc =0 view ok seen 0:01\nend\n",
+            5,
+            What::ViewLacksOwn,
+        ),
+        (
+            b"callers 1\ncalls 2\n0 0 inc =0 view 0:2 ok seen 1:1\nend\n",
+            5,
+            What::ViewHasLater,
+        ),
+        (
+            b"callers 2\ncalls 1 1\n0 0 inc =0 view 0:1 unchecked\n1 0 inc =0 view 1:1 error seen 1:1 1\nend\n",
             6,
             What::ViewsCross,
         ),
