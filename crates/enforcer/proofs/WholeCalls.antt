@@ -1,10 +1,13 @@
 -- How far a caller comes with a whole call, and that what it has found only grows.
-use Rattle.std.proofs.Common.{◌≡◌, ℕ, List, [], ◌∷◌, ◌++◌, Result, Ok, Err, IfOk, IfErr, ◌≤◌, refl, sym, ap, subst, ◌∙◌, arith}
+use Rattle.std.proofs.Common.{◌≡◌, ℕ, ◌+◌, ◌*◌, List, [], ◌∷◌, ◌++◌, Option, Result, Ok, Err, IfOk, IfErr, ◌≤◌, refl, sym, ap, subst, ◌∙◌, arith}
 use Rattle.book_base.specs.declared.call.Record.{Record}
 use Rattle.world_core.specs.Local.{Local, Given}
 use Rattle.call_lines.specs.Phases.{progress_of}
 use Rattle.call_lines.specs.Progress.{after_announcing, after_viewing, after_publishing, after_seeing}
+use Rattle.row_gather.specs.declared.gathered.Gathered.{Gathered}
+use Rattle.row_gather.specs.Gathered.{IsGatheredBy}
 use Rattle.row_gather.specs.Peeks.{with_peeked, HasOnlyPeeked}
+use Rattle.row_gather.proofs.Kept.{gathered_by_stays}
 use Rattle.drv_wrapper.specs.Growth.{Grows}
 use Rattle.drv_wrapper.proofs.Growing.{grows_by, grows_on}
 use Rattle.enforcer.specs.Enforced.{after_call}
@@ -53,3 +56,11 @@ grows_through l v p s m before after one two three peeks = grows_on l v m one (g
 -- the counter never falls through four parts of a call
 pub ticks_through : (a b c d e : ℕ) → a ≤ b → b ≤ c → c ≤ d → d ≤ e → a ≤ e
 ticks_through a b c d e one two three four = omega (arith, one, two, three, four)
+
+-- four scans, two of the first part and one of each of the next two, tick together at most four times as often as one may
+pub ticks_of_scans : (m a b c d : ℕ) → (a ≤ b) × (b ≤ a + (m + m)) → (b ≤ c) × (c ≤ b + m) → (c ≤ d) × (d ≤ c + m) → (a ≤ d) × (d ≤ a + 4 * m)
+ticks_of_scans m a b c d two one more = (omega (arith, two.0, one.0, more.0), omega (arith, two.1, one.1, more.1))
+
+-- what a caller has gathered stays so through the parts of a call that come before the judgement
+pub gathered_through : (l v p s : Local) (gathered : Option Gathered) → Grows l v → Grows v p → Grows p s → IsGatheredBy l gathered → IsGatheredBy s gathered
+gathered_through l v p s gathered one two three = gathered_by_stays l s gathered (grows_on l v s one (grows_on v p s two three)).peeked

@@ -1,5 +1,5 @@
 -- What a whole call comes to, and what an outcome says of later ones.
-use Rattle.std.specs.Prelude.{◌≡◌, ℕ, true, List, Result, Ok, Err}
+use Rattle.std.specs.Prelude.{◌≡◌, ◌≤◌, ◌+◌, ◌*◌, ℕ, true, List, Option, Result, Ok, Err}
 use Rattle.book_base.specs.declared.call.Record.{Record}
 use Rattle.book_base.specs.Cut.{IsWithin}
 use Rattle.book_base.specs.BookAt.{book_at}
@@ -11,9 +11,12 @@ use Rattle.call_lines.specs.Phases.{Progress}
 use Rattle.call_lines.specs.Progress.{after_announcing, after_viewing, after_publishing, after_seeing}
 use Rattle.call_lines.specs.Workers.{IsJudgedBy}
 use Rattle.row_table.specs.declared.caller.Caller.{Caller}
+use Rattle.collect_scan.specs.Scanned.{most_words}
+use Rattle.row_gather.specs.declared.gathered.Gathered.{Gathered}
 use Rattle.enforcer.specs.declared.outcome.Outcome.{Outcome}
 use Rattle.enforcer.specs.declared.outcome.Unjudged.{Unjudged}
 use Rattle.enforcer.specs.Judged.{record_in, cut_in, end_of, is_illegal, IsRightFor, IsRightByPeeks}
+use Rattle.enforcer.specs.Kept.{TicksForNewBehind}
 
 -- How far a caller has come after a whole call: one call more, with this operation, this record and this seen cut, and published.
 abbrev pub after_call : ℕ → Record → List ℕ → Progress → Progress
@@ -26,6 +29,12 @@ record_unjudged u = record { reply = u.reply; view = u.view }
 abbrev pub reply_of : {P : Type 0} → Result (Caller P × Outcome) (Unjudged P) → ℕ
 reply_of (Ok r) = (record_in r.1).reply
 reply_of (Err u) = u.reply
+
+-- The counter ticks for the scans of a whole call, which are four, and then once for each word of its book that is new, as against the
+-- book that was kept before.
+abbrev pub TicksForWholeCall : ℕ → Option Gathered → Outcome → Option Gathered → ℕ → ℕ → Type 0
+TicksForWholeCall n kept outcome gathered before after =
+    (scanned : ℕ) × (before ≤ scanned) × (scanned ≤ before + 4 * most_words n) × TicksForNewBehind n kept outcome gathered scanned after
 
 -- An outcome that is right by what its caller peeked is the verdict at the end of the call's line.
 abbrev pub OutcomesAreVerdicts : Type 0

@@ -1,13 +1,15 @@
-ghost use Rattle.std.specs.Prelude.{◌≡◌, ◌+◌, ◌<◌, ◌≤◌, false, IfOk, IfErr};
+ghost use Rattle.std.specs.Prelude.{◌≡◌, ◌+◌, ◌<◌, ◌≤◌, false, None, IfOk, IfErr};
 ghost use Rattle.world_core.specs.Local.{IsIdle};
 ghost use Rattle.call_lines.specs.Phases.{progress_of};
 ghost use Rattle.row_table.specs.Callers.{who_of, local_with, stance_of, IsCallerOf, IsStill};
+ghost use Rattle.row_gather.specs.Gathered.{IsGatheredBy};
 ghost use Rattle.drv_wrapper.specs.Growth.{Grows};
 ghost use Rattle.drv_wrapper.specs.Stands.{ready};
 ghost use Rattle.drv_wrapper.specs.Telling.{told_after};
 ghost use Rattle.enforcer.specs.Recorded.{HoldsOwn};
 ghost use Rattle.enforcer.specs.Judged.{record_in, cut_in, stance_after, AreWide, IsRightByPeeks, IsRightOf};
-ghost use Rattle.enforcer.specs.Enforced.{after_call, record_unjudged, reply_of};
+ghost use Rattle.enforcer.specs.Kept.{IsKeptBehind};
+ghost use Rattle.enforcer.specs.Enforced.{after_call, record_unjudged, reply_of, TicksForWholeCall};
 
 use crate::judging::judge;
 use crate::outcome::{Outcome, Unjudged};
@@ -16,6 +18,7 @@ use crate::seeing::seen;
 use book_base::{OpWord, SeqObject};
 use drv_wrapper::{BlackBox, apply};
 use frontier_check::Guide;
+use row_gather::Gathered;
 use row_table::{Caller, Rows, Steps};
 use std::alloc::Global;
 use std::sync::ledger::Ledger;
@@ -53,8 +56,18 @@ use world_core::{Outside, Program};
 ///         made: 0,
 ///         cap: 1,
 ///     };
+///     let mut gathered = None;
 ///     match enforce(
-///         alloc, rows, caller, op, &Queue, object, &mut pass, guide, steps,
+///         alloc,
+///         rows,
+///         caller,
+///         op,
+///         &Queue,
+///         object,
+///         &mut pass,
+///         &mut gathered,
+///         guide,
+///         steps,
 ///     ) {
 ///         Ok((caller, outcome)) => {
 ///             let live = caller.live();
@@ -105,17 +118,19 @@ use world_core::{Outside, Program};
 ///   this one, so all callers hand in the same.
 /// - `object` and `pass`: the object under test, and this caller's own pass of it, with a call left. One call is
 ///   made with it, neither more nor fewer, whatever becomes of the judgement.
+/// - `gathered`: the book that this caller gathered last, and `None` before its first call. The book of a call is
+///   grown from it, so that only words that are new are peeked. After `Delivered` it is the book that was judged:
+///   hand it to the same caller's next call. After `Illegal`, which takes its book along, and after `Unjudged` it is
+///   `None`. Like the guide it never changes a verdict, so `None` is always good; but then the words of all calls
+///   before are peeked again.
 /// - `guide`: the last order that was found, whose places the search for the next one tries first. It costs or
 ///   saves time alone, and never changes a verdict, so a new one is always good.
-/// - `steps`: the counter that ticks with each word of the table that is looked at or peeked.
+/// - `steps`: the counter that ticks with each word of the table that is looked at or peeked: those of four scans, and
+///   those of the book that are new.
 ///
-/// The book that a call is judged by is gathered for this call alone. A caller of many calls makes their parts by hand,
-/// `apply`, [`publish`], [`seen`] and [`judge`], and hands what it gathered from one `judge` to the next, so that only
-/// what is new is peeked.
-///
-/// Each caller keeps one pass, one guide and one counter of its own, and makes its calls from its own thread; on one
-/// thread, as above, guide and counter may be shared. No call takes a lock or waits for another caller, and a caller
-/// that stops in the midst of its call holds up nobody.
+/// Each caller keeps one pass, one gathered book, one guide and one counter of its own, and makes its calls from its
+/// own thread. On one thread, as above, guide and counter may be shared, but never the pass or the gathered book. No
+/// call takes a lock or waits for another caller, and a caller that stops in the midst of its call holds up nobody.
 ///
 /// What you may conclude from an answer:
 ///
@@ -142,6 +157,7 @@ pub fn enforce<S: SeqObject, B: BlackBox, L: Ledger>(
     sequential: &S,
     object: &B,
     pass: &mut B::Pass,
+    gathered: &mut Option<Gathered>,
     guide: &mut Guide,
     steps: &mut Steps<L>,
 ) -> Result<(Caller, Outcome), Unjudged>
@@ -152,6 +168,7 @@ pub fn enforce<S: SeqObject, B: BlackBox, L: Ledger>(
     requires own { B.is_own object.now pass.old }
     requires pass { B.Pass.caller pass.old ≡ who_of caller }
     requires left { B.Pass.made pass.old < B.Pass.cap pass.old }
+    requires gathered { IsGatheredBy (local_with caller) gathered.old }
     ensures caller { IfOk result (λ r. IsStill ⟦<Outside as Program>⟧.meaning rows.now caller r.0) }
     ensures idle { IfOk result (λ r. IsIdle (local_with r.0)) }
     ensures stands { IfOk result (λ r. stance_of r.0 ≡ stance_after r.1) }
@@ -161,12 +178,17 @@ pub fn enforce<S: SeqObject, B: BlackBox, L: Ledger>(
     ensures grows { IfOk result (λ r. Grows (local_with caller) (local_with r.0)) }
     ensures gathered { IfOk result (λ r. IsRightByPeeks (S.init sequential.now) (S.next sequential.now) rows.now.callers (local_with r.0) r.1) }
     ensures verdict { IfOk result (λ r. IsRightOf (S.init sequential.now) (S.next sequential.now) ⟦<Outside as Program>⟧.meaning rows.now r.0 r.1) }
+    ensures kept { IfOk result (λ r. IsGatheredBy (local_with r.0) gathered.new) }
+    ensures kept_book { IfOk result (λ r. IsKeptBehind rows.now.callers r.1 gathered.new) }
+    ensures new_words { IfOk result (λ r.
+        TicksForWholeCall rows.now.callers gathered.old r.1 gathered.new steps.old steps.new) }
     ensures unjudged_caller { IfErr result (λ u. IsStill ⟦<Outside as Program>⟧.meaning rows.now caller u.caller) }
     ensures unjudged_stands { IfErr result (λ u. stance_of u.caller ≡ record ready { live = false }) }
     ensures unjudged_progress { IfErr result (λ u. progress_of (local_with u.caller) ≡ after_call op (record_unjudged u) u.seen (progress_of (local_with caller))) }
     ensures unjudged_wide { IfErr result (λ u. AreWide rows.now.callers u.view u.seen) }
     ensures unjudged_own { IfErr result (λ u. HoldsOwn u.seen u.caller) }
     ensures unjudged_grows { IfErr result (λ u. Grows (local_with caller) (local_with u.caller)) }
+    ensures unjudged_kept { IfErr result (λ u. gathered.new ≡ None) }
     ensures pass { B.is_own object.now pass.new }
     ensures made { B.Pass.made pass.new ≡ B.Pass.made pass.old + 1 }
     ensures same { (B.Pass.caller pass.new ≡ B.Pass.caller pass.old) × (B.Pass.cap pass.new ≡ B.Pass.cap pass.old) }
@@ -176,6 +198,5 @@ pub fn enforce<S: SeqObject, B: BlackBox, L: Ledger>(
     let viewed = apply(caller, rows, op, object, pass, steps);
     let published = publish(viewed, rows, steps);
     let seen = seen(published, rows, steps);
-    let mut gathered = None;
-    judge(alloc, sequential, rows, seen, &mut gathered, guide, steps)
+    judge(alloc, sequential, rows, seen, gathered, guide, steps)
 }

@@ -143,8 +143,18 @@ fn call_queue<L: Ledger>(
         made: 0,
         cap: 1,
     };
+    let mut gathered = None;
     match enforce(
-        alloc, rows, caller, op, &Queue, object, &mut pass, guide, steps,
+        alloc,
+        rows,
+        caller,
+        op,
+        &Queue,
+        object,
+        &mut pass,
+        &mut gathered,
+        guide,
+        steps,
     ) {
         Ok((caller, outcome)) => {
             let live = caller.live();

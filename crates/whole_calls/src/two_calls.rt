@@ -5,7 +5,7 @@ ghost use Rattle.whole_calls.specs.Seated.{IsAt, IsNew, IsThere, IsNewAt, IsFor,
 
 use book_base::{Cut, NoMemory, OpWord, Place};
 use drv_wrapper::ObjectPass;
-use enforcer::{Outcome, Unjudged, enforce};
+use enforcer::{Gathered, Outcome, Unjudged, enforce};
 use frontier_check::Guide;
 use lawful_objects::{Entry, LogBox, LogPass, Machine, Plain};
 use row_table::{Bench, Caller, Rows, Steps};
@@ -106,6 +106,7 @@ fn judged(outcome: Outcome, live: bool) -> Found {
 struct Seat<L: Ledger> {
     caller: Option<Caller>,
     pass: LogPass,
+    gathered: Option<Gathered>,
     guide: Guide,
     steps: Steps<L>,
 }
@@ -119,6 +120,7 @@ impl<L: Ledger> Seat<L> {
         let Seat {
             caller,
             pass,
+            gathered: _,
             guide: _,
             steps: _,
         } = self;
@@ -137,6 +139,7 @@ fn call<M: Machine, L: Ledger>(
 ) -> Found
     requires caller { IsNewAt ⟦<Outside as Program>⟧.meaning rows.now (caller_of_pass seat.old.pass) seat.old.caller }
     requires pass { IsPassOf M.reply_to M.has_seen object.now seat.old.pass × IsUnused seat.old.pass }
+    requires gathered { seat.old.gathered ≡ None }
     ensures caller { IsThere ⟦<Outside as Program>⟧.meaning rows.now (caller_of_pass seat.old.pass) seat.new.caller }
     ensures pass { IsFor M.reply_to M.has_seen object.now (caller_of_pass seat.old.pass) seat.new.pass }
 {
@@ -151,6 +154,7 @@ fn call<M: Machine, L: Ledger>(
         &Kind::Queue,
         object,
         &mut seat.pass,
+        &mut seat.gathered,
         &mut seat.guide,
         &mut seat.steps,
     ) {
@@ -195,6 +199,7 @@ fn call_both<M: Machine + Sync, K: Ledger + Send, L: Ledger + Send, R: Threads>(
     requires callers { IsNewAt ⟦<Outside as Program>⟧.meaning rows.now 0 a.old.caller × IsNewAt ⟦<Outside as Program>⟧.meaning rows.now 1 b.old.caller }
     requires passes { IsFor M.reply_to M.has_seen object.now 0 a.old.pass × IsFor M.reply_to M.has_seen object.now 1 b.old.pass }
     requires unused { IsUnused a.old.pass × IsUnused b.old.pass }
+    requires gathered { (a.old.gathered ≡ None) × (b.old.gathered ≡ None) }
     ensures callers { IsThere ⟦<Outside as Program>⟧.meaning rows.now 0 a.new.caller × IsThere ⟦<Outside as Program>⟧.meaning rows.now 1 b.new.caller }
     ensures passes { IsFor M.reply_to M.has_seen object.now 0 a.new.pass × IsFor M.reply_to M.has_seen object.now 1 b.new.pass }
 {
@@ -317,12 +322,14 @@ pub fn queue_calls<K: Ledger + Send, L: Ledger + Send, R: Threads>(
     let mut a = Seat {
         caller: Some(a),
         pass: pass_a,
+        gathered: None,
         guide: guide_a,
         steps: Steps::<K>::new(first),
     };
     let mut b = Seat {
         caller: Some(b),
         pass: pass_b,
+        gathered: None,
         guide: guide_b,
         steps: Steps::<L>::new(second),
     };

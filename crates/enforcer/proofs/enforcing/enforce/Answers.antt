@@ -2,11 +2,13 @@ use Rattle.std.proofs.Common.{◌≡◌, length, sym, ap, ◌∙◌}
 use Rattle.book_base.specs.declared.call.Record.{Record}
 use Rattle.row_table.specs.Callers.{local_with}
 use Rattle.call_lines.specs.Phases.{progress_of}
+use Rattle.collect_scan.specs.Scanned.{most_words}
 use Rattle.row_gather.specs.Peeks.{HasOnlyPeeked}
 use Rattle.drv_wrapper.specs.Growth.{Grows}
 use Rattle.enforcer.specs.Judged.{record_in, cut_in}
-use Rattle.enforcer.specs.Enforced.{after_call, record_unjudged}
-use Rattle.enforcer.proofs.WholeCalls.{ok_by, err_by, ok_from, err_from, whole_call, grows_through, ticks_through}
+use Rattle.enforcer.specs.Kept.{TicksForNewBehind}
+use Rattle.enforcer.specs.Enforced.{after_call, record_unjudged, TicksForWholeCall}
+use Rattle.enforcer.proofs.WholeCalls.{ok_by, err_by, ok_from, err_from, whole_call, grows_through, ticks_through, ticks_of_scans, gathered_through}
 use Rattle.enforcer.proofs.enforcing.enforce.Goals as goal
 
 pub returns-clause-grows : goal.returns-clause-grows
@@ -73,3 +75,20 @@ pub returns-clause-ticks : goal.returns-clause-ticks
 returns-clause-ticks g c =
     ticks_through c.args.steps.now c.apply-viewed.new.steps c.publish-published.new.steps c.seen-seen.new.steps c.judge.new.steps
     c.apply-viewed.ensures.ticks.0 c.publish-published.ensures.ticks.0 c.seen-seen.ensures.ticks.0 c.judge.ensures.ticks
+
+pub judge-requires-clause-gathered : goal.judge-requires-clause-gathered
+judge-requires-clause-gathered g c =
+    gathered_through (local_with c.args.caller) (local_with c.apply-viewed.result.caller) (local_with c.publish-published.result.caller) (local_with c.seen-seen.result.caller)
+    c.args.gathered.now c.apply-viewed.ensures.grows c.publish-published.ensures.grows c.seen-seen.ensures.grows c.requires.gathered
+
+pub returns-clause-new_words : goal.returns-clause-new_words
+returns-clause-new_words g c =
+    let n = c.args.rows.now.callers in
+    let before = c.args.steps.now in
+    let scanned = c.seen-seen.new.steps in
+    let after = c.judge.new.steps in
+    let few = ticks_of_scans (most_words n) before c.apply-viewed.new.steps c.publish-published.new.steps scanned
+    c.apply-viewed.ensures.ticks c.publish-published.ensures.ticks c.seen-seen.ensures.ticks in
+    ok_from c.judge.result (λ r. TicksForNewBehind n c.args.gathered.now r.1 c.judge.new.gathered scanned after)
+    (λ r. TicksForWholeCall n c.args.gathered.now r.1 c.judge.new.gathered before after) (λ r new_words. (scanned, few.0, few.1, new_words))
+    c.judge.ensures.new_words
