@@ -1,6 +1,7 @@
 //! All callers of a bench at work: off the bench into clients, through their work, and back.
 #![tactic(auto)]
 
+pub mod cases;
 mod end;
 mod run;
 mod start;

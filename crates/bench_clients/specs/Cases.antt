@@ -1,0 +1,38 @@
+-- A worked caller that is back: its first call is judged, and its second one announced.
+use Rattle.std.specs.Prelude.{◌≡◌, ℕ, List, [], ◌∷◌, length, Option, Some, None}
+use Rattle.world_core.specs.Local.{Local, fresh}
+use Rattle.call_phases.specs.Ends.{silent}
+use Rattle.bench_clients.specs.Starts.{Course}
+use Rattle.bench_clients.specs.Returns.{IsBackWith}
+
+-- A caller with the operations 5 and 7 is given so many phases.
+abbrev pub course_to : ℕ → Course
+course_to given = record { operations = (5 ∷ 7 ∷ []) ∷ []; allotments = given ∷ []; object = silent }
+
+-- The local of a caller with this second operation, and with so many records published: the first call, which has the operation 5, was
+-- answered 50, saw a cut and was judged by it, and the second call is announced.
+abbrev pub in_second_call : ℕ → ℕ → Local
+in_second_call second published = record fresh {
+  operations = 5 ∷ second ∷ [];
+  announced = 2;
+  published = published;
+  replies = 50 ∷ [];
+  views = (1 ∷ []) ∷ [];
+  seen = (1 ∷ []) ∷ [];
+}
+
+-- A pass of the first caller: how many calls were made with it, and which it tells of, where it tells of any.
+pub record Pass : Type 0 where
+  pub made : ℕ
+  pub told : Option (List (ℕ × ℕ))
+
+-- The caller that is given so many phases is back with this local and this pass, and has made p of them.
+abbrev pub IsBackAfter : ℕ → ℕ → Local → Pass → Type 0
+IsBackAfter given p l pass = IsBackWith (λ pass who. who ≡ 0) (λ (pass : Pass). pass.made) (λ (pass : Pass). pass.told) (course_to given) 0 p l pass
+
+-- A pass that tells of nothing, and one that tells of these calls.
+abbrev pub silent_pass : ℕ → Pass
+silent_pass made = record { made = made; told = None }
+
+abbrev pub pass_of : List (ℕ × ℕ) → Pass
+pass_of pairs = record { made = length pairs; told = Some pairs }
