@@ -9,8 +9,9 @@ use Rattle.book_base.specs.Order.{HasLegalOrder}
 use Rattle.world_core.specs.Shape.{Shape}
 use Rattle.world_core.specs.World.{World, Step, IsReachable, IsRun, end_of}
 use Rattle.world_core.specs.History.{IsLinearizable, history_of}
+use Rattle.world_core.specs.Calls.{calls_in}
 use Rattle.call_lines.specs.declared.line.Line.{Line}
-use Rattle.call_lines.specs.Lines.{made_of, book_of_lines, lines_at, delivered_in, seen_at, delivered_at, error_at, AreLinesOf}
+use Rattle.call_lines.specs.Lines.{made_of, calls_of, book_of_lines, lines_at, delivered_in, seen_at, delivered_at, error_at, AreLinesOf}
 use Rattle.call_lines.specs.Phases.{operations_of, marks_of, marks_after}
 use Rattle.call_lines.specs.Allotments.{operations_at, phases_of, KeepsTo, published_in}
 
@@ -58,8 +59,9 @@ pub record IsLawful (init : List ℕ) (next : List ℕ → ℕ → List ℕ × �
   pub one_order : HasLegalOrder init next (book_at (delivered_cut s.callers lines) (book_of_lines lines))
   -- at the seen cut of an error line the book has no legal order
   pub no_order : (call : Call) (cut : List ℕ) → error_at lines call ≡ Some cut → ¬ HasLegalOrder init next (book_at cut (book_of_lines lines))
-  -- where a line is an error, no run of any program and of any cap that ends with these lines has a linearizable object history
+  -- where a line is an error, no run of any program and of any cap that ends with the calls of these lines, whatever the verdicts, has a
+  -- linearizable object history
   pub no_run : (call : Call) (cut : List ℕ) → error_at lines call ≡ Some cut
-      → (t : Shape) (steps : List Step) → IsRun t steps → AreLinesOf init next (end_of t steps).locals lines → ¬ IsLinearizable init next (history_of t steps)
+      → (t : Shape) (steps : List Step) → IsRun t steps → map calls_in (end_of t steps).locals ≡ calls_of lines → ¬ IsLinearizable init next (history_of t steps)
   -- the lines are those of a reachable world
   pub reached : (w : World) × IsReachable s w × AreLinesOf init next w.locals lines

@@ -128,7 +128,7 @@ module _ (init : List ℕ) (next : List ℕ → ℕ → List ℕ × ℕ) (locals
         no_order = illegal_at;
         no_run = λ call cut e other steps run same.
             no_run_has_this_error_seen init next (calls_of lines) call cut (has_seen_cut lines call cut (seen_from_error lines call cut e)) (illegal_at call cut e)
-            other steps run (sym same.calls);
+            other steps run same;
         reached = (t.0, t.1, subst (λ (ls : List Local). AreLinesOf init next ls lines) (sym t.2) are);
       }
 
