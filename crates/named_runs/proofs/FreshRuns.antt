@@ -1,8 +1,8 @@
 -- Runs that open the table of rows themselves.
 use Rattle.std.proofs.Common.{◌≡◌, ℕ, zero, suc, ◌≤◌, List, [], ◌∷◌, Option, Some, length, get_or, refl, sym, subst, arith}
-use Rattle.world_core.specs.Shape.{Shape}
+use Rattle.world_core.specs.Shape.{Shape, Meaning}
 use Rattle.world_core.specs.Programs.{outside}
-use Rattle.world_core.specs.Local.{Local, fresh}
+use Rattle.world_core.specs.Local.{fresh}
 use Rattle.call_lines.specs.Allotments.{operations_at}
 use Rattle.call_lines.specs.Lawful.{IsLawful}
 use Rattle.text_fields.specs.Counts.{AreAtMost}
@@ -10,18 +10,18 @@ use Rattle.text_fields.specs.declared.version.Version.TheVariants.{Second}
 use Rattle.client_scripts.specs.Plans.{Plan, IsPlan, sizes}
 use Rattle.seq_objects.specs.Objects.{kind_init, kind_next}
 use Rattle.row_table.specs.Benches.{fresh_stance}
-use Rattle.row_table.specs.Callers.{on_bench, stance_on}
+use Rattle.row_table.specs.Callers.{shape_of, on_bench, stance_on}
 use Rattle.row_table.specs.declared.rows.Rows.{Rows}
 use Rattle.row_table.specs.declared.bench.Bench.{Bench}
 use Rattle.bench_clients.specs.Places.{AreInOrder}
 use Rattle.bench_clients.specs.Starts.{AreRowsFor, IsUnused}
 use Rattle.reports.specs.Findings.{Findings}
 use Rattle.run_report.specs.Passes.{IsOwnPass, IsUnusedPass}
-use Rattle.run_report.specs.Reporting.{IsReportOf}
 use Rattle.run_writer.specs.declared.form.Form.{Form}
 use Rattle.byte_streams.specs.declared.status.Status.{Status}
+use Rattle.run_writer.specs.Running.{IsToldBenchReport}
 use Rattle.run_writer.specs.Runs.{RunEnds, IsRunOutput}
-use Rattle.named_runs.specs.BehaviourRuns.{outside_shape, IsLawfulReport}
+use Rattle.named_runs.specs.BehaviourRuns.{outside_shape, IsToldReport}
 use Rattle.byte_streams.proofs.WritingLemmas.{EndsWriting-weaker}
 
 -- a caller has at most so many calls where all have
@@ -51,18 +51,24 @@ unused_own is_own caller made cap operations passes h i pass there =
 pub outside_shapes : (callers cap n : ℕ) → callers ≡ n → cap ≡ 256 → ◌≡◌ {A = Shape} (record { callers = callers; cap = cap; program = outside }) (outside_shape n)
 outside_shapes callers cap n all most = λ i. record { callers = all i; cap = most i; program = outside }
 
--- a report of the locals that are on the bench is lawful
-pub report_lawful : (plan : Plan) (s : Shape) (locals : List Local) (allotments : List ℕ) (findings : Findings) → s ≡ outside_shape (length plan.operations)
-    → IsReportOf (kind_init plan.kind) (kind_next plan.kind) s locals plan allotments findings → IsLawfulReport plan allotments findings
-report_lawful plan s locals allotments findings shape is =
-    record {
-      kind = is.kind;
-      lawful = subst (λ (t : Shape). IsLawful (kind_init plan.kind) (kind_next plan.kind) t plan.operations allotments findings.lines) shape is.lawful;
-    }
-
 -- a run with one of some reports is a run with one of any reports that have them among them
 pub RunEnds-weaker : (A B : Findings → Type 0) (form : Form) (result : Status) (taken taken' : Option (List ℕ)) → ((report : Findings) → A report → B report)
     → RunEnds A form result taken taken' → RunEnds B form result taken taken'
 RunEnds-weaker A B form result taken taken' weaker ends =
     EndsWriting-weaker (IsRunOutput A form) (IsRunOutput B form) result taken taken'
     (λ status text output. (output.0, weaker output.0 output.1, output.2, output.3)) ends
+
+-- what is written of a run over rows that were opened for it is of a lawful report
+pub fresh_ends : {P T : Type 0} (meaning : P → ℕ → ℕ → Meaning) (rows : Rows P) (bench : Bench P) (made : T → ℕ) (told : T → Option (List (ℕ × ℕ))) (passes : List T) (plan : Plan) (allotments : List ℕ)
+    (form : Form) (result : Status) (taken taken' : Option (List ℕ)) → shape_of meaning rows ≡ outside_shape (length plan.operations)
+    → RunEnds (IsToldBenchReport meaning rows bench made told passes plan allotments) form result taken taken' → RunEnds (IsToldReport made told passes plan allotments) form result taken taken'
+fresh_ends meaning rows bench made told passes plan allotments form result taken taken' shape ends =
+    RunEnds-weaker _ _ form result taken taken'
+    (λ findings is. record {
+      report = record {
+        kind = is.report.kind;
+        lawful = subst (λ (s : Shape). IsLawful (kind_init plan.kind) (kind_next plan.kind) s plan.operations allotments findings.lines) shape is.report.lawful;
+      };
+      told_in = is.told_in;
+    })
+    ends

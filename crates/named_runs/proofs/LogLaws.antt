@@ -1,5 +1,5 @@
 -- Lemmas on one log for all calls of a report.
-use Rattle.std.proofs.Common.{◌≡◌, ℕ, zero, suc, ◌<◌, ◌==◌, true, false, List, [], ◌∷◌, ◌++◌, length, map, take, Option, Some, None, slice_get, refl, sym, ap, ◌∙◌, subst, inl, inr, append_assoc, eq-eqb}
+use Rattle.std.proofs.Common.{◌≡◌, ℕ, zero, suc, ◌<◌, ◌==◌, true, false, List, [], ◌∷◌, ◌++◌, length, map, take, Some, slice_get, refl, sym, ap, ◌∙◌, subst, inl, inr, append_assoc, eq-eqb}
 use Rattle.std.specs.List.{filter, All}
 use Rattle.std.proofs.lemmas.Bool.{cases_Bool, cond-true, cond-false, eqb-true}
 use Rattle.std.proofs.lemmas.List.Elements.{All-head}
@@ -8,13 +8,12 @@ use Rattle.list_laws.proofs.Places.{slice_get-take}
 use Rattle.list_laws.proofs.Fronts.{slice_get-take_below}
 use Rattle.shared_log.specs.declared.entry.Entry.{Entry}
 use Rattle.shared_log.specs.Entries.{calls_by, entry}
-use Rattle.shared_log.proofs.Logs.{calls_by-append, calls_by-own, All-behind}
-use Rattle.call_lines.specs.Phases.{asked, answered, operations_of, answers_in}
-use Rattle.reports.specs.Findings.{Findings}
+use Rattle.shared_log.proofs.Logs.{calls_by-append, All-behind}
+use Rattle.call_lines.specs.Phases.{asked, answered, operations_of}
 use Rattle.lawful_objects.specs.Pairs.{pairs_of, pairs_behind}
 use Rattle.lawful_objects.proofs.Pairing.{behind_own}
-use Rattle.named_runs.specs.NamedObjects.{calls_of_caller, phases_made, IsLoggedBy}
-use Rattle.named_runs.specs.LogLaws.{IsAnsweredIn, IsOfCall, AnswersComeFromTheLog, EntriesAreOfCalls}
+use Rattle.named_runs.specs.NamedObjects.{calls_of_caller, phases_made}
+use Rattle.named_runs.specs.LogLaws.{AnswersComeFromTheLog, EntriesAreOfCalls}
 
 -- ---- a pair of a log stands there
 

@@ -5,13 +5,13 @@ use Rattle.shared_log.specs.declared.entry.Entry.{Entry}
 use Rattle.seq_objects.specs.Objects.{kind_init, kind_next}
 use Rattle.world_core.specs.Shape.{Shape}
 use Rattle.world_core.specs.Programs.{outside}
-use Rattle.call_lines.specs.Allotments.{allotments_of}
 use Rattle.call_lines.specs.Lawful.{IsLawful}
 use Rattle.client_scripts.specs.Plans.{Plan}
 use Rattle.bench_clients.specs.Places.{AreInOrder}
 use Rattle.reports.specs.Findings.{Findings}
 use Rattle.run_report.specs.Reporting.{IsToldIn}
 use Rattle.faulty_objects.specs.declared.behaviour.Behaviour.{Behaviour}
+use Rattle.run_writer.specs.Running.{run_allotments, replay_allotments}
 use Rattle.named_runs.specs.NamedObjects.{IsLoggedBy, AreFormed, IsOfBehaviour}
 
 -- The shape of the world of n callers with the greatest cap, whose object is outside.
@@ -33,15 +33,20 @@ pub record IsLoggedReport (answer : List Entry → ℕ) (plan : Plan) (allotment
   pub report : IsLawfulReport plan allotments findings
   pub logged : IsLoggedBy answer allotments findings
 
+-- So it is, and the replies of its calls have this form.
+pub record IsFormedReport (form : ℕ → ℕ → Type 0) (plan : Plan) (allotments : List ℕ) (findings : Findings) : Type 0 where
+  pub report : IsLawfulReport plan allotments findings
+  pub formed : AreFormed form findings
+
 -- So it is, and the object of a behaviour answered its calls.
 pub record IsNamedReport (behaviour : Behaviour) (plan : Plan) (allotments : List ℕ) (findings : Findings) : Type 0 where
   pub report : IsLawfulReport plan allotments findings
   pub object : IsOfBehaviour behaviour plan allotments findings
 
--- The allotments of a plan's callers that each go on by themselves.
-abbrev pub run_allotments : Plan → List ℕ
-run_allotments plan = allotments_of plan.operations plan.stops
-
 -- A report of a plan's callers that each went on by themselves, over the object of a behaviour.
 abbrev pub IsNamedRunReport : Behaviour → Plan → Findings → Type 0
 IsNamedRunReport behaviour plan findings = IsNamedReport behaviour plan (run_allotments plan) findings
+
+-- A report of a plan's callers that took its turns, over the object of a behaviour.
+abbrev pub IsNamedReplayReport : Behaviour → Plan → Findings → Type 0
+IsNamedReplayReport behaviour plan findings = IsNamedReport behaviour plan (replay_allotments plan) findings

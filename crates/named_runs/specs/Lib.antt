@@ -1,4 +1,3 @@
-pub mod BehaviourReplays
 pub mod BehaviourRuns
 pub mod LogLaws
 pub mod NamedObjects

@@ -1,5 +1,5 @@
 -- Which object answered the calls of a report.
-use Rattle.std.specs.Prelude.{◌≡◌, ℕ, ◌<◌, List, length, map, take, slice_index, All}
+use Rattle.std.specs.Prelude.{◌≡◌, ℕ, ◌<◌, List, Option, Some, length, map, take, slice_index, All}
 use Rattle.shared_log.specs.declared.entry.Entry.{Entry}
 use Rattle.shared_log.specs.Entries.{calls_by}
 use Rattle.world_core.specs.Calls.{Made}
@@ -39,6 +39,12 @@ pub record IsLoggedBy (answer : List Entry → ℕ) (allotments : List ℕ) (fin
 -- The reply of each answered line has this form for its operation.
 abbrev pub AreFormed : (ℕ → ℕ → Type 0) → Findings → Type 0
 AreFormed form findings = (i : ℕ) → i < length findings.lines → All (λ pair. form pair.0 pair.1) (answers_in (calls_of_caller findings i))
+
+-- A list of calls is told, and the reply of each has this form for its operation.
+pub record TellsFormed (form : ℕ → ℕ → Type 0) (told : Option (List (ℕ × ℕ))) : Type 0 where
+  pub pairs : List (ℕ × ℕ)
+  pub told_is : told ≡ Some pairs
+  pub formed : All (λ pair. form pair.0 pair.1) pairs
 
 -- The object of a behaviour answered the calls: a log object answers from its log, by the object of the plan's kind; of the others
 -- the replies have the form that each gives for an operation.

@@ -3,9 +3,10 @@
 ghost use Rattle.std.specs.Prelude.{◌≡◌, ◌≤◌};
 ghost use Rattle.byte_streams.specs.Fault.{Rose};
 ghost use Rattle.run_writer.specs.Runs.{RunEnds};
-ghost use Rattle.named_runs.specs.BehaviourReplays.{replay_allotments, IsNamedReplayReport};
-ghost use Rattle.named_runs.specs.BehaviourRuns.{IsLoggedReport};
+ghost use Rattle.run_writer.specs.Running.{replay_allotments};
+ghost use Rattle.named_runs.specs.BehaviourRuns.{IsLoggedReport, IsFormedReport, IsNamedReplayReport};
 
+use crate::formed_object::FormedObject;
 use crate::fresh_replay::replay_fresh;
 use book_base::{MAX_CALLS, NoMemory};
 use byte_streams::{Sink, Status};
@@ -41,64 +42,23 @@ fn replay_log<M: Machine + Drop, K: Sink>(
     status
 }
 
-// Replays a script over the counter on one word.
-fn replay_tally<K: Sink>(alloc: Global, script: &Script, form: Form, sink: &mut K) -> Status
-    ensures ends { RunEnds (IsNamedReplayReport Behaviour.Tally script.now)
+// Replays a script over an object that gives replies of one form.
+fn replay_formed<O: FormedObject + Drop, K: Sink>(
+    alloc: Global,
+    script: &Script,
+    form: Form,
+    sink: &mut K,
+) -> Status
+where
+    O::Pass: Drop,
+    ensures ends { RunEnds (IsFormedReport O.form script.now (replay_allotments script.now))
         form result (K.taken sink.old) (K.taken sink.new) }
     ensures fault { result ≡ Status.WriteFault → Rose (K.faults sink.old) (K.faults sink.new) }
     ensures calm { ¬ (result ≡ Status.WriteFault) → K.faults sink.new ≡ K.faults sink.old }
     ensures unwritten { result ≡ Status.NoMemory → sink.new ≡ sink.old }
     ensures later { K.faults sink.old ≤ K.faults sink.new }
 {
-    let (object, mut passes) = match Tally::open(alloc, script.callers(), MAX_CALLS) {
-        Ok(opened) => opened,
-        Err(NoMemory) => return Status::NoMemory,
-    };
-    replay_fresh(alloc, script, &object, &mut passes, form, sink)
-}
-
-// Replays a script over the register on one word.
-fn replay_cell<K: Sink>(alloc: Global, script: &Script, form: Form, sink: &mut K) -> Status
-    ensures ends { RunEnds (IsNamedReplayReport Behaviour.Cell script.now)
-        form result (K.taken sink.old) (K.taken sink.new) }
-    ensures fault { result ≡ Status.WriteFault → Rose (K.faults sink.old) (K.faults sink.new) }
-    ensures calm { ¬ (result ≡ Status.WriteFault) → K.faults sink.new ≡ K.faults sink.old }
-    ensures unwritten { result ≡ Status.NoMemory → sink.new ≡ sink.old }
-    ensures later { K.faults sink.old ≤ K.faults sink.new }
-{
-    let (object, mut passes) = match WordCell::open(alloc, script.callers(), MAX_CALLS) {
-        Ok(opened) => opened,
-        Err(NoMemory) => return Status::NoMemory,
-    };
-    replay_fresh(alloc, script, &object, &mut passes, form, sink)
-}
-
-// Replays a script over the counter whose increment is torn.
-fn replay_split<K: Sink>(alloc: Global, script: &Script, form: Form, sink: &mut K) -> Status
-    ensures ends { RunEnds (IsNamedReplayReport Behaviour.Split script.now)
-        form result (K.taken sink.old) (K.taken sink.new) }
-    ensures fault { result ≡ Status.WriteFault → Rose (K.faults sink.old) (K.faults sink.new) }
-    ensures calm { ¬ (result ≡ Status.WriteFault) → K.faults sink.new ≡ K.faults sink.old }
-    ensures unwritten { result ≡ Status.NoMemory → sink.new ≡ sink.old }
-    ensures later { K.faults sink.old ≤ K.faults sink.new }
-{
-    let (object, mut passes) = match SplitTally::open(alloc, script.callers(), MAX_CALLS) {
-        Ok(opened) => opened,
-        Err(NoMemory) => return Status::NoMemory,
-    };
-    replay_fresh(alloc, script, &object, &mut passes, form, sink)
-}
-
-// Replays a script over the array queue whose dequeue gives up.
-fn replay_one_pass<K: Sink>(alloc: Global, script: &Script, form: Form, sink: &mut K) -> Status
-    ensures ends { RunEnds (IsNamedReplayReport Behaviour.Onepass script.now)
-        form result (K.taken sink.old) (K.taken sink.new) }
-    ensures fault { result ≡ Status.WriteFault → Rose (K.faults sink.old) (K.faults sink.new) }
-    ensures calm { ¬ (result ≡ Status.WriteFault) → K.faults sink.new ≡ K.faults sink.old }
-    ensures unwritten { result ≡ Status.NoMemory → sink.new ≡ sink.old }
-    ensures later { K.faults sink.old ≤ K.faults sink.new }
-{
-    let (object, mut passes) = match OnePass::open(alloc, script.callers(), MAX_CALLS) {
+    let (object, mut passes) = match O::open_for(alloc, script.callers(), MAX_CALLS) {
         Ok(opened) => opened,
         Err(NoMemory) => return Status::NoMemory,
     };
@@ -129,13 +89,13 @@ pub fn replay_behaviour<K: Sink>(
     let object = script.kind();
     match behaviour {
         Behaviour::Lawful => replay_log(alloc, script, Plain { object }, form, sink),
-        Behaviour::Tally => replay_tally(alloc, script, form, sink),
-        Behaviour::Cell => replay_cell(alloc, script, form, sink),
+        Behaviour::Tally => replay_formed::<Tally, K>(alloc, script, form, sink),
+        Behaviour::Cell => replay_formed::<WordCell, K>(alloc, script, form, sink),
         Behaviour::Lossy => replay_log(alloc, script, Lossy { object }, form, sink),
         Behaviour::Twice => replay_log(alloc, script, Twice { object }, form, sink),
         Behaviour::Late => replay_log(alloc, script, Late { object }, form, sink),
         Behaviour::Invent => replay_log(alloc, script, Invent { object }, form, sink),
-        Behaviour::Split => replay_split(alloc, script, form, sink),
-        Behaviour::Onepass => replay_one_pass(alloc, script, form, sink),
+        Behaviour::Split => replay_formed::<SplitTally, K>(alloc, script, form, sink),
+        Behaviour::Onepass => replay_formed::<OnePass, K>(alloc, script, form, sink),
     }
 }

@@ -3,8 +3,10 @@
 ghost use Rattle.std.specs.Prelude.{◌≡◌, ◌≤◌};
 ghost use Rattle.byte_streams.specs.Fault.{Rose};
 ghost use Rattle.run_writer.specs.Runs.{RunEnds};
-ghost use Rattle.named_runs.specs.BehaviourRuns.{run_allotments, IsLoggedReport, IsNamedRunReport};
+ghost use Rattle.run_writer.specs.Running.{run_allotments};
+ghost use Rattle.named_runs.specs.BehaviourRuns.{IsLoggedReport, IsFormedReport, IsNamedRunReport};
 
+use crate::formed_object::FormedObject;
 use crate::fresh_run::run_fresh;
 use book_base::{MAX_CALLS, NoMemory};
 use byte_streams::{Sink, Status};
@@ -42,88 +44,24 @@ fn run_log<R: Threads + Sync, M: Machine + Drop + Sync, K: Sink>(
     status
 }
 
-// Runs a script over the counter on one word.
-fn run_tally<R: Threads + Sync, K: Sink>(
+// Runs a script over an object that gives replies of one form.
+fn run_formed<O: FormedObject + Drop + Sync, R: Threads + Sync, K: Sink>(
     rt: &R,
     alloc: Global,
     script: &Script,
     form: Form,
     sink: &mut K,
 ) -> Status
-    ensures ends { RunEnds (IsNamedRunReport Behaviour.Tally script.now)
+where
+    O::Pass: Drop + Send,
+    ensures ends { RunEnds (IsFormedReport O.form script.now (run_allotments script.now))
         form result (K.taken sink.old) (K.taken sink.new) }
     ensures fault { result ≡ Status.WriteFault → Rose (K.faults sink.old) (K.faults sink.new) }
     ensures calm { ¬ (result ≡ Status.WriteFault) → K.faults sink.new ≡ K.faults sink.old }
     ensures unwritten { result ≡ Status.NoMemory → sink.new ≡ sink.old }
     ensures later { K.faults sink.old ≤ K.faults sink.new }
 {
-    let (object, mut passes) = match Tally::open(alloc, script.callers(), MAX_CALLS) {
-        Ok(opened) => opened,
-        Err(NoMemory) => return Status::NoMemory,
-    };
-    run_fresh(rt, alloc, script, &object, &mut passes, form, sink)
-}
-
-// Runs a script over the register on one word.
-fn run_cell<R: Threads + Sync, K: Sink>(
-    rt: &R,
-    alloc: Global,
-    script: &Script,
-    form: Form,
-    sink: &mut K,
-) -> Status
-    ensures ends { RunEnds (IsNamedRunReport Behaviour.Cell script.now)
-        form result (K.taken sink.old) (K.taken sink.new) }
-    ensures fault { result ≡ Status.WriteFault → Rose (K.faults sink.old) (K.faults sink.new) }
-    ensures calm { ¬ (result ≡ Status.WriteFault) → K.faults sink.new ≡ K.faults sink.old }
-    ensures unwritten { result ≡ Status.NoMemory → sink.new ≡ sink.old }
-    ensures later { K.faults sink.old ≤ K.faults sink.new }
-{
-    let (object, mut passes) = match WordCell::open(alloc, script.callers(), MAX_CALLS) {
-        Ok(opened) => opened,
-        Err(NoMemory) => return Status::NoMemory,
-    };
-    run_fresh(rt, alloc, script, &object, &mut passes, form, sink)
-}
-
-// Runs a script over the counter whose increment is torn.
-fn run_split<R: Threads + Sync, K: Sink>(
-    rt: &R,
-    alloc: Global,
-    script: &Script,
-    form: Form,
-    sink: &mut K,
-) -> Status
-    ensures ends { RunEnds (IsNamedRunReport Behaviour.Split script.now)
-        form result (K.taken sink.old) (K.taken sink.new) }
-    ensures fault { result ≡ Status.WriteFault → Rose (K.faults sink.old) (K.faults sink.new) }
-    ensures calm { ¬ (result ≡ Status.WriteFault) → K.faults sink.new ≡ K.faults sink.old }
-    ensures unwritten { result ≡ Status.NoMemory → sink.new ≡ sink.old }
-    ensures later { K.faults sink.old ≤ K.faults sink.new }
-{
-    let (object, mut passes) = match SplitTally::open(alloc, script.callers(), MAX_CALLS) {
-        Ok(opened) => opened,
-        Err(NoMemory) => return Status::NoMemory,
-    };
-    run_fresh(rt, alloc, script, &object, &mut passes, form, sink)
-}
-
-// Runs a script over the array queue whose dequeue gives up.
-fn run_one_pass<R: Threads + Sync, K: Sink>(
-    rt: &R,
-    alloc: Global,
-    script: &Script,
-    form: Form,
-    sink: &mut K,
-) -> Status
-    ensures ends { RunEnds (IsNamedRunReport Behaviour.Onepass script.now)
-        form result (K.taken sink.old) (K.taken sink.new) }
-    ensures fault { result ≡ Status.WriteFault → Rose (K.faults sink.old) (K.faults sink.new) }
-    ensures calm { ¬ (result ≡ Status.WriteFault) → K.faults sink.new ≡ K.faults sink.old }
-    ensures unwritten { result ≡ Status.NoMemory → sink.new ≡ sink.old }
-    ensures later { K.faults sink.old ≤ K.faults sink.new }
-{
-    let (object, mut passes) = match OnePass::open(alloc, script.callers(), MAX_CALLS) {
+    let (object, mut passes) = match O::open_for(alloc, script.callers(), MAX_CALLS) {
         Ok(opened) => opened,
         Err(NoMemory) => return Status::NoMemory,
     };
@@ -155,13 +93,13 @@ pub fn run_behaviour<R: Threads + Sync, K: Sink>(
     let object = script.kind();
     match behaviour {
         Behaviour::Lawful => run_log(rt, alloc, script, Plain { object }, form, sink),
-        Behaviour::Tally => run_tally(rt, alloc, script, form, sink),
-        Behaviour::Cell => run_cell(rt, alloc, script, form, sink),
+        Behaviour::Tally => run_formed::<Tally, R, K>(rt, alloc, script, form, sink),
+        Behaviour::Cell => run_formed::<WordCell, R, K>(rt, alloc, script, form, sink),
         Behaviour::Lossy => run_log(rt, alloc, script, Lossy { object }, form, sink),
         Behaviour::Twice => run_log(rt, alloc, script, Twice { object }, form, sink),
         Behaviour::Late => run_log(rt, alloc, script, Late { object }, form, sink),
         Behaviour::Invent => run_log(rt, alloc, script, Invent { object }, form, sink),
-        Behaviour::Split => run_split(rt, alloc, script, form, sink),
-        Behaviour::Onepass => run_one_pass(rt, alloc, script, form, sink),
+        Behaviour::Split => run_formed::<SplitTally, R, K>(rt, alloc, script, form, sink),
+        Behaviour::Onepass => run_formed::<OnePass, R, K>(rt, alloc, script, form, sink),
     }
 }

@@ -5,7 +5,7 @@ ghost use Rattle.bench_clients.specs.Places.{AreInOrder};
 ghost use Rattle.run_report.specs.Passes.{IsOwnPass, IsUnusedPass};
 ghost use Rattle.byte_streams.specs.Fault.{Rose};
 ghost use Rattle.run_writer.specs.Runs.{RunEnds};
-ghost use Rattle.named_runs.specs.BehaviourReplays.{replay_allotments};
+ghost use Rattle.run_writer.specs.Running.{replay_allotments};
 ghost use Rattle.named_runs.specs.BehaviourRuns.{IsToldReport};
 
 use book_base::{MAX_CALLS, NoMemory};

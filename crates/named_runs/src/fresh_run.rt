@@ -5,7 +5,8 @@ ghost use Rattle.bench_clients.specs.Places.{AreInOrder};
 ghost use Rattle.run_report.specs.Passes.{IsOwnPass, IsUnusedPass};
 ghost use Rattle.byte_streams.specs.Fault.{Rose};
 ghost use Rattle.run_writer.specs.Runs.{RunEnds};
-ghost use Rattle.named_runs.specs.BehaviourRuns.{run_allotments, IsToldReport};
+ghost use Rattle.run_writer.specs.Running.{run_allotments};
+ghost use Rattle.named_runs.specs.BehaviourRuns.{IsToldReport};
 
 use book_base::{MAX_CALLS, NoMemory};
 use byte_streams::{Sink, Status};

@@ -3,6 +3,7 @@
 
 mod behaviour_replay;
 mod behaviour_run;
+mod formed_object;
 mod fresh_replay;
 mod fresh_run;
 mod laws;

@@ -13,28 +13,25 @@ use Rattle.bench_clients.specs.Returns.{IsBackOn}
 use Rattle.bench_clients.specs.Starts.{course_of}
 use Rattle.run_report.specs.Reporting.{IsReportOf, IsToldIn}
 
--- The report of a plan's callers that each went on by themselves, judged by the object of the plan's kind: of the locals that are on
--- this bench, and lawful.
-abbrev pub IsRunReport : {P : Type 0} → (P → ℕ → ℕ → Meaning) → Rows P → Bench P → Plan → Findings → Type 0
-IsRunReport meaning rows bench plan findings =
-    IsReportOf (kind_init plan.kind) (kind_next plan.kind) (shape_of meaning rows) (locals_on bench) plan (allotments_of plan.operations plan.stops) findings
+-- The allotments of a plan's callers that each go on by themselves.
+abbrev pub run_allotments : Plan → List ℕ
+run_allotments plan = allotments_of plan.operations plan.stops
 
--- The report of a plan's callers that took its turns, judged by the object of the plan's kind: of the locals that are on this bench,
--- and lawful.
-abbrev pub IsReplayReport : {P : Type 0} → (P → ℕ → ℕ → Meaning) → Rows P → Bench P → Plan → Findings → Type 0
-IsReplayReport meaning rows bench plan findings =
-    IsReportOf (kind_init plan.kind) (kind_next plan.kind) (shape_of meaning rows) (locals_on bench) plan (allotments_by_turns plan.operations plan.stops plan.turns) findings
+-- The allotments of a plan's callers that take its turns.
+abbrev pub replay_allotments : Plan → List ℕ
+replay_allotments plan = allotments_by_turns plan.operations plan.stops plan.turns
 
--- So is this report of callers that went on by themselves, and these passes, in order, are told in it: each was asked for just the
--- calls that its caller's lines tell of, and where it tells a list, that has their operations and their replies.
-pub record IsToldRunReport {P T : Type 0} (meaning : P → ℕ → ℕ → Meaning) (rows : Rows P) (bench : Bench P) (made : T → ℕ) (told : T → Option (List (ℕ × ℕ))) (passes : List T) (plan : Plan) (findings : Findings) : Type 0 where
-  pub report : IsRunReport meaning rows bench plan findings
-  pub told_in : AreInOrder (IsToldIn made told (allotments_of plan.operations plan.stops) findings) passes
+-- The report of a plan's callers that had these allotments, judged by the object of the plan's kind: of the locals that are on this
+-- bench, and lawful.
+abbrev pub IsBenchReport : {P : Type 0} → (P → ℕ → ℕ → Meaning) → Rows P → Bench P → Plan → List ℕ → Findings → Type 0
+IsBenchReport meaning rows bench plan allotments findings =
+    IsReportOf (kind_init plan.kind) (kind_next plan.kind) (shape_of meaning rows) (locals_on bench) plan allotments findings
 
--- So is this report of callers that took turns, and these passes, in order, are told in it.
-pub record IsToldReplayReport {P T : Type 0} (meaning : P → ℕ → ℕ → Meaning) (rows : Rows P) (bench : Bench P) (made : T → ℕ) (told : T → Option (List (ℕ × ℕ))) (passes : List T) (plan : Plan) (findings : Findings) : Type 0 where
-  pub report : IsReplayReport meaning rows bench plan findings
-  pub told_in : AreInOrder (IsToldIn made told (allotments_by_turns plan.operations plan.stops plan.turns) findings) passes
+-- So is this report, and these passes, in order, are told in it: each was asked for just the calls that its caller's lines tell of,
+-- and where it tells a list, that has their operations and their replies.
+pub record IsToldBenchReport {P T : Type 0} (meaning : P → ℕ → ℕ → Meaning) (rows : Rows P) (bench : Bench P) (made : T → ℕ) (told : T → Option (List (ℕ × ℕ))) (passes : List T) (plan : Plan) (allotments : List ℕ) (findings : Findings) : Type 0 where
+  pub report : IsBenchReport meaning rows bench plan allotments findings
+  pub told_in : AreInOrder (IsToldIn made told allotments findings) passes
 
 -- Caller i of a plan is back on the bench with its own pass, in its place among these: it has made so many first phases of its
 -- allotment, and the object was asked for just the calls of these, and tells of them where it tells any.

@@ -2,7 +2,6 @@
 
 ghost use Rattle.std.specs.Prelude.{◌≡◌, ◌⊎◌, ◌≤◌, ◌<◌, ℕ, true, false, length, vec_len};
 ghost use Rattle.std.specs.List.{list_any};
-ghost use Rattle.call_lines.specs.Allotments.{allotments_of};
 ghost use Rattle.call_lines.specs.Lines.{any_error};
 ghost use Rattle.row_table.specs.Callers.{IsBenchOf, HoldsAll};
 ghost use Rattle.bench_clients.specs.Places.{AreInOrder};
@@ -11,7 +10,7 @@ ghost use Rattle.run_report.specs.Passes.{IsOwnPass, IsUnusedPass};
 ghost use Rattle.reports.specs.Findings.{Findings};
 ghost use Rattle.byte_streams.specs.Fault.{Rose};
 ghost use Rattle.run_writer.specs.Runs.{RunEnds};
-ghost use Rattle.run_writer.specs.Running.{IsBackOf, IsRunReport, IsToldRunReport};
+ghost use Rattle.run_writer.specs.Running.{run_allotments, IsBackOf, IsBenchReport, IsToldBenchReport};
 
 use crate::form::Form;
 use crate::report_output::write_report;
@@ -59,23 +58,25 @@ where
     ensures passes { AreInOrder (IsOwnPass (B.is_own object.now) B.Pass.caller) passes.new.items }
     ensures back { (i : ℕ) → i < length script.now.operations
         → IsBackOf (B.is_own object.now) B.Pass.caller B.Pass.made B.Pass.told script.now
-        (allotments_of script.now.operations script.now.stops) bench.new passes.new.items i }
+        (run_allotments script.now) bench.new passes.new.items i }
 
     // The headline: what was written, by the status, is of a lawful report of the locals on the
     // bench.
     ensures ends { RunEnds
-        (IsToldRunReport ⟦<Outside as Program>⟧.meaning rows.now bench.new
-        B.Pass.made B.Pass.told passes.new.items script.now)
+        (IsToldBenchReport ⟦<Outside as Program>⟧.meaning rows.now bench.new
+        B.Pass.made B.Pass.told passes.new.items script.now (run_allotments script.now))
         form result (K.taken sink.old) (K.taken sink.new) }
 
     // Whether a line of that report is an error decides the status, failed writes and want of
     // memory aside.
     ensures found { (report : Findings)
-        → IsRunReport ⟦<Outside as Program>⟧.meaning rows.now bench.new script.now report
+        → IsBenchReport ⟦<Outside as Program>⟧.meaning rows.now bench.new script.now
+        (run_allotments script.now) report
         → list_any any_error report.lines ≡ true
         → (result ≡ Status.Found) ⊎ (result ≡ Status.WriteFault) ⊎ (result ≡ Status.NoMemory) }
     ensures fine { (report : Findings)
-        → IsRunReport ⟦<Outside as Program>⟧.meaning rows.now bench.new script.now report
+        → IsBenchReport ⟦<Outside as Program>⟧.meaning rows.now bench.new script.now
+        (run_allotments script.now) report
         → list_any any_error report.lines ≡ false
         → (result ≡ Status.Fine) ⊎ (result ≡ Status.WriteFault) ⊎ (result ≡ Status.NoMemory) }
 

@@ -20,8 +20,7 @@ use Rattle.byte_streams.specs.declared.TheConstants.{INPUT_LIMIT}
 use Rattle.selfcheck.specs.Command.{command_of}
 use Rattle.faulty_objects.specs.declared.behaviour.Behaviour.TheVariants.{Lawful}
 use Rattle.run_writer.specs.declared.form.Form.TheVariants.{Report, Counts, Certificate}
-use Rattle.named_runs.specs.BehaviourReplays.{IsNamedReplayReport}
-use Rattle.named_runs.specs.BehaviourRuns.{IsNamedRunReport}
+use Rattle.named_runs.specs.BehaviourRuns.{IsNamedRunReport, IsNamedReplayReport}
 use Rattle.selfcheck.specs.ScriptInput.{soak_plan}
 use Rattle.text_refusals.specs.Refusal.{refusal_text}
 use Rattle.selfcheck.specs.Output.{Form, BookForm, CertificateForm, OldForm, SetForm, ScriptForm, NoForm, form_of, IsTextOf, IsFirstFaultOf, IsTaken, IsVerdict, IsSketchText, IsDrawn, IsJudgement, IsRewritten, IsSetVerdict, IsAnswerOf, IsRefusal, IsOutputOf, HasOneStatus, IsDetermined, RefuseWhatIsNotTaken, IsOutput, ReadsFor, Reads, Ends, IsUnfinished, input_of}

@@ -11,8 +11,7 @@ use Rattle.faulty_objects.specs.declared.behaviour.Behaviour.TheVariants.{Lawful
 use Rattle.run_writer.specs.declared.form.Form.{Form}
 use Rattle.run_writer.specs.declared.form.Form.TheVariants.{Report, Counts, Certificate}
 use Rattle.byte_streams.specs.declared.status.Status.{Status}
-use Rattle.named_runs.specs.BehaviourReplays.{IsNamedReplayReport}
-use Rattle.named_runs.specs.BehaviourRuns.{IsNamedRunReport}
+use Rattle.named_runs.specs.BehaviourRuns.{IsNamedRunReport, IsNamedReplayReport}
 use Rattle.run_writer.specs.Runs.{IsRunOutput}
 
 -- the bytes are the text of a script

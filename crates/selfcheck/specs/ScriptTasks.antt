@@ -8,8 +8,7 @@ use Rattle.selfcheck.specs.declared.command.Command.{Command}
 use Rattle.selfcheck.specs.declared.command.Command.TheVariants as commands
 use Rattle.selfcheck.specs.declared.script_task.ScriptTask.{ScriptTask}
 use Rattle.selfcheck.specs.declared.script_task.ScriptTask.TheVariants.{Run, Replay, Certify}
-use Rattle.named_runs.specs.BehaviourReplays.{IsNamedReplayReport}
-use Rattle.named_runs.specs.BehaviourRuns.{IsNamedRunReport}
+use Rattle.named_runs.specs.BehaviourRuns.{IsNamedRunReport, IsNamedReplayReport}
 
 -- the command that does this over the object of a behaviour
 abbrev pub command_for : ScriptTask → Behaviour → Command

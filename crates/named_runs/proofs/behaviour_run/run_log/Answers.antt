@@ -1,6 +1,6 @@
-use Rattle.std.proofs.Common.{◌∙◌, ap, arith}
-use Rattle.named_runs.proofs.AskedObjects.{logged_from_told}
-use Rattle.named_runs.proofs.FreshRuns.{RunEnds-weaker}
+use Rattle.std.proofs.Common.{◌∙◌, ap, refl, arith}
+use Rattle.lawful_objects.specs.Passes.{pairs_in}
+use Rattle.named_runs.proofs.AskedObjects.{logged_ends}
 use Rattle.named_runs.proofs.OpenedPasses.{passes_count, opened_passes, own_passes, callers_in_order}
 use Rattle.named_runs.proofs.behaviour_run.run_log.Goals as goal
 
@@ -26,9 +26,5 @@ close-requires g c =
 pub returns-clause-ends : goal.returns-clause-ends
 returns-clause-ends g c =
     let after = c.run_fresh-status.ensures in
-    RunEnds-weaker _ _ _ _ _ _
-    (λ report is.
-    logged_from_told _ _ _ _ _ c.args.script.now _ report
-    (omega (arith, after.all_passes, c.run_fresh-status.new.passes.ok.0)) after.passes is
-    _ _ _ _ (c.in-Ok.ensures.log.0 ∙ c.callers.ensures.count) (ap g.M.Machine.reply_to c.in-Ok.ensures.log.2) c.close.ensures.callers c.close.ensures.told)
-    after.ends
+    logged_ends _ _ _ _ _ c.args.script.now _ (omega (arith, after.all_passes, c.run_fresh-status.new.passes.ok.0)) after.passes pairs_in (λ pass. refl)
+    _ _ _ _ (c.in-Ok.ensures.log.0 ∙ c.callers.ensures.count) (ap g.M.Machine.reply_to c.in-Ok.ensures.log.2) c.close.ensures.callers c.close.ensures.told _ _ _ _ after.ends

@@ -1,5 +1,5 @@
 use Rattle.std.proofs.Common.{◌∙◌, arith}
-use Rattle.named_runs.proofs.FreshRuns.{wide_rows, opened_unused, unused_own, outside_shapes, report_lawful, RunEnds-weaker}
+use Rattle.named_runs.proofs.FreshRuns.{wide_rows, opened_unused, unused_own, outside_shapes, fresh_ends}
 use Rattle.named_runs.proofs.fresh_replay.replay_fresh.Goals as goal
 
 pub returns-in-Err-clause-passes : goal.returns-in-Err-clause-passes
@@ -15,9 +15,4 @@ replay_and_write-status-requires-clause-unused g c i low =
 
 pub returns-clause-ends : goal.returns-clause-ends
 returns-clause-ends g c =
-    RunEnds-weaker _ _ _ _ _ _
-    (λ report is. record {
-      report = report_lawful c.args.script.now _ _ _ report (outside_shapes _ _ _ (c.in-Ok.ensures.rows.0 ∙ c.callers.ensures.count) c.in-Ok.ensures.rows.1) is.report;
-      told_in = is.told_in;
-    })
-    c.replay_and_write-status.ensures.ends
+    fresh_ends _ _ _ _ _ _ c.args.script.now _ _ _ _ _ (outside_shapes _ _ _ (c.in-Ok.ensures.rows.0 ∙ c.callers.ensures.count) c.in-Ok.ensures.rows.1) c.replay_and_write-status.ensures.ends
