@@ -152,10 +152,6 @@ sum_small book counts small wide within =
     let callers = small.callers in
     omega (arith, sum_by-le (λ (n : ℕ). n) MAX_CALLS counts few)
 
-pub sum-zeros : (n : ℕ) → sum (replicate n 0) ≡ 0
-sum-zeros n = let all : All (λ (m : ℕ). m ≤ 0) (replicate n 0) = All-from_get_or (λ (m : ℕ). m ≤ 0) (replicate n 0) 0 (λ (i : ℕ) (lt : i < length (replicate n 0)). omega (arith, get_or-replicate_default {X = ℕ} n i 0)) in
-    omega (arith, sum_by-le (λ (m : ℕ). m) 0 (replicate n 0) all)
-
 -- What is known of where a walk from the start stands, where one more place may stand next.
 pub record Standing (book : List Page) (levels : List Level) (cut list : List ℕ) (place : Place) : Type 0 where
   pub wide : length cut ≡ length book

@@ -37,8 +37,11 @@ impl Front {
         })
     }
 
-    /// A front of the first of these places, as far as they follow one another and leave each other
-    /// answered call of the book a place behind them. No clause says how far: that costs time alone.
+    /// A front of the first of these places, as far as they follow one another and leave each answered
+    /// call of the book that isn't at them a place behind them.
+    ///
+    /// There is none where the object gives another reply than a place has, or where such a call is left no
+    /// place. No clause says how far the places are taken: that costs time alone.
     pub fn following<S: SeqObject>(
         alloc: Global,
         object: &S,
@@ -157,8 +160,8 @@ fn calls_at(book: &Book, places: &[Place]) -> Cut
     calls
 }
 
-// The calls that each answered call that isn't at these places leaves room for before it: the least
-// view of any. No clause says so: it costs or saves time alone.
+// The calls of these places before which no answered call has to stand that isn't at them: by caller,
+// the least count in the views of those calls. No clause says so: it costs or saves time alone.
 fn limit_of(book: &Book, places: &[Place]) -> Cut
     ensures { length result ≡ length book.now }
 {
@@ -168,10 +171,20 @@ fn limit_of(book: &Book, places: &[Place]) -> Cut
         let number = calls.get(caller);
         if number < book.answers(caller) {
             let view = book.record(Call { caller, number }).view;
-            if view.within(&limit) {
-                limit = view;
-            }
+            limit = least_of(&limit, &view);
         }
     }
     limit
+}
+
+// By caller the lesser count of two cuts.
+fn least_of(a: &Cut, b: &Cut) -> Cut
+    requires { length a.now ≡ length b.now }
+    ensures { length result ≡ length a.now }
+{
+    let mut least = *a;
+    for caller in 0..a.n() {
+        least.set(caller, a.get(caller).min(b.get(caller)));
+    }
+    least
 }

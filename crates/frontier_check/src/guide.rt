@@ -4,7 +4,7 @@ use book_base::{NoMemory, Place};
 use std::alloc::Global;
 use std::marker::Model;
 
-/// The last legal order that was found, whose places the next search tries first.
+/// The last legal order that was found, behind whose places the next search begins.
 ///
 /// Clauses see it as that order. Every guide is a good one: it costs or saves time alone.
 #[derive(Debug, Drop)]

@@ -15,23 +15,19 @@ pub struct Plan {
 }
 
 impl Plan {
-    /// Behind the places of a front: the calls of a guide come first, in its order, then the answered
-    /// calls by what their views count, and last all others.
-    pub fn new(
-        alloc: Global,
-        book: &Book,
-        guide: &[Place],
-        front: &Front,
-    ) -> Result<Plan, NoMemory> {
+    /// Behind the places of a front, which are a guide's first ones, the calls of the guide's other places
+    /// come first, in its order, then the answered calls by what their views count, and last all others.
+    pub fn new(alloc: Global, book: &Book, guide: &[Place], front: &Front) -> Result<Plan, NoMemory>
+        requires { length front.now.cut ≡ length book.now }
+    {
         let mut plan = Plan {
             turns: vec![in alloc; u32::MAX; MAX_CALLERS * MAX_CALLS as usize]?,
             guided: u32::try_from(guide.len()).unwrap_or(u32::MAX),
         };
-        for caller in 0..book.callers().min(front.cut.n()) {
+        for caller in 0..book.callers() {
             plan.guess(book, caller, front.cut.get(caller), guide.len());
         }
-        for index in front.places.len()..guide.len() {
-            let place = guide[index];
+        for (index, place) in guide.iter().enumerate().skip(front.places.len()) {
             plan.put(place.caller, place.number, index);
         }
         Ok(plan)

@@ -58,8 +58,8 @@ impl<S: SeqObject> Search<'_, S> {
         }
     }
 
-    /// Finds the places that make a legal order behind those of the front, if that takes no more than
-    /// so many steps.
+    /// The places that make a legal order behind those of the front, if they are found within so many steps.
+    /// `None` says nothing: there may be some, and no clause says that it looks so far.
     pub fn run_few(&self, steps: u64) -> Result<Option<Vec<Place>>, NoMemory>
         requires foresight { IsForesight (S.init self.now.object.now) (S.next self.now.object.now) self.now.book.now self.now.known.now }
         requires front { IsFront (S.init self.now.object.now) (S.next self.now.object.now) self.now.book.now self.now.front.now }
@@ -115,7 +115,7 @@ impl<S: SeqObject> Search<'_, S> {
         }
     }
 
-    // Goes on with a walk for so many steps.
+    // Goes on with a walk for so many steps. `None` says nothing.
     fn go_few(
         &self,
         walk: &mut Walk,

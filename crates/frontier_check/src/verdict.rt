@@ -46,9 +46,9 @@ pub fn check_from<S: SeqObject>(
     ensures verdict { IfOk result (λ verdict. IsRight (S.init object.now) (S.next object.now) book.now verdict) }
     ensures guide { IfOk result (IsKept guide.old guide.new) }
 {
-    let order = match near(alloc, object, book, guide.places())? {
+    let order = match order_near(alloc, object, book, guide.places())? {
         Some(order) => Some(order),
-        None => anywhere(alloc, object, book, guide.places())?,
+        None => order_anywhere(alloc, object, book, guide.places())?,
     };
     match order {
         None => Ok(Verdict::Illegal),
@@ -59,14 +59,17 @@ pub fn check_from<S: SeqObject>(
     }
 }
 
-// How often a search begins behind fewer of a guide's places, and how many steps it has each time.
+// How often a search begins behind fewer of a guide's places: each time it leaves out twice as many as
+// before, so that it has left out nearly all after as many times as this.
 const ATTEMPTS: u32 = 9;
 
+// How many steps a search behind places has. It mostly needs one a call that is left; this many are a part
+// of what looking everywhere costs in a book of thousands of calls.
 const STEPS: u64 = 1000;
 
 // A legal order that begins as a guide does, if one is found soon: first behind all the places of the
-// guide that still follow one another, and then without ever more of its last ones.
-fn near<S: SeqObject>(
+// guide that still follow one another, and then behind ever fewer of them.
+fn order_near<S: SeqObject>(
     alloc: Global,
     object: &S,
     book: &Book,
@@ -75,36 +78,38 @@ fn near<S: SeqObject>(
     ensures { IfOk result (λ found. IfSome found
         (λ order. IsLegalOrder (S.init object.now) (S.next object.now) book.now order.items)) }
 {
-    let mut without = 0;
+    let mut taken = guide.len();
+    let mut fewer = book.callers() as usize;
     for _ in 0..ATTEMPTS {
-        if without >= guide.len() {
+        if taken == 0 {
             return Ok(None);
         }
-        let places = &guide[..guide.len() - without];
-        if let Some(order) = behind(alloc, object, book, places, guide)? {
+        let Some(front) = Front::following(alloc, object, book, &guide[..taken])? else {
+            return Ok(None);
+        };
+        taken = front.places.len().min(taken).saturating_sub(fewer);
+        fewer = fewer.saturating_mul(2);
+        if let Some(order) = order_behind(alloc, object, book, guide, front)? {
             return Ok(Some(order));
         }
-        without = without.saturating_mul(2).max(book.callers() as usize);
     }
     Ok(None)
 }
 
-// A legal order that begins with these places, as far as they follow one another, if one is found soon.
-fn behind<S: SeqObject>(
+// A legal order that begins with the places of a front, if one is found soon.
+fn order_behind<S: SeqObject>(
     alloc: Global,
     object: &S,
     book: &Book,
-    places: &[Place],
     guide: &[Place],
+    front: Front,
 ) -> Result<Option<Vec<Place>>, NoMemory>
+    requires { IsFront (S.init object.now) (S.next object.now) book.now front }
     ensures { IfOk result (λ found. IfSome found
         (λ order. IsLegalOrder (S.init object.now) (S.next object.now) book.now order.items)) }
 {
-    let Some(front) = Front::following(alloc, object, book, places)? else {
-        return Ok(None);
-    };
     let known = Foresight::none(alloc);
-    let Some(rest) = search_few(alloc, object, book, &known, guide, &front)? else {
+    let Some(rest) = places_behind(alloc, object, book, &known, guide, &front)? else {
         return Ok(None);
     };
     let Front {
@@ -117,7 +122,7 @@ fn behind<S: SeqObject>(
 }
 
 // The places that make a legal order behind those of a front, if they are found soon.
-fn search_few<S: SeqObject>(
+fn places_behind<S: SeqObject>(
     alloc: Global,
     object: &S,
     book: &Book,
@@ -144,7 +149,7 @@ fn search_few<S: SeqObject>(
 }
 
 // A legal order, if there is one: the search looks for it everywhere, and tries the guide's places first.
-fn anywhere<S: SeqObject>(
+fn order_anywhere<S: SeqObject>(
     alloc: Global,
     object: &S,
     book: &Book,

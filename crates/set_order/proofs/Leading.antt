@@ -1,18 +1,25 @@
 -- The levels of a walk: one more, one fewer, the order that they make, and how far they lead.
-use Rattle.std.proofs.Common.{◌≡◌, ℕ, ◌+◌, ◌*◌, ◌≤◌, ◌∙◌, List, [], ◌∷◌, ◌++◌, length, get_or, sum, Option, Some, refl, sym, ap, subst, arith}
+use Rattle.std.proofs.Common.{◌≡◌, ℕ, ◌+◌, ◌*◌, ◌<◌, ◌≤◌, ◌∙◌, List, [], ◌∷◌, ◌++◌, length, get_or, sum, replicate, Option, Some, refl, sym, ap, subst, arith}
+use Rattle.std.specs.List.{All}
 use Rattle.std.proofs.lemmas.List.{length-map, length-replicate}
+use Rattle.std.proofs.lemmas.List.Sums.{sum_by-le}
+use Rattle.std.proofs.lemmas.List.Elements.{All-from_get_or}
 use Rattle.list_laws.proofs.Places.{get_or-replicate_default}
 use Rattle.book_base.specs.declared.call.Place.{Place}
 use Rattle.book_base.specs.declared.TheConstants.{MAX_CALLERS, MAX_CALLS}
 use Rattle.book_base.specs.Book.{Page, calls_of, IsSmall, IsCall}
 use Rattle.book_base.specs.Order.{call_at, step_at}
 use Rattle.book_laws.specs.Next.{HoldsAnswered}
-use Rattle.frontier_check.proofs.Leading.{sum_small, sum-zeros}
+use Rattle.frontier_check.proofs.Leading.{sum_small}
 use Rattle.set_order.specs.declared.walk.Level.{Level}
 use Rattle.set_order.specs.SetOrder.{operations_of, IsLegalSetOrder, HasLegalSetOrder}
 use Rattle.set_order.specs.Search.{no_calls, raised_by, MayStandIn, MayStandTogether, SetsContinue, IsDeadEnd, IsLevel, Leads, order_of}
 use Rattle.set_order.proofs.Raising.{all_so, raised-length, raised-sum, raised-within}
 use Rattle.set_order.proofs.SetOrders.{next-from_each, legal_order_from_continue, continue_from_legal_order}
+
+sum-zeros : (n : ℕ) → sum (replicate n 0) ≡ 0
+sum-zeros n = let all : All (λ (m : ℕ). m ≤ 0) (replicate n 0) = All-from_get_or (λ (m : ℕ). m ≤ 0) (replicate n 0) 0 (λ (i : ℕ) (lt : i < length (replicate n 0)). omega (arith, get_or-replicate_default {X = ℕ} n i 0)) in
+    omega (arith, sum_by-le (λ (m : ℕ). m) 0 (replicate n 0) all)
 
 -- the cut without calls
 pub zeros : (book : List Page) (i : ℕ) → get_or (no_calls book) i 0 ≡ 0
