@@ -19,7 +19,8 @@ use world_core::Program;
 /// this ending. There is room for a line for each operation.
 ///
 /// The book that the caller gathered last is kept from call to call, so that the next one is grown from it. There is
-/// none before the first call that is judged, and behind an error.
+/// none before the first call that is judged, behind an error, and where memory was wanted. Forgetting it would cost
+/// time alone, so no clause says that it is kept; what is kept is the caller's own (`Client`).
 pub struct Sheet<'a, E> {
     pub who: u32,
     pub operations: &'a [OpWord],

@@ -30,7 +30,7 @@ abbrev pub reply_of : {P : Type 0} → Result (Caller P × Outcome) (Unjudged P)
 reply_of (Ok r) = (record_in r.1).reply
 reply_of (Err u) = u.reply
 
--- The counter ticks for the scans of a whole call, which are four, and then once for each word of its book that is new, as against the
+-- The counter ticks at most as often as four scans may, and then once for each word of the call's book that is new, as against the
 -- book that was kept before.
 abbrev pub TicksForWholeCall : ℕ → Option Gathered → Outcome → Option Gathered → ℕ → ℕ → Type 0
 TicksForWholeCall n kept outcome gathered before after =

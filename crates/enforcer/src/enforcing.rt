@@ -119,11 +119,11 @@ use world_core::{Outside, Program};
 /// - `object` and `pass`: the object under test, and this caller's own pass of it, with a call left. One call is
 ///   made with it, neither more nor fewer, whatever becomes of the judgement.
 /// - `gathered`: the book that this caller gathered last, and `None` before its first call. The book of a call is
-///   grown from it, so that only words that are new are peeked. After `Delivered` it is the book that was judged:
-///   hand it to the same caller's next call. After `Illegal`, which takes its book along, and after `Unjudged` it is
-///   `None`. Like the guide it never changes a verdict, so `None` is always good; but then the words of all calls
-///   before are peeked again.
-/// - `guide`: the last order that was found, whose places the search for the next one tries first. It costs or
+///   grown from it, so that only words that are new are peeked: the cut that a caller sees later holds what it
+///   gathered before. After `Delivered` it is the book that was judged: hand it to the same caller's next call. After
+///   `Illegal`, which takes its book along, and after `Unjudged` it is `None`. Like the guide it never changes a
+///   verdict, so `None` is always good; but then the words of all calls before are peeked again.
+/// - `guide`: the last order that was found, behind whose places the search for the next one begins. It costs or
 ///   saves time alone, and never changes a verdict, so a new one is always good.
 /// - `steps`: the counter that ticks with each word of the table that is looked at or peeked: those of four scans, and
 ///   those of the book that are new.

@@ -26,7 +26,8 @@ use world_core::Program;
 /// The book at the seen cut of a call, with that cut: the records that were published by then, of all callers, and
 /// the calls that some of their views hold.
 ///
-/// What the caller has gathered before, where it hands that in, is grown to it, and only what is new is peeked.
+/// What the caller has gathered before, where it hands that in, is grown to it, and only what is new is peeked, where
+/// the seen cut contains that of the kept book, as a later one of the same caller does.
 /// After want of memory the caller may have peeked a part of the new words, what it handed in is gone, and all else
 /// is as it was.
 pub fn gather<P: Program, L: Ledger>(
