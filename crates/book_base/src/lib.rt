@@ -31,6 +31,3 @@ pub const MAX_ROOM: u64 = 8192;
 
 /// The reply word `bad`, which answers an operation that the object doesn't know.
 pub const BAD: u64 = 17179869184;
-
-#[cfg(test)]
-mod tests;

@@ -9,6 +9,3 @@ mod number;
 mod sheet;
 
 pub use draw::draw_book;
-
-#[cfg(test)]
-mod tests;

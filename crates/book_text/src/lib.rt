@@ -18,6 +18,3 @@ pub use laws::{
 pub use reader::{read_book, read_book1};
 pub use text_fields::{Head, Lines, OpText, Words, number, read_head, read_head1};
 pub use view::take_word;
-
-#[cfg(test)]
-mod tests;

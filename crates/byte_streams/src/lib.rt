@@ -26,6 +26,3 @@ pub use transfer::{read_all, write_all, write_text};
 
 /// The greatest length of an input, in bytes.
 pub const INPUT_LIMIT: usize = 1_048_576;
-
-#[cfg(test)]
-mod tests;

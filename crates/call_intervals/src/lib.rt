@@ -7,6 +7,3 @@ mod place;
 
 pub use interval::Interval;
 pub use lanes::call_lanes;
-
-#[cfg(test)]
-mod tests;

@@ -19,6 +19,3 @@ pub use laws::{
 };
 pub use reader::read_certificate;
 pub use writer::write_certificate;
-
-#[cfg(test)]
-mod tests;

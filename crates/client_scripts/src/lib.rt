@@ -23,6 +23,3 @@ pub use writer::write_script;
 /// The phases of a call: it is announced, the object is asked, a view is taken, the record is
 /// published, and the record is judged.
 pub const PHASES: u64 = 5;
-
-#[cfg(test)]
-mod tests;

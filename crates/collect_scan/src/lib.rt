@@ -3,8 +3,6 @@
 
 pub mod laws;
 mod steps;
-#[cfg(test)]
-mod tests;
 mod turns;
 mod whole;
 

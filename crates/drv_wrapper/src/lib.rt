@@ -9,8 +9,6 @@ mod asking;
 mod black_box;
 mod object_pass;
 mod object_steps;
-#[cfg(test)]
-mod tests;
 mod viewed;
 mod viewing;
 

@@ -18,6 +18,3 @@ pub use publishing::publish;
 pub use row_gather::{Gathered, grow_at};
 pub use seeing::seen;
 pub use seen_call::Seen;
-
-#[cfg(test)]
-mod tests;

@@ -6,8 +6,6 @@ mod invent;
 mod late;
 pub mod laws;
 mod lossy;
-#[cfg(test)]
-mod tests;
 mod twice;
 
 pub use invent::Invent;

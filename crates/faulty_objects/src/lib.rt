@@ -7,8 +7,6 @@ mod meeting;
 mod one_pass;
 mod shared_words;
 mod split_tally;
-#[cfg(test)]
-mod tests;
 mod words_pass;
 
 pub use behaviour::Behaviour;

@@ -15,6 +15,3 @@ pub use guide::Guide;
 pub use memo::Memo;
 pub use verdict::{Verdict, check, check_from};
 pub use walk::load;
-
-#[cfg(test)]
-mod tests;

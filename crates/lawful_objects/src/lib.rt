@@ -9,8 +9,6 @@ mod one_word;
 mod plain;
 mod scratch;
 mod tally;
-#[cfg(test)]
-mod tests;
 mod word_cell;
 mod word_pass;
 

@@ -13,6 +13,3 @@ pub use behaviour_run::run_behaviour;
 pub use fresh_replay::replay_fresh;
 pub use fresh_run::run_fresh;
 pub use laws::{answers_come_from_the_log, entries_are_of_calls};
-
-#[cfg(test)]
-mod tests;

@@ -14,6 +14,3 @@ mod uses;
 
 pub use foresee::{foresee_container, foresee_queue, foresee_stack};
 pub use reader::{Reader, Role};
-
-#[cfg(test)]
-mod tests;

@@ -9,6 +9,3 @@ mod place;
 pub use book_base::Place;
 pub use fault::OrderFault;
 pub use order::check_order;
-
-#[cfg(test)]
-mod tests;

@@ -8,6 +8,3 @@ mod laws;
 pub use certificate::report_certificate;
 pub use delivered::{delivered_book, delivered_cut};
 pub use laws::{certificates_tell_of_what_was_delivered, lawful_reports_have_certificates};
-
-#[cfg(test)]
-mod tests;

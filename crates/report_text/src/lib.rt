@@ -14,6 +14,3 @@ pub use laws::{
 };
 pub use reader::read_report;
 pub use reports::{Own, Report};
-
-#[cfg(test)]
-mod tests;

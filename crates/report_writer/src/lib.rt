@@ -4,6 +4,3 @@
 mod writer;
 
 pub use writer::report_text;
-
-#[cfg(test)]
-mod tests;

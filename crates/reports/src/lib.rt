@@ -10,6 +10,3 @@ mod witness;
 
 pub use counts::Counts;
 pub use report::{Own, Report};
-
-#[cfg(test)]
-mod tests;

@@ -11,6 +11,3 @@ mod records;
 
 pub use gather::grow_at;
 pub use gathered::Gathered;
-
-#[cfg(test)]
-mod tests;

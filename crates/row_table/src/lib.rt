@@ -14,8 +14,6 @@ mod row_steps;
 mod rows;
 mod stance;
 mod steps;
-#[cfg(test)]
-mod tests;
 mod world;
 
 pub use bench::Bench;

@@ -12,6 +12,3 @@ pub use laws::{a_report_and_its_counts_have_one_text, certificates_are_legal_and
 pub use replay::replay_and_write;
 pub use report_output::write_report;
 pub use run::run_and_write;
-
-#[cfg(test)]
-mod tests;

@@ -35,6 +35,3 @@ pub use run_writer::{
     replay_and_write, run_and_write, write_report,
 };
 pub use top::selfcheck;
-
-#[cfg(test)]
-mod tests;

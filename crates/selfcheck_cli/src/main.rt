@@ -37,13 +37,3 @@ fn run<R: Env + Input + Print + AllocGlobal + Threads + Sync>(rt: &R) -> u8 {
 fn main(rt: HostRuntime) -> ExitCode {
     ExitCode::from(run(&rt))
 }
-
-#[cfg(test)]
-mod tests {
-    use super::*;
-
-    #[test]
-    fn no_status_has_the_code_without_words(rt: HostRuntime) {
-        assert_eq!(rt; NO_WORDS, 7);
-    }
-}

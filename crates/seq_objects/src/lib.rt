@@ -33,6 +33,3 @@ pub use register::Register;
 pub use reply::{DONE, NO, NONE, YES, put_reply, reply_from_word, value_reply};
 pub use stack::Stack;
 pub use worked_steps::{worked_cas_register_steps, worked_map_steps};
-
-#[cfg(test)]
-mod tests;

@@ -18,6 +18,3 @@ pub use place_set::PlaceSet;
 pub use set_object::SetObject;
 pub use single::Single;
 pub use verdict::{SetVerdict, check_sets};
-
-#[cfg(test)]
-mod tests;

@@ -6,6 +6,3 @@ mod reader;
 
 pub use join_words::JoinWords;
 pub use reader::read_setbook;
-
-#[cfg(test)]
-mod tests;

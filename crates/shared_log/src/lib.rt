@@ -8,8 +8,6 @@ mod seat;
 mod seated;
 mod shared_log;
 mod steps;
-#[cfg(test)]
-mod tests;
 
 pub use entry::Entry;
 pub use seat::LogSeat;

@@ -9,6 +9,3 @@ pub mod laws;
 pub use drawn::announced;
 pub use event::Event;
 pub use history::sketch;
-
-#[cfg(test)]
-mod tests;

@@ -30,6 +30,3 @@ pub const FIRST_TEXT_CALLERS: u64 = 8;
 
 /// The greatest number of calls of a caller in a text of version 1.
 pub const FIRST_TEXT_CALLS: u64 = 64;
-
-#[cfg(test)]
-mod tests;
