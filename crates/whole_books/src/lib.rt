@@ -1,0 +1,17 @@
+//! Books, their sketches, and what is judged of them: tests across the crates below.
+#![tactic(auto)]
+
+#[cfg(test)]
+mod books;
+#[cfg(test)]
+mod foresights;
+#[cfg(test)]
+mod lanes;
+#[cfg(test)]
+mod scans;
+#[cfg(test)]
+mod searches;
+#[cfg(test)]
+mod sets;
+#[cfg(test)]
+mod words;

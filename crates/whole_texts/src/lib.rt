@@ -1,0 +1,15 @@
+//! Texts that are read and written, reports, pictures and byte streams: tests across the crates below.
+#![tactic(auto)]
+
+#[cfg(test)]
+mod certificates;
+#[cfg(test)]
+mod pictures;
+#[cfg(test)]
+mod reports;
+#[cfg(test)]
+mod round_trips;
+#[cfg(test)]
+mod scripts;
+#[cfg(test)]
+mod streams;
