@@ -1,17 +1,19 @@
 -- How far a caller has come, by the parts of its local that tell of its calls.
 use Rattle.std.proofs.Common.{◌≡◌, ℕ, zero, suc, ◌+◌, ◌<◌, ◌≤◌, Bool, false, cond, nat_lt, List, [], ◌∷◌, ◌++◌, length, map, slice_index, slice_index_or, refl, sym, ap, ◌∙◌, arith, inl, inr}
-use Rattle.std.specs.List.{range_with_len}
+use Rattle.std.specs.List.{range_with_len, flat_map}
 use Rattle.std.proofs.lemmas.Bool.{cases_lt, lt-ltb, le-ltb}
-use Rattle.std.proofs.lemmas.List.{length_push, get_or_append_left, get_or_at}
+use Rattle.std.proofs.lemmas.List.{length_push, get_or_append_left, get_or_at, append-nil, append_assoc}
+use Rattle.std.proofs.lemmas.List.Concat.{flat_map-append}
 use Rattle.std.proofs.lemmas.List.FromFn.{map-range_with_len_more}
 use Rattle.book_base.specs.declared.call.Record.{Record}
-use Rattle.world_core.specs.Local.{Local}
-use Rattle.world_core.specs.Event.{Announce, Publish, staged_operation, local_after}
+use Rattle.world_core.specs.Local.{Local, Object_step, with_step}
+use Rattle.world_core.specs.CallSteps.{all_steps_of}
+use Rattle.world_core.specs.Event.{Announce, Object, Publish, staged_operation, local_after}
 use Rattle.world_core.specs.Agreement.{unpublished_calls, unpublished_replies, unpublished_views, unseen_records}
 use Rattle.world_core.specs.Calls.{Reached, Is_announced, Has_record, Has_seen, Made}
 use Rattle.call_lines.specs.Phases.{Progress, progress_of}
 use Rattle.call_lines.specs.Progress.{with_last, TheLastCallGoesOn, with_seen, after_viewing}
-use Rattle.call_lines.specs.Account.{Account, account_of, NothingGrows, OperationsAreCalls, RepliesAreNoRecords, ViewsMakeRecords, PublicationsCount, SeenCutsAreOfTheLastCall, AnnouncementsAreCalls, PublishesCount}
+use Rattle.call_lines.specs.Account.{Account, account_of, NothingGrows, OperationsAreCalls, ObjectStepsAreOfTheLastCall, RepliesAreNoRecords, ViewsMakeRecords, PublicationsCount, SeenCutsAreOfTheLastCall, AnnouncementsAreCalls, ObjectStepsCount, PublishesCount}
 
 -- How far call k has come, and the calls, by an account.
 abbrev record_by : Account → ℕ → Record
@@ -30,7 +32,7 @@ abbrev calls_by : Account → List Made
 calls_by a = map (λ k. call_by a k) (range_with_len 0 (length a.operations))
 
 abbrev progress_by : Account → Progress
-progress_by a = record { calls = calls_by a; published = a.published }
+progress_by a = record { calls = calls_by a; published = a.published; steps = a.steps }
 
 progress_of-account : (l : Local) → progress_of l ≡ progress_by (account_of l)
 progress_of-account l = refl
@@ -85,7 +87,7 @@ pub operations_are_calls : OperationsAreCalls
 operations_are_calls l m op phase at e =
     let few : length l.seen ≤ length l.operations = omega (arith, phase.operations, phase.announced, phase.seen, ap unpublished_calls at, ap unseen_records at) in
     let fewer : length l.views ≤ length l.operations = omega (arith, phase.operations, phase.announced, phase.views, ap unpublished_calls at, ap unpublished_views at) in
-    ap progress_by e ∙ ap (λ (cs : List Made). record { calls = cs; published = l.published }) (announced (account_of l) op few fewer)
+    ap progress_by e ∙ ap (λ (cs : List Made). record { calls = cs; published = l.published; steps = all_steps_of l }) (announced (account_of l) op few fewer)
 
 -- one more reply than there are records
 replied_at : (a : Account) (reply k : ℕ) → length a.views ≤ length a.replies → length a.seen ≤ length a.views
@@ -112,7 +114,7 @@ replies_are_no_records l m reply phase at e =
     let few : length l.views ≤ length l.replies = omega (arith, phase.views, phase.replies, ap unpublished_views at, ap unpublished_replies at) in
     let fewer : length l.seen ≤ length l.views = omega (arith, phase.views, phase.seen, ap unpublished_views at) in
     ap progress_by e
-    ∙ ap (λ (cs : List Made). record { calls = cs; published = l.published })
+    ∙ ap (λ (cs : List Made). record { calls = cs; published = l.published; steps = all_steps_of l })
     (same_range (λ k. call_by a k) (λ k. call_by (record a { replies = l.replies ++ reply ∷ [] }) k) 0 (length l.operations)
     (λ k low. ap (λ v. record { operation = slice_index l.operations k; reached = v }) (replied_at a reply k few fewer)))
 
@@ -153,7 +155,7 @@ views_make_records l m view phase at e =
     let last : p ≡ l.published = omega (arith, phase.views, ap unpublished_views at) in
     let record_with : ℕ → Record = λ k. record { reply = slice_index l.replies k; view = view } in
     ap progress_by e
-    ∙ ap (λ (cs : List Made). record { calls = cs; published = l.published })
+    ∙ ap (λ (cs : List Made). record { calls = cs; published = l.published; steps = all_steps_of l })
     (grown (λ k. call_by a k) (λ k. call_by (with_view a view few) k) (λ _. Has_record (record_with p)) (length l.operations) p long
     (viewed_before a view few) (viewed_last a view few))
     ∙ ap (λ k. after_viewing (record_with k) (progress_of l)) last
@@ -195,7 +197,7 @@ seen_cuts_are_of_the_last_call l m cut phase at e =
     let long : length l.operations ≡ length l.seen + 1 =
     omega (arith, phase.operations, phase.announced, phase.seen, ap unpublished_calls at, ap unseen_records at) in
     ap progress_by e
-    ∙ ap (λ (cs : List Made). record { calls = cs; published = l.published })
+    ∙ ap (λ (cs : List Made). record { calls = cs; published = l.published; steps = all_steps_of l })
     (grown (λ k. call_by a k) (λ k. call_by (with_cut a cut few) k) (with_seen cut) (length l.operations) (length l.seen) long
     (seen_before a cut few) (seen_last a cut few))
 
@@ -205,8 +207,44 @@ nothing_grows l m e = ap progress_by e
 pub publications_count : PublicationsCount
 publications_count l m e = ap progress_by e
 
+-- an announced call has no object step yet
+empty_adds_none : (steps : List (List Object_step)) → flat_map (λ (own : List Object_step). own) (steps ++ [] ∷ []) ≡ flat_map (λ (own : List Object_step). own) steps
+empty_adds_none steps =
+    flat_map-append (λ (own : List Object_step). own) steps ([] ∷ []) ∙ append-nil (flat_map (λ (own : List Object_step). own) steps)
+
+-- so one more operation, whose call has no object step yet, is all that an account gains
+pub announced_account : (l m : Local) (op : ℕ) → m.object_steps ≡ l.object_steps ++ [] ∷ []
+    → account_of (record m { object_steps = l.object_steps }) ≡ record (account_of l) { operations = l.operations ++ op ∷ [] }
+    → account_of m ≡ record (account_of l) { operations = l.operations ++ op ∷ [] }
+announced_account l m op steps others =
+    ap (λ (own : List Object_step). record (account_of m) { steps = own })
+    (ap (flat_map (λ (own : List Object_step). own)) steps ∙ empty_adds_none l.object_steps)
+    ∙ others
+
 pub announcements_are_calls : AnnouncementsAreCalls
-announcements_are_calls n l phase at = operations_are_calls l (local_after n l Announce) (staged_operation l.staged) phase at refl
+announcements_are_calls n l phase at =
+    let m : Local = local_after n l Announce in
+    operations_are_calls l m (staged_operation l.staged) phase at (announced_account l m (staged_operation l.staged) refl refl)
+
+-- a step of the last call is the last of all steps
+step_is_last : (steps : List (List Object_step)) (k : ℕ) (step : Object_step) → length steps ≡ k + 1
+    → flat_map (λ (own : List Object_step). own) (with_step steps k step) ≡ flat_map (λ (own : List Object_step). own) steps ++ step ∷ []
+step_is_last [] k step long = absurd (omega (arith, long))
+step_is_last (own ∷ []) zero step long = append-nil (own ++ step ∷ []) ∙ ap (λ (before : List Object_step). before ++ step ∷ []) (sym (append-nil own))
+step_is_last (own ∷ []) (suc k) step long = absurd (omega (arith, long))
+step_is_last (own ∷ next ∷ steps) zero step long = absurd (omega (arith, long))
+step_is_last (own ∷ next ∷ steps) (suc k) step long =
+    ap (λ (later : List Object_step). own ++ later) (step_is_last (next ∷ steps) k step (omega (arith, long)))
+    ∙ sym (append_assoc own (flat_map (λ (s : List Object_step). s) (next ∷ steps)) (step ∷ []))
+
+pub object_steps_are_of_the_last_call : ObjectStepsAreOfTheLastCall
+object_steps_are_of_the_last_call l m step e = ap progress_by e
+
+pub object_steps_count : ObjectStepsCount
+object_steps_count n l step phase at =
+    let last : length l.object_steps ≡ l.published + 1 = omega (arith, phase.object_steps, phase.announced, ap unpublished_calls at) in
+    object_steps_are_of_the_last_call l (local_after n l (Object step)) step
+    (ap (λ (own : List Object_step). record (account_of l) { steps = own }) (step_is_last l.object_steps l.published step last))
 
 pub publishes_count : PublishesCount
 publishes_count n l = publications_count l (local_after n l Publish) refl

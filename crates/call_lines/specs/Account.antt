@@ -1,21 +1,31 @@
 -- The parts of a local that tell of its calls; and how far the caller has come as one of them grows.
 use Rattle.std.specs.Prelude.{◌≡◌, ℕ, ◌+◌, List, [], ◌∷◌, ◌++◌, slice_index}
-use Rattle.world_core.specs.Local.{Local, Announcing, Asking, Viewing, Judging}
-use Rattle.world_core.specs.Event.{Announce, Publish, staged_operation, local_after}
+use Rattle.world_core.specs.Local.{Local, Object_step, Announcing, Asking, Viewing, Judging}
+use Rattle.world_core.specs.CallSteps.{all_steps_of}
+use Rattle.world_core.specs.Event.{Announce, Object, Publish, staged_operation, local_after}
 use Rattle.world_core.specs.Agreement.{HasPhase}
 use Rattle.call_lines.specs.Phases.{progress_of}
-use Rattle.call_lines.specs.Progress.{after_announcing, after_viewing, after_publishing, after_seeing}
+use Rattle.call_lines.specs.Progress.{after_announcing, after_stepping, after_viewing, after_publishing, after_seeing}
 
--- A caller's operations, replies, views and seen cuts, and its count of published records.
+-- A caller's operations, replies, views and seen cuts, its count of published records, and the object steps of all its calls.
 pub record Account : Type 0 where
   pub operations : List ℕ
   pub replies : List ℕ
   pub views : List (List ℕ)
   pub seen : List (List ℕ)
   pub published : ℕ
+  pub steps : List Object_step
 
 abbrev pub account_of : Local → Account
-account_of l = record { operations = l.operations; replies = l.replies; views = l.views; seen = l.seen; published = l.published }
+account_of l =
+    record {
+      operations = l.operations;
+      replies = l.replies;
+      views = l.views;
+      seen = l.seen;
+      published = l.published;
+      steps = all_steps_of l;
+    }
 
 -- Where all of it stays, a caller has come as far as before.
 abbrev pub NothingGrows : Type 0
@@ -26,6 +36,12 @@ abbrev pub OperationsAreCalls : Type 0
 OperationsAreCalls =
     (l m : Local) (operation : ℕ) → HasPhase l → l.phase ≡ Announcing
     → account_of m ≡ record (account_of l) { operations = l.operations ++ operation ∷ [] } → progress_of m ≡ after_announcing operation (progress_of l)
+
+-- One more object step is one of the call under way.
+abbrev pub ObjectStepsAreOfTheLastCall : Type 0
+ObjectStepsAreOfTheLastCall =
+    (l m : Local) (step : Object_step) → account_of m ≡ record (account_of l) { steps = all_steps_of l ++ step ∷ [] }
+    → progress_of m ≡ after_stepping step (progress_of l)
 
 -- A reply is no record yet.
 abbrev pub RepliesAreNoRecords : Type 0
@@ -50,10 +66,14 @@ SeenCutsAreOfTheLastCall =
     (l m : Local) (cut : List ℕ) → HasPhase l → l.phase ≡ Judging
     → account_of m ≡ record (account_of l) { seen = l.seen ++ cut ∷ [] } → progress_of m ≡ after_seeing cut (progress_of l)
 
--- So it is at an announcement and at a publication.
+-- So it is at an announcement, at an object step and at a publication.
 abbrev pub AnnouncementsAreCalls : Type 0
 AnnouncementsAreCalls =
     (n : ℕ) (l : Local) → HasPhase l → l.phase ≡ Announcing → progress_of (local_after n l Announce) ≡ after_announcing (staged_operation l.staged) (progress_of l)
+
+abbrev pub ObjectStepsCount : Type 0
+ObjectStepsCount =
+    (n : ℕ) (l : Local) (step : Object_step) → HasPhase l → l.phase ≡ Asking → progress_of (local_after n l (Object step)) ≡ after_stepping step (progress_of l)
 
 abbrev pub PublishesCount : Type 0
 PublishesCount = (n : ℕ) (l : Local) → progress_of (local_after n l Publish) ≡ after_publishing (progress_of l)

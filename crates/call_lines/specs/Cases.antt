@@ -3,6 +3,7 @@ use Rattle.std.specs.Prelude.{ℕ, List, [], ◌∷◌, Option, Some, None}
 use Rattle.book_base.specs.declared.call.Call.{Call}
 use Rattle.book_base.specs.declared.call.Record.{Record}
 use Rattle.book_base.specs.Book.{Page}
+use Rattle.world_core.specs.Local.{Object_step, Local, Asking, fresh}
 use Rattle.world_core.specs.Calls.{Is_announced, Has_record, Has_seen, Made}
 use Rattle.call_lines.specs.declared.line.LineEnd.TheVariants.{Pending, Unchecked, Delivered, Error}
 use Rattle.call_lines.specs.declared.line.Line.{Line}
@@ -83,6 +84,24 @@ three_delivered =
     ∷ (delivered 3 (answer 0 []) (1 ∷ 1 ∷ []) ∷ failed 4 (answer 0 []) (2 ∷ 2 ∷ []) ∷ [])
     ∷ []
 
--- How far a caller has come: its calls, and how many records it has published.
+-- How far a caller has come with an object outside the world: its calls, and how many records it has published.
 abbrev pub progress : List Made → ℕ → Progress
-progress calls published = record { calls = calls; published = published }
+progress calls published = record { calls = calls; published = published; steps = [] }
+
+-- A step that found the one word at an object's only place, and left the other there.
+abbrev pub object_step : ℕ → ℕ → Object_step
+object_step old new = record { place = 0; old = old; new = new }
+
+-- The local of a caller that has published its first call, with two object steps, and announced its second, with one.
+abbrev pub stepped : Local
+stepped =
+    record fresh {
+      operations = 5 ∷ 7 ∷ [];
+      announced = 2;
+      published = 1;
+      replies = 50 ∷ [];
+      views = first.view ∷ [];
+      seen = (1 ∷ 0 ∷ 0 ∷ []) ∷ [];
+      object_steps = (object_step 0 3 ∷ object_step 3 6 ∷ []) ∷ (object_step 6 9 ∷ []) ∷ [];
+      phase = Asking;
+    }

@@ -2,7 +2,8 @@
 use Rattle.std.specs.Prelude.{◌≡◌, ℕ, ◌+◌, ◌/◌, ◌%◌, ◌==◌, nat_lt, if◌then◌else◌, List, [], ◌∷◌, ◌++◌, map, take, replicate}
 use Rattle.std.specs.List.{flat_map}
 use Rattle.book_base.specs.declared.call.Record.{Record}
-use Rattle.world_core.specs.Local.{Local}
+use Rattle.world_core.specs.Local.{Local, Object_step}
+use Rattle.world_core.specs.CallSteps.{all_steps_of}
 use Rattle.world_core.specs.Calls.{Reached, Is_announced, Has_record, Has_seen, Made, records_of, calls_in}
 
 -- After p phases: how many calls are announced, how many were asked of the object, how many have their record, how many records are
@@ -48,13 +49,18 @@ operations_of calls = map (λ (c : Made). c.operation) calls
 abbrev pub marks_of : List Made → List Mark
 marks_of calls = map (λ (c : Made). mark_of c.reached) calls
 
--- How far a caller has come: its calls, and how many records it has published.
+-- How far a caller has come: its calls, how many records it has published, and the object steps of all its calls in order.
 pub record Progress : Type 0 where
   pub calls : List Made
   pub published : ℕ
+  pub steps : List Object_step
 
 abbrev pub progress_of : Local → Progress
-progress_of l = record { calls = calls_in l; published = l.published }
+progress_of l = record { calls = calls_in l; published = l.published; steps = all_steps_of l }
+
+-- The progress of a caller before its first phase: it has no call, no published record and no object step.
+abbrev pub no_progress : Progress
+no_progress = record { calls = []; published = 0; steps = [] }
 
 -- A caller with these operations has come exactly as far as its first p phases go: no call and no operation is left out, and none is
 -- further than that.

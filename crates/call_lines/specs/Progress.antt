@@ -1,12 +1,17 @@
 -- What each of the five phases does to how far a caller has come.
 use Rattle.std.specs.Prelude.{◌≡◌, ℕ, ◌+◌, List, [], ◌∷◌, ◌++◌}
 use Rattle.book_base.specs.declared.call.Record.{Record}
+use Rattle.world_core.specs.Local.{Object_step}
 use Rattle.world_core.specs.Calls.{Reached, Is_announced, Has_record, Has_seen, Made}
 use Rattle.call_lines.specs.Phases.{Progress}
 
--- Announcing puts one more call at the end; asking the object leaves all as it is.
+-- Announcing puts one more call at the end, which has no object step yet. Asking an object outside the world leaves all as it is.
 abbrev pub after_announcing : ℕ → Progress → Progress
 after_announcing operation progress = record progress { calls = progress.calls ++ record { operation = operation; reached = Is_announced } ∷ [] }
+
+-- A step on an object word puts it after the caller's other object steps: it is one of the last call.
+abbrev pub after_stepping : Object_step → Progress → Progress
+after_stepping step progress = record progress { steps = progress.steps ++ step ∷ [] }
 
 -- The calls, the last of which has come so far.
 abbrev pub with_last : (Reached → Reached) → List Made → List Made

@@ -3,11 +3,14 @@
 ghost use Rattle.std.specs.Prelude.{◌≡◌, ℕ, true, false, [], ◌∷◌, map, Some, None, slice_index};
 ghost use Rattle.std.specs.List.{range_with_len};
 ghost use Rattle.call_lines.specs.Lines.{calls_of, book_of_lines, lines_at, seen_at, delivered_at, error_at, any_error};
-ghost use Rattle.call_lines.specs.Phases.{begun, asked, answered, published_by, judged as judged_by, Announced, Recorded, Seen, marks_after, operations_of, IsProgressAfter, answers_in, IsTold};
-ghost use Rattle.call_lines.specs.Progress.{after_announcing, after_viewing, after_publishing, after_seeing};
+ghost use Rattle.call_lines.specs.Phases.{begun, asked, answered, published_by, judged as judged_by, Announced, Recorded, Seen, marks_after, operations_of, progress_of, no_progress, IsProgressAfter, answers_in, IsTold};
+ghost use Rattle.call_lines.specs.Progress.{after_announcing, after_stepping, after_viewing, after_publishing, after_seeing};
 ghost use Rattle.call_lines.specs.Allotments.{phases_for, turns_of, allotments_of, allotments_by_turns, phases_of, KeepsTo, published_in};
 ghost use Rattle.call_lines.specs.Lawful.{IsAllotted, AreSeen, delivered_cuts, delivered_cut};
-ghost use Rattle.call_lines.specs.Cases.{call, answer, pending, unchecked, delivered, failed, worked_operations, worked_stops, first, second, third, worked_lines, made, recorded, judged, worked_calls, page, worked_book, seen_by_second, three_delivered, progress};
+ghost use Rattle.call_lines.specs.Cases.{call, answer, pending, unchecked, delivered, failed, worked_operations, worked_stops, first, second, third, worked_lines, made, recorded, judged, worked_calls, page, worked_book, seen_by_second, three_delivered, progress, object_step, stepped};
+ghost use Rattle.world_core.specs.Local.{fresh};
+ghost use Rattle.world_core.specs.CallSteps.{operation_now, steps_now, all_steps_of};
+ghost use Rattle.world_core.specs.Event.{Announce, Object, local_after};
 
 /// How many calls have come how far, after no phase up to eleven of them: the announcement is the first of
 /// five phases, then come the object's answer, the view, the publication and the verdict.
@@ -46,6 +49,21 @@ pub fn a_second_call_goes_on()
     ensures not_after_nine { ¬ IsProgressAfter (5 ∷ 7 ∷ []) 9 (progress (judged 5 first [] ∷ recorded 7 second ∷ []) 1) }
     ensures another_operation { ¬ IsProgressAfter (5 ∷ 6 ∷ []) 8 (progress (judged 5 first [] ∷ recorded 7 second ∷ []) 1) }
     ensures a_call_left_out { ¬ IsProgressAfter (5 ∷ 7 ∷ []) 6 (progress (judged 5 first [] ∷ []) 1) }
+{}
+
+/// The object steps of a caller's calls: a caller has none before its first call, none in a call that it has
+/// just announced, and each further one is the last of the call under way and of all.
+pub fn object_steps_are_of_calls()
+    ensures none { progress_of fresh ≡ no_progress }
+    ensures operation { operation_now stepped ≡ 7 }
+    ensures now { steps_now stepped ≡ object_step 6 9 ∷ [] }
+    ensures all { all_steps_of stepped ≡ object_step 0 3 ∷ object_step 3 6 ∷ object_step 6 9 ∷ [] }
+    ensures progress { (progress_of stepped).steps ≡ all_steps_of stepped }
+    ensures stepped { progress_of (local_after 3 stepped (Object (object_step 9 2))) ≡ after_stepping (object_step 9 2) (progress_of stepped) }
+    ensures stepped_now { steps_now (local_after 3 stepped (Object (object_step 9 2))) ≡ object_step 6 9 ∷ object_step 9 2 ∷ [] }
+    ensures last { (after_stepping (object_step 9 2) (progress_of stepped)).steps ≡ object_step 0 3 ∷ object_step 3 6 ∷ object_step 6 9 ∷ object_step 9 2 ∷ [] }
+    ensures announced { steps_now (local_after 3 fresh Announce) ≡ [] }
+    ensures any_steps { IsProgressAfter (5 ∷ 7 ∷ []) 6 (progress_of stepped) }
 {}
 
 /// What an object tells: a pair for each call that it was asked, of which the last may have no record yet.

@@ -1,6 +1,7 @@
 pub mod Layout
 pub mod Scan
 pub mod Local
+pub mod CallSteps
 pub mod Shape
 pub mod Programs
 pub mod Event

@@ -1,4 +1,4 @@
-use Rattle.call_lines.proofs.Accounts.{nothing_grows, operations_are_calls, replies_are_no_records, views_make_records, publications_count, seen_cuts_are_of_the_last_call}
+use Rattle.call_lines.proofs.Accounts.{nothing_grows, operations_are_calls, object_steps_are_of_the_last_call, replies_are_no_records, views_make_records, publications_count, seen_cuts_are_of_the_last_call}
 use Rattle.call_lines.proofs.laws.locals_tell_how_far_callers_are.Goals as goal
 
 pub returns-clause-nothing : goal.returns-clause-nothing
@@ -6,6 +6,9 @@ returns-clause-nothing c = nothing_grows
 
 pub returns-clause-operations : goal.returns-clause-operations
 returns-clause-operations c = operations_are_calls
+
+pub returns-clause-steps : goal.returns-clause-steps
+returns-clause-steps c = object_steps_are_of_the_last_call
 
 pub returns-clause-replies : goal.returns-clause-replies
 returns-clause-replies c = replies_are_no_records

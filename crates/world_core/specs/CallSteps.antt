@@ -1,0 +1,16 @@
+-- What a local tells of the call under way, whose number is its count of published records, and the object steps of all its calls.
+use Rattle.std.specs.Prelude.{ℕ, List, [], slice_index, slice_index_or}
+use Rattle.std.specs.List.{flat_map}
+use Rattle.world_core.specs.Local.{Local, Object_step}
+
+-- The operation of the call under way.
+abbrev pub operation_now : Local → ℕ
+operation_now l = slice_index l.operations l.published
+
+-- The object steps of the call under way.
+abbrev pub steps_now : Local → List Object_step
+steps_now l = slice_index_or l.object_steps l.published []
+
+-- The object steps of all calls of a caller, in order.
+abbrev pub all_steps_of : Local → List Object_step
+all_steps_of l = flat_map (λ (steps : List Object_step). steps) l.object_steps
