@@ -2,12 +2,13 @@
 use Rattle.std.specs.Prelude.{◌≡◌, ℕ, ◌<◌, List, Option, Some, None, map, length, slice_index_or, IsTrue}
 use Rattle.world_core.specs.declared.region.Region.{Region}
 use Rattle.world_core.specs.Shape.{Meaning, Shape}
-use Rattle.world_core.specs.Local.{Local}
+use Rattle.world_core.specs.Local.{Local, IsIdle}
 use Rattle.world_core.specs.Calls.{IsLocalOf}
 use Rattle.row_table.specs.Seats.{has, the, Together}
 use Rattle.row_table.specs.Shapes.{shape_for}
 use Rattle.row_table.specs.Stances.{opening_by}
 use Rattle.row_table.specs.Actions.{opening_in}
+use Rattle.row_table.specs.Benches.{fresh_stance}
 use Rattle.world_core.specs.Event as event
 use Rattle.row_table.specs.declared.stance.Stance.{Stance}
 use Rattle.row_table.specs.declared.plays.Key.{Key}
@@ -67,6 +68,7 @@ module _ {P : Type 0} where
   -- The caller is one of these rows.
   pub record IsCallerOf (meaning : P → ℕ → ℕ → Meaning) (r : Rows P) (c : Caller P) : Type 0 where
     pub seat : IsSeatOf meaning r c.seat
+    pub program : c.program ≡ r.program
     pub callers : c.callers ≡ r.callers
     pub cap : c.cap ≡ r.cap
 
@@ -84,6 +86,22 @@ module _ {P : Type 0} where
 
   abbrev pub HoldsAll : Bench P → Type 0
   HoldsAll b = (i : ℕ) → i < b.callers → Holds b i
+
+  -- A caller is free for its next call: it is idle, makes calls, means to begin no scan, and keeps no reply.
+  pub record IsFree (c : Caller P) : Type 0 where
+    pub idle : IsIdle (local_with c)
+    pub stance : stance_of c ≡ fresh_stance
+
+  -- The bench holds this caller, free for its next call.
+  pub record HoldsFree (b : Bench P) (i : ℕ) : Type 0 where
+    pub local : Local
+    pub here : on_bench b i ≡ Some local
+    pub idle : IsIdle local
+    pub stance : stance_on b i ≡ Some fresh_stance
+
+  -- The caller's program, which is that of its rows, allows the caller this reply, by its local.
+  abbrev pub MayGet : (P → ℕ → ℕ → Meaning) → Caller P → ℕ → Type 0
+  MayGet meaning c reply = IsTrue ((meaning c.program c.callers c.cap).may_reply (who_of c) (local_with c) reply)
 
   -- Whatever rows the one caller is of, the other is too.
   abbrev pub StaysWith : Caller P → Caller P → Type 0

@@ -11,10 +11,10 @@ use crate::plays::Holding;
 use crate::stance::Stance;
 use atomic_table::Seat;
 use book_base::Cut;
-use std::marker::PhantomData;
-use world_core::{Outside, Region, Want};
+use world_core::{Outside, Program, Region, Want};
 
 /// The seat of one caller, whose local alone is with it.
+#[derive(Drop)]
 pub struct CallerSeat {
     pub who: u32,
     pub seat: Seat<(), Holding>,
@@ -23,14 +23,16 @@ pub struct CallerSeat {
 
 /// One caller of a table: its seat, with its local, and what it keeps of that local while it runs.
 ///
-/// It makes steps with the calls of [`Rows`](crate::Rows), each of which is one event of its local.
+/// It makes steps with the calls of [`Rows`](crate::Rows), each of which is one event of its local. One that is
+/// let go makes no more steps, and never comes back to its bench.
+#[derive(Drop)]
 pub struct Caller<P = Outside> {
+    pub(crate) program: P,
     pub(crate) callers: u32,
     pub(crate) cap: u64,
     pub(crate) notes: Notes,
     pub(crate) stance: Stance,
     pub(crate) seat: CallerSeat,
-    pub(crate) of: PhantomData<P>,
     ghost tied: { notes ≡ notes_of callers seat.who (the (has seat.seat.me.0 seat.who)) },
 }
 
@@ -115,13 +117,19 @@ impl<P> Caller<P> {
     {
         self.stance.begins = Some(region);
     }
+}
+
+impl<P: Program> Caller<P> {
+    ghost use Rattle.row_table.specs.Callers.{who_of, local_with, stance_of, MayGet, StaysWith};
 
     /// Keeps the reply of the object: the next scan of N is the view's, and begins with it. No step is made.
     ///
-    /// The program has to allow the reply, here and at that look, which states it for the caller's local.
+    /// The program allows the caller this reply, by its local.
     pub fn keep_reply(&mut self, reply: u64)
+        requires allowed { MayGet P.meaning self.old reply }
         requires asking { (local_with self.old).phase ≡ local.Asking }
         requires unreplied { (stance_of self.old).reply ≡ None }
+        ensures allowed { MayGet P.meaning self.new reply }
         ensures stance { stance_of self.new ≡ record (stance_of self.old) { reply = Some reply } }
         ensures local { (who_of self.new ≡ who_of self.old) × (local_with self.new ≡ local_with self.old) }
         ensures rows { StaysWith self.old self.new }

@@ -27,6 +27,7 @@ use world_core::{Outside, Program, Region};
 /// Each step is one sequentially consistent atomic step and one event of the world, on the local of the
 /// caller that makes it, with the word that was really loaded. Nothing locks, waits or takes memory but
 /// the calls that open and close the table.
+#[derive(Drop)]
 pub struct Rows<P: Program = Outside> {
     pub(crate) table: Table<(), Holding, Key<P>, Worlds<P>, Global>,
     pub(crate) program: P,
@@ -67,7 +68,7 @@ fn all_kept(alloc: Global, n: u32) -> Result<Vec<Option<Kept>>, AllocError>
 impl<P: Program> Rows<P> {
     ghost use Rattle.row_table.specs.Seats.{has, the, only, Makes, Together, IsWorldOf};
     ghost use Rattle.row_table.specs.Actions.{event_of};
-    ghost use Rattle.row_table.specs.Callers.{key_of, shape_of, seated, who_of, local_with, stance_of, on_bench, stance_on, locals_on, IsSeatOf, IsCallerOf, IsBenchOf, Holds, HoldsAll};
+    ghost use Rattle.row_table.specs.Callers.{key_of, shape_of, seated, who_of, local_with, stance_of, on_bench, stance_on, locals_on, IsSeatOf, IsCallerOf, IsBenchOf, Holds, HoldsAll, IsFree, HoldsFree};
     ghost use Rattle.row_table.specs.Worlds.{words_in};
     ghost use Rattle.world_core.specs.Shape.{words_of};
     ghost use Rattle.world_core.specs.Calls.{AreTogether};
@@ -235,8 +236,8 @@ impl<P: Program> Rows<P> {
         self.program
     }
 
-    /// A caller leaves the bench with its local, and as live as it was there. One load of word 0, which is
-    /// no event.
+    /// A caller leaves the bench with its local, and as live as it was there: where the bench holds it free, it is
+    /// free. One load of word 0, which is no event.
     pub fn part(&self, bench: &mut Bench<P>, caller: u32) -> Caller<P>
         requires bench { IsBenchOf P.meaning self.now bench.old }
         requires held { Holds bench.old caller }
@@ -246,6 +247,7 @@ impl<P: Program> Rows<P> {
         ensures caller { IsCallerOf P.meaning self.now result × (who_of result ≡ caller) }
         ensures local { on_bench bench.old caller ≡ Some (local_with result) }
         ensures stance { stance_on bench.old caller ≡ Some (stance_of result) }
+        ensures free { HoldsFree bench.old caller → IsFree result }
     {
         let Some(kept) = bench.places[caller as usize].take() else {
             unreachable!()
@@ -253,12 +255,12 @@ impl<P: Program> Rows<P> {
         let Kept { notes, stance } = kept;
         let seat = self.leave_as::<Brand>(&mut bench.seat, caller);
         Caller {
+            program: self.program,
             callers: self.callers,
             cap: self.cap,
             notes,
             stance,
             seat,
-            of: PhantomData,
         }
     }
 
@@ -273,12 +275,12 @@ impl<P: Program> Rows<P> {
         ensures others { (i : ℕ) → i ≢ who_of caller → (on_bench bench.new i ≡ on_bench bench.old i) × (stance_on bench.new i ≡ stance_on bench.old i) }
     {
         let Caller {
+            program: _,
             callers: _,
             cap: _,
             notes,
             stance,
             seat,
-            of: _,
         } = caller;
         let CallerSeat { who, seat } = seat;
         bench.places[who as usize] = Some(Kept { notes, stance });

@@ -1,6 +1,9 @@
 use Rattle.std.proofs.Common.{◌≡◌, ℕ, ◌<◌, rules, refl, sym, ap, ◌∙◌, subst, arith, length, length-set, slice_set, None}
 use Rattle.row_table.specs.Seats.{View, Together}
-use Rattle.row_table.specs.Callers.{kept_stance, shape_of}
+use Rattle.std.proofs.lemmas.Option.{same_Some}
+use Rattle.world_core.specs.Local.{Local, IsIdle}
+use Rattle.row_table.specs.Benches.{fresh_stance}
+use Rattle.row_table.specs.Callers.{seated, kept_stance, shape_of}
 use Rattle.row_table.proofs.Keeping.{inside}
 use Rattle.row_table.proofs.Parting.{together_but}
 use Rattle.row_table.proofs.Moving.{place_low, place_found, place_kept, kept_local, left_local, left_notes, left_reached, left_tied}
@@ -54,6 +57,7 @@ returns-clause-caller g c =
               who = subst (λ (k : ℕ). k < c.args.self.now.callers) (sym e.0) low;
               local = left_reached _ v _ _ _ _ c.requires.bench.together low c.requires.held.1 e.0 (left_local _ _ _ _ _ c.requires.held.1 e.2 e.0);
             };
+        program = refl;
         callers = refl;
         cap = refl;
       },
@@ -64,3 +68,13 @@ pub returns-clause-stance : goal.returns-clause-stance
 returns-clause-stance g c =
     ap kept_stance
     (place_found c.args.bench.now.callers _ _ c.args.caller _ c.args.bench.now.tied c.requires.held.1 _ c.index_mut.ensures.value ∙ (sym c.take.ensures.value ∙ c.in-Some.is))
+
+pub returns-clause-free : goal.returns-clause-free
+returns-clause-free g c free =
+    let e = c.leave_as-seat.ensures.caller in
+    let found : seated c.leave_as-seat.result ≡ free.local =
+    left_local _ _ _ _ _ c.requires.held.1 e.2 e.0 ∙ same_Some c.requires.held.0 free.local (sym c.requires.held.1 ∙ free.here) in
+    record {
+      idle = subst (λ (l : Local). IsIdle l) (sym found) free.idle;
+      stance = same_Some c.in-Some.kept.stance fresh_stance (sym (returns-clause-stance g c) ∙ free.stance);
+    }
