@@ -143,7 +143,7 @@ cuts_hold_given s i p region opening cut before after given (locals, t, low, is)
     (ap (λ (m : Local). slice_get m.cuts (length before.cuts)) is ∙ last_there s i region opening cut before after h) same
 
 pub cuts_hold_looks : CutsHoldLooks
-cuts_hold_looks s i p region opening cut before after look (locals, t, low, is) h there same =
+cuts_hold_looks s i region opening cut before after (locals, t, low, is) h p look there same =
     let a = adds s i region opening cut before after h in
     let long : length (local_at locals i).looked ≡ length a.looks + length before.looked = ap (λ (m : Local). length m.looked) is ∙ ap length a.looked ∙ length-append a.looks before.looked in
     cuts_hold_looked s locals i (length a.looks + p) (length before.cuts) look (given_with before region cut) t low

@@ -52,6 +52,10 @@ OwnEntriesAreCounts =
     (s : Shape) (i : ℕ) (region : Region) (opening : Opening) (cut : List ℕ) (before after : Local) → IsLocalOf s i after → HasScanned s.callers region opening cut before after
     → purpose_with before region opening ≢ For_nothing → slice_index cut i ≡ own_count after region
 
+-- The cut contains each count of the region that a caller with this local has looked at.
+abbrev pub HoldsLooks : Region → List ℕ → Local → Type 0
+HoldsLooks region cut l = (p : ℕ) (look : Looked) → slice_get l.looked p ≡ Some look → look.region ≡ region → look.count ≤ slice_index cut look.caller
+
 -- The cut contains each cut of the region that the caller was given before, and each count of it that the caller had looked at
 -- before the scan.
 abbrev pub CutsHoldGiven : Type 0
@@ -61,8 +65,8 @@ CutsHoldGiven =
 
 abbrev pub CutsHoldLooks : Type 0
 CutsHoldLooks =
-    (s : Shape) (i p : ℕ) (region : Region) (opening : Opening) (cut : List ℕ) (before after : Local) (look : Looked) → IsLocalOf s i after → HasScanned s.callers region opening cut before after
-    → slice_get before.looked p ≡ Some look → look.region ≡ region → look.count ≤ slice_index cut look.caller
+    (s : Shape) (i : ℕ) (region : Region) (opening : Opening) (cut : List ℕ) (before after : Local) → IsLocalOf s i after → HasScanned s.callers region opening cut before after
+    → HoldsLooks region cut before
 
 -- A caller knows each row below a cut that a scan gave it.
 abbrev pub GivenRowsAreKnown : Type 0

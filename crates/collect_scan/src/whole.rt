@@ -1,6 +1,7 @@
 ghost use Rattle.std.specs.Prelude.{◌≡◌, ◌+◌, ◌≤◌, length};
 ghost use Rattle.row_table.specs.Callers.{IsCallerOf, IsStill, local_with, stance_of};
 ghost use Rattle.collect_scan.specs.Scanned.{HasScanned, most_words};
+ghost use Rattle.collect_scan.specs.Given.{HoldsLooks};
 ghost use Rattle.collect_scan.specs.Turns.{MayScan, opening_at, stance_scanned};
 
 use crate::steps::{go_on, set_out};
@@ -9,7 +10,8 @@ use row_table::{Caller, Rows, Steps};
 use std::sync::ledger::Ledger;
 use world_core::{Program, Region};
 
-/// Scans a region, and answers the cut: the counts of the region at one moment of the scan.
+/// Scans a region, and answers the cut: the counts of the region at one moment of the scan. So it contains each
+/// count of the region that the caller had looked at before.
 ///
 /// Two equal collects end it. Where a caller has moved twice since the first collect, it ends with the cut
 /// that this caller's latest counted row embeds (Afek and others 1993). So a scan of `n` callers makes at
@@ -27,6 +29,7 @@ pub fn scan<P: Program, L: Ledger>(
     ensures caller { IsStill P.meaning rows.now caller.old caller.new }
     ensures stance { stance_of caller.new ≡ stance_scanned (stance_of caller.old) region }
     ensures scanned { HasScanned rows.now.callers region (opening_at caller.old region) result (local_with caller.old) (local_with caller.new) }
+    ensures looked { HoldsLooks region result (local_with caller.old) }
     ensures wide { length result ≡ rows.now.callers }
     ensures ticks { (steps.old ≤ steps.new) × (steps.new ≤ steps.old + most_words rows.now.callers) }
 {

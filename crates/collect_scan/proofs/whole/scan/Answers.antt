@@ -5,6 +5,7 @@ use Rattle.row_table.specs.Notes.{given_now}
 use Rattle.collect_scan.specs.Scanned.{local_in_scan}
 use Rattle.collect_scan.specs.Turns.{opening_at}
 use Rattle.collect_scan.proofs.Ending.{stood_goes, stood_stays, stood_scanned}
+use Rattle.collect_scan.proofs.Owning.{cuts_hold_looks}
 use Rattle.collect_scan.proofs.Turning.{scanning_short, scans_on, scanned_wide, left_fewer}
 use Rattle.collect_scan.proofs.whole.scan.Goals as goal
 
@@ -19,6 +20,11 @@ returns-in-Some-clause-wide g c =
     let some : 0 < c.args.rows.now.callers = omega (arith, c.requires.caller.seat.who) in
     scanned_wide c.args.rows.now.callers c.args.region (opening_at c.args.caller.now c.args.region) c.in-Some.cut (local_with c.args.caller.now) (local_with c.loop-cut.caller) some
     (returns-in-Some-clause-scanned g c)
+
+pub returns-in-Some-clause-looked : goal.returns-in-Some-clause-looked
+returns-in-Some-clause-looked g c =
+    cuts_hold_looks (shape_of g.P.Program.meaning c.args.rows.now) (who_of c.loop-cut.caller) c.args.region (opening_at c.args.caller.now c.args.region) c.in-Some.cut (local_with c.args.caller.now)
+    (local_with c.loop-cut.caller) c.loop-cut.invariant.still.0.seat.local (returns-in-Some-clause-scanned g c)
 
 -- The scan under way is the one of the invariant, and hasn't ended.
 pub go_on-requires-clause-goes : goal.go_on-requires-clause-goes
