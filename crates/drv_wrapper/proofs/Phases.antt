@@ -11,11 +11,12 @@ use Rattle.row_table.specs.declared.stance.Stance.{Stance}
 use Rattle.row_table.specs.Actions.{opening_in}
 use Rattle.row_table.specs.Stances.{opening_with}
 use Rattle.collect_scan.specs.Scanned.{HasScanned}
+use Rattle.collect_scan.specs.Given.{HoldsLooks}
 use Rattle.row_staging.specs.Staging.{local_announced}
 use Rattle.drv_wrapper.specs.Stands.{ready, replied}
 use Rattle.call_lines.specs.Phases.{progress_of}
 use Rattle.call_lines.specs.Progress.{after_announcing, after_viewing}
-use Rattle.call_lines.proofs.Accounts.{operations_are_calls, replies_are_no_records, views_make_records}
+use Rattle.call_lines.proofs.Accounts.{announced_account, operations_are_calls, replies_are_no_records, views_make_records}
 use Rattle.drv_wrapper.specs.Growth.{Grows}
 use Rattle.drv_wrapper.specs.Calling.{IsAsked, IsRecorded}
 use Rattle.drv_wrapper.specs.Events.{HasAnnounced, HasViewed}
@@ -38,13 +39,14 @@ pub record Views (n op reply : ℕ) (view : List ℕ) (l m : Local) : Type 0 whe
 
 -- an announcement, whose scan leaves the local so
 announced_row : (n op : ℕ) (l : Local) (cut : List ℕ) (looks : List Looked) (peeks : List Peeked) → HasPhase l → l.phase ≡ Announcing
-    → HasScanned n N Begins_scan cut l (scanned_for_row N cut looks peeks l) → Announces n op l (local_announced n op (scanned_for_row N cut looks peeks l))
-announced_row n op l cut looks peeks has phase scan =
+    → HasScanned n N Begins_scan cut l (scanned_for_row N cut looks peeks l) → HoldsLooks N cut l
+    → Announces n op l (local_announced n op (scanned_for_row N cut looks peeks l))
+announced_row n op l cut looks peeks has phase scan looked =
     let calls : unpublished_calls l.phase ≡ 0 = ap unpublished_calls phase in
     let m : Local = local_announced n op (scanned_for_row N cut looks peeks l) in
     let counted : l.announced ≡ l.published = omega (arith, has.announced, calls) in
     record {
-      events = record { cut = cut; scanned = scanned_for_row N cut looks peeks l; scan = scan; is = refl; embedded = refl; given = refl; object_steps = refl };
+      events = record { cut = cut; scanned = scanned_for_row N cut looks peeks l; scan = scan; is = refl; embedded = refl; given = refl; looked = looked; object_steps = refl };
       asked =
           record {
             asking = refl;
@@ -53,21 +55,21 @@ announced_row n op l cut looks peeks has phase scan =
             operation = get_or_push l.operations op 0 l.published (has.operations ∙ counted);
             scan = refl;
           };
-      progress = operations_are_calls l m op has phase refl;
+      progress = operations_are_calls l m op has phase (announced_account l m op refl refl);
       grows = grows_by l m looks peeks (record { region = N; cut = cut; since = length l.looked } ∷ []) refl refl refl;
     }
 
 -- of a caller in a reachable world, by how it stood before the scan
 pub announces : (s : Shape) (who op : ℕ) (cut : List ℕ) (stance : Stance) (l scanned m : Local) → IsLocalOf s who l → IsIdle l → stance ≡ ready
-    → HasScanned s.callers N (opening_in (opening_with (Some N) stance.reply)) cut l scanned → m ≡ local_announced s.callers op scanned → Announces s.callers op l m
-announces s who op cut stance l scanned m here idle stands scan is =
+    → HasScanned s.callers N (opening_in (opening_with (Some N) stance.reply)) cut l scanned → HoldsLooks N cut l → m ≡ local_announced s.callers op scanned → Announces s.callers op l m
+announces s who op cut stance l scanned m here idle stands scan looked is =
     let so : HasScanned s.callers N Begins_scan cut l scanned = subst (λ (x : Stance). HasScanned s.callers N (opening_in (opening_with (Some N) x.reply)) cut l scanned) stands scan in
     let (looks, peeks, leaves) = row_scanned s.callers N cut l scanned (ap (λ (p : Phase). is_staging p N) idle.announcing) idle.unstaged so in
     subst (Announces s.callers op l) (sym (is ∙ ap (local_announced s.callers op) leaves))
-    (announced_row s.callers op l cut looks peeks (local_has_phase s who l here) idle.announcing (subst (HasScanned s.callers N Begins_scan cut l) leaves so))
+    (announced_row s.callers op l cut looks peeks (local_has_phase s who l here) idle.announcing (subst (HasScanned s.callers N Begins_scan cut l) leaves so) looked)
 
 -- the phase is ask where the test says so
-asking_is : (p : Phase) → is_asking p ≡ true → p ≡ Asking
+pub asking_is : (p : Phase) → is_asking p ≡ true → p ≡ Asking
 asking_is Asking e = refl
 asking_is Announcing e = absurd cc
 asking_is Viewing e = absurd cc
@@ -97,8 +99,9 @@ replied_phase l reply has phase =
 
 -- a view, whose scan leaves the local so
 recorded_view : (n op reply : ℕ) (view : List ℕ) (l : Local) (looks : List Looked) (peeks : List Peeked) → HasPhase l → IsAsked op l
-    → HasScanned n N (Begins_view reply) view l (scanned_for_view reply view looks peeks l) → Views n op reply view l (scanned_for_view reply view looks peeks l)
-recorded_view n op reply view l looks peeks has asked scan =
+    → HasScanned n N (Begins_view reply) view l (scanned_for_view reply view looks peeks l) → HoldsLooks N view l
+    → Views n op reply view l (scanned_for_view reply view looks peeks l)
+recorded_view n op reply view l looks peeks has asked scan looked =
     let phase : l.phase ≡ Asking = asking_is l.phase asked.asking in
     let replies : unpublished_replies l.phase ≡ 0 = ap unpublished_replies phase in
     let views : unpublished_views l.phase ≡ 0 = ap unpublished_views phase in
@@ -107,7 +110,7 @@ recorded_view n op reply view l looks peeks has asked scan =
     let has_replies : length l.replies ≡ l.published = omega (arith, has.replies, replies) in
     let has_views : length l.views ≡ l.published = omega (arith, has.views, views) in
     record {
-      events = record { scan = scan; replies = refl; views = refl; given = refl; object_steps = refl };
+      events = record { scan = scan; replies = refl; views = refl; given = refl; looked = looked; object_steps = refl };
       recorded =
           record {
             publishing = refl;
@@ -125,9 +128,9 @@ recorded_view n op reply view l looks peeks has asked scan =
 
 -- of a caller in a reachable world, by how it stood before the scan
 pub views : (s : Shape) (who op reply : ℕ) (view : List ℕ) (stance : Stance) (l m : Local) → IsLocalOf s who l → IsAsked op l → stance ≡ replied reply
-    → HasScanned s.callers N (opening_in (opening_with (Some N) stance.reply)) view l m → Views s.callers op reply view l m
-views s who op reply view stance l m here asked stands scan =
+    → HasScanned s.callers N (opening_in (opening_with (Some N) stance.reply)) view l m → HoldsLooks N view l → Views s.callers op reply view l m
+views s who op reply view stance l m here asked stands scan looked =
     let so : HasScanned s.callers N (Begins_view reply) view l m = subst (λ (x : Stance). HasScanned s.callers N (opening_in (opening_with (Some N) x.reply)) view l m) stands scan in
     let (looks, peeks, leaves) = view_scanned s.callers reply view l m so in
     subst (Views s.callers op reply view l) (sym leaves)
-    (recorded_view s.callers op reply view l looks peeks (local_has_phase s who l here) asked (subst (HasScanned s.callers N (Begins_view reply) view l) leaves so))
+    (recorded_view s.callers op reply view l looks peeks (local_has_phase s who l here) asked (subst (HasScanned s.callers N (Begins_view reply) view l) leaves so) looked)

@@ -2,7 +2,6 @@ pub mod Stands
 pub mod Calling
 pub mod Growth
 pub mod Events
-pub mod Asking
 pub mod States
 pub mod ObjectSteps
 pub mod Telling

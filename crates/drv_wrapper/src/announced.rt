@@ -9,7 +9,9 @@ use world_core::Outside;
 
 /// A call that is announced: its operation stands in the table, and the object is not asked yet.
 ///
-/// The state has to be spent: by [`ask`](crate::ask), or by `stop`.
+/// It goes on by [`ask`](crate::ask), or ends by `stop`. One that is let go stays announced, and its caller makes no
+/// more steps.
+#[derive(Drop)]
 pub struct Announced<P = Outside> {
     pub(crate) caller: Caller<P>,
     pub(crate) op: OpWord,

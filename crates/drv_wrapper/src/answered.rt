@@ -9,7 +9,9 @@ use world_core::Outside;
 
 /// A call that the object has answered: the caller keeps the reply, with which the scan of its view begins.
 ///
-/// The state has to be spent: by [`view`](crate::view), or by `stop`.
+/// It goes on by [`view`](crate::view), or ends by `stop`. One that is let go stays announced, and its caller makes
+/// no more steps.
+#[derive(Drop)]
 pub struct Answered<P = Outside> {
     pub(crate) caller: Caller<P>,
     pub(crate) op: OpWord,

@@ -1,7 +1,7 @@
 ghost use Rattle.std.specs.Prelude.{◌≡◌, ◌≢◌, ℕ, ◌+◌, ◌%◌, ◌<◌, ◌^◌, ◌==◌, IfOk, IfErr};
 ghost use prog.Atomic.{either};
 ghost use Rattle.row_table.specs.Found.{found_by};
-ghost use Rattle.row_table.specs.Callers.{IsCallerOf};
+ghost use Rattle.row_table.specs.Callers.{IsCallerOf, MayGet};
 ghost use Rattle.row_table.specs.ObjectSteps.{MayStep};
 ghost use Rattle.drv_wrapper.specs.Stands.{IsSame};
 ghost use Rattle.drv_wrapper.specs.States.{caller_announced, op_announced, caller_answered, op_answered, reply_answered};
@@ -67,12 +67,14 @@ impl<P: InWorld> Announced<P> {
         rows.object_exchange(&mut self.caller, place, old, new)
     }
 
-    /// Keeps a reply that the caller found by its object steps. The program has to allow it at
-    /// [`view`](crate::view), which states that for the caller's local.
+    /// Keeps a reply that the caller found by its object steps, and that the program allows it by its local. It is
+    /// allowed still as [`view`](crate::view) hands it over.
     pub fn answer(self, reply: u64) -> Answered<P>
+        requires allowed { MayGet P.meaning (caller_announced self) reply }
         ensures caller { IsSame (caller_announced self) (caller_answered result) }
         ensures operation { op_answered result ≡ op_announced self }
         ensures reply { reply_answered result ≡ reply }
+        ensures allowed { MayGet P.meaning (caller_answered result) (reply_answered result) }
     {
         let Announced { mut caller, op } = self;
         caller.keep_reply(reply);

@@ -1,9 +1,8 @@
 ghost use Rattle.std.specs.Prelude.{◌≡◌, ℕ, ◌+◌, ◌≤◌, length};
-ghost use Rattle.row_table.specs.Callers.{local_with, IsCallerOf, IsStill};
+ghost use Rattle.row_table.specs.Callers.{local_with, MayGet, IsCallerOf, IsStill};
 ghost use Rattle.call_lines.specs.Phases.{progress_of};
 ghost use Rattle.call_lines.specs.Progress.{after_viewing};
 ghost use Rattle.collect_scan.specs.Scanned.{most_words};
-ghost use Rattle.drv_wrapper.specs.Asking.{MayGet};
 ghost use Rattle.drv_wrapper.specs.States.{caller_answered, op_answered, reply_answered, caller_viewed, op_viewed, reply_viewed, view_viewed, answered_local, viewed_local, record_viewed};
 ghost use Rattle.drv_wrapper.specs.Events.{HasViewed};
 ghost use Rattle.drv_wrapper.specs.Growth.{Grows};
@@ -27,7 +26,7 @@ pub fn view<P: Program, L: Ledger>(
     steps: &mut Steps<L>,
 ) -> Viewed<P>
     requires rows { IsCallerOf P.meaning rows.now (caller_answered answered) }
-    requires allowed { MayGet P.meaning rows.now (caller_answered answered) (reply_answered answered) }
+    requires allowed { MayGet P.meaning (caller_answered answered) (reply_answered answered) }
     ensures caller { IsStill P.meaning rows.now (caller_answered answered) (caller_viewed result) }
     ensures call { (op_viewed result ≡ op_answered answered) × (reply_viewed result ≡ reply_answered answered) }
     ensures wide { length (view_viewed result) ≡ rows.now.callers }

@@ -28,21 +28,21 @@ invariant_of-result g c =
     record {
       asked =
           (announces (shape_of g.P.Program.meaning c.args.rows.now) (who_of c.args.caller) c.args.op c.scan-cut.result (stance_of c.args.caller) (local_with c.args.caller) (local_with c.scan-cut.new.caller)
-          (local_with c.announce_row.new.caller) c.requires.rows.seat.local c.requires.idle c.requires.stands c.scan-cut.ensures.scanned c.announce_row.ensures.announced).asked;
+          (local_with c.announce_row.new.caller) c.requires.rows.seat.local c.requires.idle c.requires.stands c.scan-cut.ensures.scanned c.scan-cut.ensures.looked c.announce_row.ensures.announced).asked;
       stands = c.announce_row.ensures.stance ∙ c.scan-cut.ensures.stance ∙ ap (λ (stance : Stance). stance_scanned stance N) c.requires.stands;
     }
 
 pub returns-clause-progress : goal.returns-clause-progress
 returns-clause-progress g c =
     (announces (shape_of g.P.Program.meaning c.args.rows.now) (who_of c.args.caller) c.args.op c.scan-cut.result (stance_of c.args.caller) (local_with c.args.caller) (local_with c.scan-cut.new.caller)
-    (local_with c.announce_row.new.caller) c.requires.rows.seat.local c.requires.idle c.requires.stands c.scan-cut.ensures.scanned c.announce_row.ensures.announced).progress
+    (local_with c.announce_row.new.caller) c.requires.rows.seat.local c.requires.idle c.requires.stands c.scan-cut.ensures.scanned c.scan-cut.ensures.looked c.announce_row.ensures.announced).progress
 
 pub returns-clause-grows : goal.returns-clause-grows
 returns-clause-grows g c =
     (announces (shape_of g.P.Program.meaning c.args.rows.now) (who_of c.args.caller) c.args.op c.scan-cut.result (stance_of c.args.caller) (local_with c.args.caller) (local_with c.scan-cut.new.caller)
-    (local_with c.announce_row.new.caller) c.requires.rows.seat.local c.requires.idle c.requires.stands c.scan-cut.ensures.scanned c.announce_row.ensures.announced).grows
+    (local_with c.announce_row.new.caller) c.requires.rows.seat.local c.requires.idle c.requires.stands c.scan-cut.ensures.scanned c.scan-cut.ensures.looked c.announce_row.ensures.announced).grows
 
 pub returns-clause-announced : goal.returns-clause-announced
 returns-clause-announced g c =
     (announces (shape_of g.P.Program.meaning c.args.rows.now) (who_of c.args.caller) c.args.op c.scan-cut.result (stance_of c.args.caller) (local_with c.args.caller) (local_with c.scan-cut.new.caller)
-    (local_with c.announce_row.new.caller) c.requires.rows.seat.local c.requires.idle c.requires.stands c.scan-cut.ensures.scanned c.announce_row.ensures.announced).events
+    (local_with c.announce_row.new.caller) c.requires.rows.seat.local c.requires.idle c.requires.stands c.scan-cut.ensures.scanned c.scan-cut.ensures.looked c.announce_row.ensures.announced).events
