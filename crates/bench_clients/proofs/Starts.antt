@@ -8,7 +8,7 @@ use Rattle.world_core.specs.Shape.{Meaning}
 use Rattle.world_core.specs.Local.{Local, IsIdle}
 use Rattle.world_core.specs.Calls.{Made, calls_in}
 use Rattle.call_lines.specs.declared.line.Line.{Line}
-use Rattle.call_lines.specs.Phases.{Progress, IsProgressAfter, IsTold, HasMade, progress_of, asked}
+use Rattle.call_lines.specs.Phases.{Progress, no_progress, IsProgressAfter, IsTold, HasMade, progress_of, asked}
 use Rattle.call_lines.specs.Allotments.{phases_for, stop_at, operations_at, allotments_of}
 use Rattle.row_table.specs.declared.caller.Caller.{Caller}
 use Rattle.row_table.specs.declared.rows.Rows.{Rows}
@@ -30,7 +30,7 @@ use Rattle.bench_clients.specs.declared.worker.Worker.{Worker}
 use Rattle.reports.specs.declared.report.Own.{Own}
 
 -- a caller without calls has made no phase
-pub no_phase : (operations : List ℕ) → IsProgressAfter operations 0 (record { calls = []; published = 0 })
+pub no_phase : (operations : List ℕ) → IsProgressAfter operations 0 no_progress
 no_phase operations = record { in_order = refl; marks = refl; published = refl }
 
 module _ {P : Type 0} where

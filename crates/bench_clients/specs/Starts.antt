@@ -2,7 +2,7 @@
 use Rattle.std.specs.Prelude.{◌≡◌, ℕ, ◌+◌, ◌*◌, ◌<◌, ◌≤◌, List, [], Option, Some, None, IfSome, length, slice_index, vec_capacity}
 use Rattle.world_core.specs.Shape.{Meaning}
 use Rattle.world_core.specs.Local.{Local, IsIdle}
-use Rattle.call_lines.specs.Phases.{progress_of}
+use Rattle.call_lines.specs.Phases.{progress_of, no_progress}
 use Rattle.call_lines.specs.Allotments.{operations_at, allotments_of}
 use Rattle.row_table.specs.declared.rows.Rows.{Rows}
 use Rattle.row_table.specs.declared.caller.Caller.{Caller}
@@ -34,19 +34,19 @@ module _ {P : Type 0} where
     pub callers : r.callers ≡ length plan.operations
     pub cap : (i : ℕ) → length (operations_at plan.operations i) ≤ r.cap
 
-  -- A caller is live, idle and without calls.
+  -- A caller is live and idle, without calls, and so without object steps.
   pub record IsFresh (c : Caller P) : Type 0 where
     pub stance : stance_of c ≡ ready
     pub idle : IsIdle (local_with c)
-    pub none : progress_of (local_with c) ≡ record { calls = []; published = 0 }
+    pub none : progress_of (local_with c) ≡ no_progress
 
-  -- The bench holds this caller, live, idle and without calls.
+  -- The bench holds this caller, live and idle, without calls, and so without object steps.
   pub record IsUnused (b : Bench P) (i : ℕ) : Type 0 where
     pub local : Local
     pub here : on_bench b i ≡ Some local
     pub stance : stance_on b i ≡ Some ready
     pub idle : IsIdle local
-    pub none : progress_of local ≡ record { calls = []; published = 0 }
+    pub none : progress_of local ≡ no_progress
 
   -- Of n callers the second bench holds those below k, each as the first has it, and no other.
   pub record HoldsBelow (n k : ℕ) (b c : Bench P) : Type 0 where

@@ -12,8 +12,7 @@ use Rattle.call_lines.specs.Progress.{after_announcing, after_viewing, after_pub
 use Rattle.report_laws.proofs.Stepping.{viewing_is_a_phase}
 use Rattle.row_table.specs.declared.caller.Caller.{Caller}
 use Rattle.row_table.specs.declared.rows.Rows.{Rows}
-use Rattle.row_table.specs.Callers.{local_with, IsStill}
-use Rattle.drv_wrapper.specs.Asking.{MayGet}
+use Rattle.row_table.specs.Callers.{local_with, MayGet, IsStill}
 use Rattle.drv_wrapper.specs.Growth.{Grows}
 use Rattle.drv_wrapper.specs.declared.announced.Announced.{Announced}
 use Rattle.drv_wrapper.specs.declared.answered.Answered.{Answered}
@@ -77,7 +76,7 @@ module _ {P : Type 0} (meaning : P → ℕ → ℕ → Meaning) (r : Rows P) (sa
       }
 
   pub answered_come : (a : Announced P) (b : Answered P) → Come (at.Announced a)
-      → IsStill meaning r (caller_announced a) (caller_answered b) → op_answered b ≡ op_announced a → MayGet meaning r (caller_answered b) (reply_answered b)
+      → IsStill meaning r (caller_announced a) (caller_answered b) → op_answered b ≡ op_announced a → MayGet meaning (caller_answered b) (reply_answered b)
       → progress_of (answered_local b) ≡ progress_of (announced_local a) → Grows (announced_local a) (answered_local b) → Come (at.Answered b)
   answered_come a b h still is may progress grows =
       record {

@@ -2,7 +2,7 @@
 use Rattle.std.specs.Prelude.{◌≡◌, ℕ, List, [], ◌∷◌, ◌++◌, true, false}
 use Rattle.book_base.specs.declared.call.Record.{Record}
 use Rattle.world_core.specs.Shape.{Meaning}
-use Rattle.world_core.specs.Local.{Local, IsIdle}
+use Rattle.world_core.specs.Local.{Local}
 use Rattle.call_lines.specs.declared.line.LineEnd.{LineEnd}
 use Rattle.call_lines.specs.declared.line.Line.{Line}
 use Rattle.call_lines.specs.Lines.{is_error}
@@ -10,8 +10,7 @@ use Rattle.call_lines.specs.Phases.{progress_of}
 use Rattle.call_lines.specs.Progress.{after_seeing}
 use Rattle.row_table.specs.declared.rows.Rows.{Rows}
 use Rattle.row_table.specs.declared.caller.Caller.{Caller}
-use Rattle.row_table.specs.Callers.{local_with, stance_of, IsStill}
-use Rattle.drv_wrapper.specs.Stands.{ready}
+use Rattle.row_table.specs.Callers.{local_with, stance_of, IsFree, IsStill}
 use Rattle.drv_wrapper.specs.Growth.{Grows}
 use Rattle.enforcer.specs.declared.published_call.Published.{Published}
 use Rattle.enforcer.specs.declared.seen_call.Seen.{Seen}
@@ -45,11 +44,6 @@ module _ {P : Type 0} where
 
   abbrev pub local_ended : Ended P → Local
   local_ended e = local_with (caller_ended e)
-
-  -- The caller goes on from one call to the next: it is live and idle.
-  pub record IsFree (c : Caller P) : Type 0 where
-    pub idle : IsIdle (local_with c)
-    pub stance : stance_of c ≡ ready
 
   -- A caller goes on behind a line that isn't an error, and is halted behind one that is, and where memory was wanted.
   abbrev pub StandsBehind : Ended P → Type 0

@@ -1,4 +1,3 @@
-pub mod Allowing
 pub mod Ends
 pub mod Staying
 pub mod Endings

@@ -5,11 +5,10 @@ use Rattle.world_core.specs.Local.{Local}
 use Rattle.world_core.specs.Calls.{Is_announced, Has_record, Has_seen, Made}
 use Rattle.row_table.specs.declared.caller.Caller.{Caller}
 use Rattle.row_table.specs.declared.rows.Rows.{Rows}
-use Rattle.row_table.specs.Callers.{local_with, stance_of}
-use Rattle.drv_wrapper.specs.Asking.{MayGet}
+use Rattle.row_table.specs.Callers.{local_with, stance_of, IsFree, MayGet}
 use Rattle.drv_wrapper.specs.States.{caller_announced, op_announced, caller_answered, op_answered, reply_answered, caller_viewed, reply_viewed, view_viewed}
 use Rattle.enforcer.specs.States.{caller_published, reply_published, view_published}
-use Rattle.call_phases.specs.Endings.{IsFree, record_unjudged}
+use Rattle.call_phases.specs.Endings.{record_unjudged}
 use Rattle.call_phases.specs.declared.stand.Stand.{Stand}
 use Rattle.call_phases.specs.declared.stand.Stand.TheVariants.{Idle, Announced, Answered, Viewed, Published, Halted, Unjudged}
 
@@ -55,7 +54,7 @@ module _ {P : Type 0} where
   abbrev pub MayGoOn : (P → ℕ → ℕ → Meaning) → Rows P → ℕ → Stand P → Type 0
   MayGoOn meaning r op (Idle c) = IsFree c
   MayGoOn meaning r op (Announced a) = op_announced a ≡ op
-  MayGoOn meaning r op (Answered a) = (op_answered a ≡ op) × MayGet meaning r (caller_answered a) (reply_answered a)
+  MayGoOn meaning r op (Answered a) = (op_answered a ≡ op) × MayGet meaning (caller_answered a) (reply_answered a)
   MayGoOn meaning r op (Viewed v) = length (view_viewed v) ≡ r.callers
   MayGoOn meaning r op (Published p) = Unit {0}
   MayGoOn meaning r op (Halted c) = (stance_of c).live ≡ false

@@ -1,7 +1,6 @@
 ghost use Rattle.std.specs.Prelude.{◌≡◌, ℕ, ◌+◌, ◌<◌, List, Option};
 ghost use Rattle.call_lines.specs.Phases.{progress_of};
-ghost use Rattle.row_table.specs.Callers.{who_of, StaysWith};
-ghost use Rattle.call_phases.specs.Allowing.{IsAllowed};
+ghost use Rattle.row_table.specs.Callers.{who_of, MayGet, StaysWith};
 ghost use Rattle.drv_wrapper.specs.Growth.{Grows};
 ghost use Rattle.drv_wrapper.specs.States.{caller_announced, who_announced, op_announced, announced_local, caller_answered, op_answered, reply_answered, answered_local};
 ghost use Rattle.drv_wrapper.specs.Telling.{told_after};
@@ -40,7 +39,7 @@ pub trait Asks {
         ensures who { who_of (caller_answered result) ≡ who_announced announced }
         ensures rows { StaysWith (caller_announced announced) (caller_answered result) }
         ensures operation { op_answered result ≡ op_announced announced }
-        ensures allowed { IsAllowed Self.Program.meaning (caller_announced announced) (caller_answered result) (reply_answered result) }
+        ensures allowed { MayGet Self.Program.meaning (caller_answered result) (reply_answered result) }
         ensures progress { progress_of (answered_local result) ≡ progress_of (announced_local announced) }
         ensures grows { Grows (announced_local announced) (answered_local result) }
         ensures own { is_own self.now pass.new (who_announced announced) }

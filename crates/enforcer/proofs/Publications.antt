@@ -16,7 +16,9 @@ use Rattle.drv_wrapper.specs.Growth.{Grows}
 use Rattle.drv_wrapper.specs.Calling.{IsRecorded}
 use Rattle.drv_wrapper.proofs.Growing.{grows_by}
 use Rattle.drv_wrapper.proofs.Scans.{scanned_for_row, row_scanned}
+use Rattle.collect_scan.specs.Given.{HoldsLooks}
 use Rattle.enforcer.specs.Recorded.{IsPublishing}
+use Rattle.enforcer.specs.Events.{IsPublication}
 use Rattle.enforcer.proofs.Standing.{publishing_is, unstaged_is}
 
 -- The scan before a publication leaves its cut to be embedded, and the record as it is.
@@ -63,3 +65,21 @@ readies_of s op reply view said shown cut stance l k m same_reply same_view same
     subst (λ (x : ℕ). Readies s.callers x shown cut l m) (sym same_reply)
     (subst (λ (v : List ℕ). Readies s.callers reply v cut l m) (sym same_view)
     (readies s.callers op reply view cut l m view_wide wide recorded (subst (λ (x : Local). HasScanned s.callers M Begins_scan cut x m) same h)))
+
+-- of a scan that its caller made with this local, for the row that was published then
+pub publication : (n op reply : ℕ) (view cut : List ℕ) (l k scanned m : Local) → k ≡ l → IsRecorded op reply view l → HasScanned n M Begins_scan cut k scanned → HoldsLooks M cut k
+    → m ≡ local_after n scanned Publish → IsPublication n l m
+publication n op reply view cut l k scanned m same recorded scan looked is =
+    let h : HasScanned n M Begins_scan cut l scanned = subst (λ (x : Local). HasScanned n M Begins_scan cut x scanned) same scan in
+    let phase = publishing_is l.phase recorded.publishing in
+    let (looks, peeks, leaves) = row_scanned n M cut l scanned (ap (λ (p : Phase). is_staging p M) phase) (unstaged_is l.staged recorded.unstaged) h in
+    let row : m ≡ local_after n (scanned_for_row M cut looks peeks l) Publish = is ∙ ap (λ (x : Local). local_after n x Publish) leaves in
+    record {
+      cut = cut;
+      scanned = scanned;
+      scan = h;
+      is = is;
+      embedded = ap (λ (x : Local). x.embedded_in_M) row;
+      given = ap (λ (x : Local). x.cuts) row;
+      looked = subst (HoldsLooks M cut) same looked;
+    }

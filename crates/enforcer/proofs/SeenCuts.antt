@@ -11,12 +11,13 @@ use Rattle.call_lines.specs.Phases.{progress_of}
 use Rattle.call_lines.specs.Progress.{after_seeing}
 use Rattle.call_lines.proofs.Accounts.{seen_cuts_are_of_the_last_call}
 use Rattle.collect_scan.specs.Scanned.{Found, found_by, scan_with, local_in_scan, HasScanned}
-use Rattle.collect_scan.specs.Given.{purpose_with}
+use Rattle.collect_scan.specs.Given.{purpose_with, HoldsLooks}
 use Rattle.collect_scan.proofs.Owning.{own_entries_are_counts}
 use Rattle.drv_wrapper.specs.Growth.{Grows}
 use Rattle.drv_wrapper.proofs.Growing.{grows_by}
 use Rattle.drv_wrapper.proofs.Locals.{local_has_phase}
 use Rattle.enforcer.specs.Recorded.{IsPublishing, HasSeen, last_of_M}
+use Rattle.enforcer.specs.Events.{IsSight}
 use Rattle.enforcer.proofs.Standing.{judging_is}
 
 -- the local after a scan that gave the seen cut
@@ -85,3 +86,8 @@ sees s who now reply view cut l m here there publishing h =
           ∙ seen_cuts_are_of_the_last_call l (scanned_for_seen cut looks peeks l) cut has phase refl;
       grows = subst (Grows l) (sym is) (grows_by l (scanned_for_seen cut looks peeks l) looks peeks (record { region = M; cut = cut; since = length l.looked } ∷ []) refl refl refl);
     }
+
+pub sight : (n reply : ℕ) (view cut : List ℕ) (l m : Local) → IsPublishing reply view l → HasScanned n M Begins_scan cut l m → HoldsLooks M cut l → IsSight n cut l m
+sight n reply view cut l m publishing h looked =
+    let (looks, peeks, is) = seen_scanned n cut l m (judging_is l.phase publishing.judging) h in
+    record { scan = h; given = ap (λ (x : Local). x.cuts) is; looked = looked; seen = ap (λ (x : Local). x.seen) is }

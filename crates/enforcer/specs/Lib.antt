@@ -3,3 +3,4 @@ pub mod States
 pub mod Judged
 pub mod Enforced
 pub mod Kept
+pub mod Events

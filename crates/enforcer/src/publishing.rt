@@ -5,6 +5,7 @@ ghost use Rattle.call_lines.specs.Phases.{progress_of};
 ghost use Rattle.call_lines.specs.Progress.{after_publishing};
 ghost use Rattle.drv_wrapper.specs.Growth.{Grows};
 ghost use Rattle.drv_wrapper.specs.States.{caller_viewed, reply_viewed, view_viewed};
+ghost use Rattle.enforcer.specs.Events.{IsPublication};
 ghost use Rattle.enforcer.specs.States.{caller_published, reply_published, view_published};
 
 use crate::published_call::Published;
@@ -16,7 +17,8 @@ use std::sync::ledger::Ledger;
 use world_core::{Program, Region};
 
 /// Publishes the record of a call: scans M, stages reply and view with the cut of this scan in the caller's row of
-/// M, and raises the caller's count there. From then on every cut that is seen holds the record.
+/// M, and raises the caller's count there. The scan begins after the view was taken, and its cut contains each count
+/// of M that the caller had looked at. From then on every cut that is seen holds the record.
 ///
 /// It ticks at most as often as one scan, and takes no memory.
 pub fn publish<P: Program, L: Ledger>(
@@ -28,6 +30,7 @@ pub fn publish<P: Program, L: Ledger>(
     requires wide { length (view_viewed viewed) ≡ rows.now.callers }
     ensures caller { IsStill P.meaning rows.now (caller_viewed viewed) (caller_published result) }
     ensures record { (reply_published result ≡ reply_viewed viewed) × (view_published result ≡ view_viewed viewed) }
+    ensures published { IsPublication rows.now.callers (local_with (caller_viewed viewed)) (local_with (caller_published result)) }
     ensures progress { progress_of (local_with (caller_published result)) ≡ after_publishing (progress_of (local_with (caller_viewed viewed))) }
     ensures grows { Grows (local_with (caller_viewed viewed)) (local_with (caller_published result)) }
     ensures ticks { (steps.old ≤ steps.new) × (steps.new ≤ steps.old + most_words rows.now.callers) }

@@ -5,6 +5,7 @@ ghost use Rattle.call_lines.specs.Phases.{progress_of};
 ghost use Rattle.call_lines.specs.Progress.{after_seeing};
 ghost use Rattle.drv_wrapper.specs.Growth.{Grows};
 ghost use Rattle.enforcer.specs.Recorded.{HoldsOwn};
+ghost use Rattle.enforcer.specs.Events.{IsSight};
 ghost use Rattle.enforcer.specs.States.{caller_published, reply_published, view_published, caller_seen, reply_seen, view_seen, cut_seen};
 
 use crate::published_call::Published;
@@ -28,6 +29,7 @@ pub fn seen<P: Program, L: Ledger>(
     ensures record { (reply_seen result ≡ reply_published published) × (view_seen result ≡ view_published published) }
     ensures wide { length (cut_seen result) ≡ rows.now.callers }
     ensures own { HoldsOwn (cut_seen result) (caller_seen result) }
+    ensures seen { IsSight rows.now.callers (cut_seen result) (local_with (caller_published published)) (local_with (caller_seen result)) }
     ensures progress { progress_of (local_with (caller_seen result)) ≡ after_seeing (cut_seen result) (progress_of (local_with (caller_published published))) }
     ensures grows { Grows (local_with (caller_published published)) (local_with (caller_seen result)) }
     ensures ticks { (steps.old ≤ steps.new) × (steps.new ≤ steps.old + most_words rows.now.callers) }

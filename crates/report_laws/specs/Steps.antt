@@ -1,12 +1,12 @@
 -- A caller's phases, one by one: what each does to how far the caller has come.
 use Rattle.std.specs.Prelude.{ℕ, ◌+◌, ◌*◌, ◌<◌, List, [], length, slice_index}
 use Rattle.book_base.specs.declared.call.Record.{Record}
-use Rattle.call_lines.specs.Phases.{Progress, IsProgressAfter}
+use Rattle.call_lines.specs.Phases.{Progress, no_progress, IsProgressAfter}
 use Rattle.call_lines.specs.Progress.{after_announcing, after_viewing, after_publishing, after_seeing}
 
--- Before its first phase a caller has no calls, and has published nothing.
+-- Before its first phase a caller has no calls.
 abbrev pub NoPhaseIsMade : Type 0
-NoPhaseIsMade = (operations : List ℕ) → IsProgressAfter operations 0 (record { calls = []; published = 0 })
+NoPhaseIsMade = (operations : List ℕ) → IsProgressAfter operations 0 no_progress
 
 -- With k calls judged, a caller that has an operation left announces it.
 abbrev pub AnnouncingIsAPhase : Type 0

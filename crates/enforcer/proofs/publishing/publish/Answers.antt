@@ -9,7 +9,7 @@ use Rattle.call_lines.specs.Phases.{progress_of}
 use Rattle.drv_wrapper.specs.Growth.{Grows}
 use Rattle.enforcer.specs.Recorded.{IsPublishing}
 use Rattle.enforcer.proofs.Standing.{publishing_is, publishing_is_free, may_scan}
-use Rattle.enforcer.proofs.Publications.{readies_of}
+use Rattle.enforcer.proofs.Publications.{readies_of, publication}
 use Rattle.enforcer.proofs.publishing.publish.Goals as goal
 
 pub scan-cut-requires-clause-caller : goal.scan-cut-requires-clause-caller
@@ -63,3 +63,9 @@ returns-clause-grows g c =
     (readies_of (shape_of g.P.Program.meaning c.args.rows.now) v.op v.reply v.view c.reply-reply.result c.view-view.result c.scan-cut.result (stance_of c.into_caller-caller.result) (local_with v.caller)
     (local_with c.into_caller-caller.result) (local_with c.scan-cut.new.caller) c.reply-reply.ensures c.view-view.ensures c.into_caller-caller.ensures.caller.local c.requires.wide
     c.scan-cut.ensures.wide v.recorded c.scan-cut.ensures.scanned).grows
+
+pub returns-clause-published : goal.returns-clause-published
+returns-clause-published g c =
+    let v = c.args.viewed in
+    publication c.args.rows.now.callers v.op v.reply v.view c.scan-cut.result (local_with v.caller) (local_with c.into_caller-caller.result) (local_with c.scan-cut.new.caller)
+    (local_with c.publish_row.new.caller) c.into_caller-caller.ensures.caller.local v.recorded c.scan-cut.ensures.scanned c.scan-cut.ensures.looked c.publish_row.ensures.published

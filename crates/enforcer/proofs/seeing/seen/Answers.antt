@@ -4,7 +4,7 @@ use Rattle.row_table.specs.declared.stance.Stance.{Stance}
 use Rattle.row_table.specs.Callers.{shape_of, who_of, local_with}
 use Rattle.collect_scan.specs.Turns.{stance_scanned}
 use Rattle.enforcer.proofs.Standing.{judging_is, judging_is_free, may_scan}
-use Rattle.enforcer.proofs.SeenCuts.{sees}
+use Rattle.enforcer.proofs.SeenCuts.{sees, sight}
 use Rattle.enforcer.proofs.seeing.seen.Goals as goal
 
 pub scan-cut-requires-clause-begins : goal.scan-cut-requires-clause-begins
@@ -43,3 +43,8 @@ returns-clause-grows g c =
     let p = c.args.published in
     (sees (shape_of g.P.Program.meaning c.args.rows.now) (who_of p.caller) (who_of c.scan-cut.new.caller) p.reply p.view c.scan-cut.result (local_with p.caller) (local_with c.scan-cut.new.caller) c.requires.rows.seat.local
     c.scan-cut.ensures.caller.0.seat.local p.publishing c.scan-cut.ensures.scanned).grows
+
+pub returns-clause-seen : goal.returns-clause-seen
+returns-clause-seen g c =
+    let p = c.args.published in
+    sight c.args.rows.now.callers p.reply p.view c.scan-cut.result (local_with p.caller) (local_with c.scan-cut.new.caller) p.publishing c.scan-cut.ensures.scanned c.scan-cut.ensures.looked

@@ -86,7 +86,7 @@ returns-clause-course g c =
           let come = come_at _ _ w.in-Announced.is c.requires.course in
           come_with s _ h old w.stand-is w.sheet-is meaning rows says object
           (answered_come meaning rows (says (object old.ending)) stays old.who old.operations.now old.lines.items w.in-Announced.announced w.ask.result come
-          (w.ask.ensures.rows _ rows come.caller, w.ask.ensures.who) w.ask.ensures.operation (w.ask.ensures.allowed rows come.caller) w.ask.ensures.progress w.ask.ensures.grows)
+          (w.ask.ensures.rows _ rows come.caller, w.ask.ensures.who) w.ask.ensures.operation w.ask.ensures.allowed w.ask.ensures.progress w.ask.ensures.grows)
       | in-Answered w ↦
           come_with s _ h old w.stand-is w.sheet-is meaning rows says object
           (viewed_come meaning rows (says (object old.ending)) stays old.who old.operations.now old.lines.items w.in-Answered.answered w.view.result (come_at _ _ w.in-Answered.is c.requires.course)
