@@ -1,6 +1,6 @@
 -- A counter: what an operation makes of its list, and the reply.
-use Rattle.std.proofs.Common.{◌≡◌, ℕ, ◌+◌, ◌%◌, ◌^◌, ◌≤◌, false, List, [], ◌∷◌, length, Option, Some, None, if◌then◌else◌, ap, arith}
-use Rattle.std.proofs.lemmas.Bool.{cond-false}
+use Rattle.std.proofs.Common.{◌≡◌, ℕ, ◌+◌, ◌%◌, ◌^◌, ◌≤◌, true, false, List, [], ◌∷◌, length, Option, Some, None, if◌then◌else◌, ap, arith}
+use Rattle.std.proofs.lemmas.Bool.{cond-true, cond-false}
 use Rattle.book_base.specs.declared.TheConstants.{BAD}
 use Rattle.seq_objects.specs.declared.kind.Kind.TheVariants as kinds
 use Rattle.seq_objects.specs.declared.counter.CounterOperation.{CounterOperation}
@@ -36,3 +36,13 @@ pub counter_after-unknown : (list : List ℕ) (word : ℕ) → is_known_word kin
     → counter_after list (counter_operation word) ≡ (list, BAD)
 counter_after-unknown list word unknown =
     ap (counter_after list) (counter_operation-unknown word unknown)
+
+pub counter_after-inc : (list : List ℕ) (word : ℕ) → is_operation_of word words.inc ≡ true
+    → counter_after list (counter_operation word) ≡ ((first_or_zero list + 1) % 2 ^ 32 ∷ [], reply_value (first_or_zero list))
+counter_after-inc list word inc =
+    ap (counter_after list) (cond-true (is_operation_of word words.inc) _ _ inc)
+
+pub counter_after-other : (list : List ℕ) (word : ℕ) → is_operation_of word words.inc ≡ false
+    → counter_after list (counter_operation word) ≡ (list, BAD)
+counter_after-other list word not_inc =
+    ap (counter_after list) (cond-false (is_operation_of word words.inc) _ _ not_inc)

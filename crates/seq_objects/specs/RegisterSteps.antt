@@ -1,6 +1,6 @@
 -- A register: what an operation makes of its list, and the reply.
-use Rattle.std.proofs.Common.{◌≡◌, ℕ, ◌+◌, ◌≤◌, false, List, [], ◌∷◌, length, Option, Some, None, if◌then◌else◌, ap, ◌∙◌, arith}
-use Rattle.std.proofs.lemmas.Bool.{cond-false}
+use Rattle.std.proofs.Common.{◌≡◌, ℕ, ◌+◌, ◌≤◌, true, false, List, [], ◌∷◌, length, Option, Some, None, if◌then◌else◌, ap, ◌∙◌, arith}
+use Rattle.std.proofs.lemmas.Bool.{cond-true, cond-false}
 use Rattle.book_base.specs.declared.TheConstants.{BAD}
 use Rattle.seq_objects.specs.declared.kind.Kind.TheVariants as kinds
 use Rattle.seq_objects.specs.declared.register.RegisterOperation.{RegisterOperation}
@@ -42,3 +42,20 @@ pub register_after-unknown : (list : List ℕ) (word : ℕ) → is_known_word ki
     → register_after list (register_operation word) ≡ (list, BAD)
 register_after-unknown list word unknown =
     ap (register_after list) (register_operation-unknown word unknown)
+
+pub register_after-write : (list : List ℕ) (word : ℕ) → is_operation_of word words.write ≡ true
+    → register_after list (register_operation word) ≡ (argument_of word ∷ [], reply_done)
+register_after-write list word write =
+    ap (register_after list) (cond-true (is_operation_of word words.write) _ _ write)
+
+pub register_after-read : (list : List ℕ) (word : ℕ) → is_operation_of word words.write ≡ false → is_operation_of word words.read ≡ true
+    → register_after list (register_operation word) ≡ (list, reply_value (first_or_zero list))
+register_after-read list word not_write read =
+    ap (register_after list)
+    (cond-false (is_operation_of word words.write) _ _ not_write ∙ cond-true (is_operation_of word words.read) _ _ read)
+
+pub register_after-other : (list : List ℕ) (word : ℕ) → is_operation_of word words.write ≡ false → is_operation_of word words.read ≡ false
+    → register_after list (register_operation word) ≡ (list, BAD)
+register_after-other list word not_write not_read =
+    ap (register_after list)
+    (cond-false (is_operation_of word words.write) _ _ not_write ∙ cond-false (is_operation_of word words.read) _ _ not_read)

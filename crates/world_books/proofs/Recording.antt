@@ -1,73 +1,36 @@
 -- What the object history of a run has of the locals that the run leads to.
-use Rattle.std.proofs.Common.{◌≡◌, ℕ, zero, suc, ◌<◌, ◌≤◌, Bool, true, false, ◌&&◌, ◌==◌, nat_lt, List, [], ◌∷◌, ◌++◌, length, Option, Some, None, slice_get, refl, sym, ap, ◌∙◌, subst, arith, IsTrue, inl, inr, length-append, append_assoc}
+use Rattle.std.proofs.Common.{◌≡◌, ℕ, zero, suc, ◌<◌, ◌≤◌, true, false, ◌==◌, nat_lt, List, [], ◌∷◌, ◌++◌, length, Some, slice_get, refl, sym, ap, ◌∙◌, subst, arith, IsTrue, inl, inr, length-append, append_assoc}
 use Rattle.std.specs.Prelude.{Contains}
-use Rattle.std.proofs.lemmas.Bool.{and_parts, eqb-true, cases_eq, cases_lt, cond_both}
+use Rattle.std.proofs.lemmas.Bool.{and_parts, eqb-true, cases_eq, cases_lt}
 use Rattle.std.proofs.lemmas.List.Elements.{Contains-append_left, Contains-append_right, Contains-append_cases}
 use Rattle.list_laws.proofs.Places.{slice_get-push_old, slice_get-push_last}
 use Rattle.book_base.specs.declared.call.Call.{Call}
 use Rattle.world_core.specs.declared.region.Region.{Region}
 use Rattle.world_core.specs.declared.region.Region.TheVariants.{N, M}
-use Rattle.world_core.specs.declared.want.Want.{Want}
-use Rattle.world_core.specs.declared.want.Want.TheVariants.{Look as Wants_look, Peek as Wants_peek, Done}
 use Rattle.world_core.specs.Shape.{Shape}
-use Rattle.world_core.specs.Local.{Phase, Announcing, Asking, Viewing, Publishing, Judging, Local, Scan}
-use Rattle.world_core.specs.Scan.{wanted}
-use Rattle.world_core.specs.Event.{Event, Stage, Announce, Object, Look, Peek, Publish, Opening, Begins_none, Begins_scan, Begins_view, may_happen, may_begin, local_after, opened, fed, went_on, with_word, with_look, with_peek, given_by, served, purpose_of, Purpose, For_row, For_view, For_seen, For_nothing, is_asking, is_same_region, is_look_wanted, is_peek_wanted, staged_operation}
+use Rattle.world_core.specs.Local.{Asking, Local}
+use Rattle.world_core.specs.Event.{Event, Stage, Announce, Object, Look, Peek, Publish, Begins_none, Begins_scan, Begins_view, may_happen, may_begin, local_after, with_peek, is_asking, is_peek_wanted, staged_operation}
 use Rattle.world_core.specs.World.{World, Step, local_of, after, is_possible, after_all, are_possible}
 use Rattle.world_core.specs.History.{Happening, Invoked, Returned, happenings, history_from, call_of}
 use Rattle.world_laws.specs.Views.{return_of}
 use Rattle.world_laws.proofs.Running.{Kept, step_kept, possible, own_local, other_local}
-
--- The operations and replies of two locals are the same.
-record SameCalls (l m : Local) : Type 0 where
-  operations : m.operations ≡ l.operations
-  replies : m.replies ≡ l.replies
-
-served_calls : (l : Local) (p : Purpose) (cut : List ℕ) → SameCalls l (served l p cut)
-served_calls l For_row cut = record { operations = refl; replies = refl }
-served_calls l For_view cut = record { operations = refl; replies = refl }
-served_calls l For_seen cut = record { operations = refl; replies = refl }
-served_calls l For_nothing cut = record { operations = refl; replies = refl }
-
-went_on_calls : (l : Local) (scan : Scan) (want : Want) → SameCalls l (went_on l scan want)
-went_on_calls l scan (Done cut) =
-    let h = served_calls (record l { scan = None; cuts = l.cuts ++ given_by scan cut ∷ [] }) (purpose_of l.phase l.staged scan) cut in
-    record { operations = h.operations; replies = h.replies }
-went_on_calls l scan (Wants_look i) = record { operations = refl; replies = refl }
-went_on_calls l scan (Wants_peek i k e) = record { operations = refl; replies = refl }
-
-fed_calls : (n : ℕ) (l : Local) (o : Option Scan) (q : Region) (is_it : Want → Bool) (x : ℕ) → SameCalls l (fed n l o q is_it x)
-fed_calls n l None q is_it x = record { operations = refl; replies = refl }
-fed_calls n l (Some scan) q is_it x =
-    cond_both (is_same_region scan.region q && is_it (wanted n scan.taken)) (went_on l (with_word scan x) (wanted n (with_word scan x).taken)) l
-    (λ (m : Local). SameCalls l m) (λ _. went_on_calls l (with_word scan x) (wanted n (with_word scan x).taken)) (λ _. record { operations = refl; replies = refl })
-
-looked_calls : (n : ℕ) (l : Local) (q : Region) (j x : ℕ) (o : Opening) → SameCalls (opened l q o) (local_after n l (Look q j x o))
-looked_calls n l q j x o =
-    let h = fed_calls n (with_look (opened l q o) (record { region = q; caller = j; count = x })) (opened l q o).scan q (is_look_wanted j) x in
-    record { operations = h.operations; replies = h.replies }
+use Rattle.world_laws.proofs.Agreeing.{asking_is}
+use Rattle.world_laws.proofs.SameCalls.{fed_calls, looked_calls}
 
 -- What an event of a caller tells of its calls: nothing; that one was invoked; or that one returned.
-data Told (me : ℕ) (l m : Local) (e : Event) (told : List Happening) : Type 0 where
+pub data Told (me : ℕ) (l m : Local) (e : Event) (told : List Happening) : Type 0 where
   Nothing : (is : told ≡ []) (operations : m.operations ≡ l.operations) (replies : m.replies ≡ l.replies) → Told me l m e told
   Called : (operation : ℕ) (is : told ≡ Invoked (call_of me l.announced) operation ∷ []) (operations : m.operations ≡ l.operations ++ operation ∷ [])
       (replies : m.replies ≡ l.replies) → Told me l m e told
   Answered : (x reply : ℕ) (event : e ≡ Look N 0 x (Begins_view reply)) (is : told ≡ Returned (call_of me (length l.replies)) reply ∷ [])
       (operations : m.operations ≡ l.operations) (replies : m.replies ≡ l.replies ++ reply ∷ []) (phase : l.phase ≡ Asking) → Told me l m e told
 
-asking : (f : Phase) → is_asking f ≡ true → f ≡ Asking
-asking Asking h = refl
-asking Announcing h = absurd cc
-asking Viewing h = absurd cc
-asking Publishing h = absurd cc
-asking Judging h = absurd cc
-
 told_view : (s : Shape) (me : ℕ) (l : Local) (q : Region) (j x reply : ℕ) → IsTrue (may_begin s me l q j (Begins_view reply))
     → Told me l (local_after s.callers l (Look q j x (Begins_view reply))) (Look q j x (Begins_view reply)) (happenings me l (Look q j x (Begins_view reply)))
 told_view s me l N j x reply may =
     let a = and_parts (j == 0) _ may in
     let h = looked_calls s.callers l N j x (Begins_view reply) in
-    Answered x reply (ap (λ (i : ℕ). Look N i x (Begins_view reply)) (eqb-true j 0 a.0)) refl h.operations h.replies (asking l.phase (and_parts (is_asking l.phase) _ a.1).0)
+    Answered x reply (ap (λ (i : ℕ). Look N i x (Begins_view reply)) (eqb-true j 0 a.0)) refl h.operations h.replies (asking_is l.phase (and_parts (is_asking l.phase) _ a.1).0)
 told_view s me l M j x reply may = let never : false ≡ true = (and_parts (j == 0) false may).1 in absurd cc
 
 told_by : (s : Shape) (me : ℕ) (l : Local) (e : Event) → IsTrue (may_happen s me l e) → Told me l (local_after s.callers l e) e (happenings me l e)
@@ -102,7 +65,7 @@ told_carries me l m e hs (Answered y reply event is operations replies phase) =
     record { operations = λ k x. same_list l.operations m.operations k x operations; replies = λ k x. pushed_list l.replies m.replies reply k x replies }
 
 -- what the own step of a caller tells
-step_told : (s : Shape) (w : World) (step : Step) → Kept s w → IsTrue (is_possible s w step)
+pub step_told : (s : Shape) (w : World) (step : Step) → Kept s w → IsTrue (is_possible s w step)
     → Told step.who (local_of w step.who) (local_of (after s w step) step.who) step.event (happenings step.who (local_of w step.who) step.event)
 step_told s w step kept may =
     let p = possible s w step may in

@@ -1,5 +1,5 @@
 -- A fact of each item of a list, by the list's form.
-use Rattle.std.proofs.Common.{◌≡◌, ℕ, zero, suc, ◌<◌, Bool, true, ◌||◌, List, [], ◌∷◌, ◌++◌, length, Some, slice_get, slice_index_or, sym, ap, ◌∙◌, subst, arith, inl, inr}
+use Rattle.std.proofs.Common.{◌≡◌, ℕ, zero, suc, ◌<◌, Bool, true, ◌||◌, List, [], ◌∷◌, ◌++◌, length, Some, slice_get, slice_index_or, slice_set, sym, ap, ◌∙◌, subst, arith, inl, inr}
 use Rattle.std.specs.List.{list_any}
 use Rattle.std.proofs.lemmas.Bool.{cases_Bool}
 use Rattle.std.proofs.lemmas.Option.{same_Some, none-some}
@@ -16,6 +16,11 @@ module _ {X : Type 0} where
   pub each_push : (P : X → Type 0) (xs : List X) (y : X) → Each P xs → P y → Each P (xs ++ y ∷ [])
   each_push P [] y h new = (new, tt)
   each_push P (x ∷ xs) y h new = (h.0, each_push P xs y h.1 new)
+
+  pub each_set : (P : X → Type 0) (xs : List X) (k : ℕ) (y : X) → Each P xs → P y → Each P (slice_set xs k y)
+  each_set P [] k y h new = tt
+  each_set P (x ∷ xs) zero y h new = (new, h.1)
+  each_set P (x ∷ xs) (suc k) y h new = (h.0, each_set P xs k y h.1 new)
 
   pub each_at : (P : X → Type 0) (xs : List X) (k : ℕ) (d : X) → Each P xs → k < length xs → P (slice_index_or xs k d)
   each_at P [] k d h below = absurd (omega arith)

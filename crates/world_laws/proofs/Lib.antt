@@ -5,6 +5,8 @@ pub mod Raising
 pub mod Agreeing
 pub mod Running
 pub mod Each
+pub mod SameCalls
+pub mod ObjectWords
 pub mod Endings
 pub mod Low
 pub mod Knowing
