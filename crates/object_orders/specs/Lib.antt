@@ -1,0 +1,4 @@
+pub mod Effects
+pub mod OneWord
+pub mod TallyAndCell
+pub mod Cases

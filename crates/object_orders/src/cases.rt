@@ -1,0 +1,40 @@
+//! Worked runs over the tally and the cell: what their programs allow, and what they refuse.
+
+ghost use Rattle.std.specs.Prelude.{◌≡◌, [], ◌∷◌, IsTrue};
+ghost use Rattle.world_core.specs.History.{Invoked, Returned, call_of, history_of};
+ghost use Rattle.world_core.specs.Schedules.{allows_in, refuses_in};
+ghost use Rattle.world_core.specs.World.{IsRun, end_of, object_word};
+ghost use Rattle.object_orders.specs.Cases.{tally_pair, tally_alone, cell_pair, increment, write_nine, read, done, value, bad, finds_and_leaves, gets, both_increments, counted_by_second, counted_by_both, counted_alone, refused_before_adding, refused_after_adding, unknown_announced, refused_to_unknown, write_and_read, written, written_and_read, refused_before_writing, refused_after_writing};
+
+/// Two callers increment at once, and one alone. An increment adds 1 once and then replies the word that it
+/// found: not before, not twice, no other sum, and not the word that it left.
+pub fn increments_are_counted()
+    ensures run { IsRun tally_pair counted_by_both }
+    ensures word { object_word tally_pair (end_of tally_pair counted_by_both) 0 ≡ 2 }
+    ensures history { history_of tally_pair counted_by_both ≡ Invoked (call_of 0 0) increment ∷ Invoked (call_of 1 0) increment ∷ Returned (call_of 0 0) (value 1) ∷ Returned (call_of 1 0) (value 0) ∷ [] }
+    ensures alone { IsRun tally_alone counted_alone }
+    ensures before { IsTrue (refuses_in tally_pair both_increments refused_before_adding) }
+    ensures adds { IsTrue (allows_in tally_pair both_increments (finds_and_leaves 0 0 1 ∷ finds_and_leaves 1 0 1 ∷ [])) }
+    ensures after_adding { IsTrue (refuses_in tally_pair counted_by_second refused_after_adding) }
+    ensures replies { IsTrue (allows_in tally_pair counted_by_second (gets 1 1 (value 0) ∷ [])) }
+{}
+
+/// A read replies what was written last. A write stores its argument once and then replies done, and a read
+/// changes nothing.
+pub fn writes_are_read()
+    ensures run { IsRun cell_pair written_and_read }
+    ensures word { object_word cell_pair (end_of cell_pair written_and_read) 0 ≡ 9 }
+    ensures history { history_of cell_pair written_and_read ≡ Invoked (call_of 0 0) write_nine ∷ Invoked (call_of 1 0) read ∷ Returned (call_of 1 0) (value 9) ∷ Returned (call_of 0 0) done ∷ [] }
+    ensures before { IsTrue (refuses_in cell_pair write_and_read refused_before_writing) }
+    ensures steps { IsTrue (allows_in cell_pair write_and_read (finds_and_leaves 0 0 9 ∷ finds_and_leaves 1 0 0 ∷ [])) }
+    ensures after_writing { IsTrue (refuses_in cell_pair written refused_after_writing) }
+    ensures replies { IsTrue (allows_in cell_pair written (gets 0 1 done ∷ [])) }
+{}
+
+/// An operation that the object doesn't know makes no step, and replies bad.
+pub fn unknown_operations_reply_bad()
+    ensures tally { IsTrue (refuses_in tally_pair unknown_announced refused_to_unknown) }
+    ensures tally_replies { IsTrue (allows_in tally_pair unknown_announced (gets 0 1 bad ∷ [])) }
+    ensures cell { IsTrue (refuses_in cell_pair unknown_announced refused_to_unknown) }
+    ensures cell_replies { IsTrue (allows_in cell_pair unknown_announced (gets 0 1 bad ∷ [])) }
+{}
