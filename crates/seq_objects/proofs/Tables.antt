@@ -1,8 +1,9 @@
 -- Each kind's table: no two of its entries have one code or one name, and each name is a word that
 -- doesn't begin with '#'.
-use Rattle.std.proofs.Common.{◌≡◌, ℕ, Bool, true, false, not, ◌&&◌, ◌==◌, nat_lt, List, [], ◌∷◌, bytes_eq, find, Some, sym, refl, ◌∙◌}
+use Rattle.std.proofs.Common.{rules, ◌≡◌, ◌≢◌, ℕ, Bool, true, false, not, ◌&&◌, ◌==◌, nat_lt, List, [], ◌∷◌, bytes_eq, find, Option, Some, None, IfSome, IfNone, sym, ap, refl, ◌∙◌}
 use Rattle.std.specs.List.{list_all}
 use Rattle.std.proofs.lemmas.Bool.{and_parts, eqb-true, eq-eqb}
+use Rattle.std.proofs.lemmas.Option.{none-some}
 use Rattle.std.proofs.lemmas.Slice.Eq.{bytes_eq-Decides}
 use Rattle.seq_objects.specs.declared.kind.Kind.{Kind}
 use Rattle.seq_objects.specs.declared.kind.Kind.TheVariants.{Queue, Stack, Register, Counter, IntSet, Pqueue, CasRegister, Map}
@@ -49,6 +50,20 @@ kinds-sound IntSet = (refl, refl, refl)
 kinds-sound Pqueue = (refl, refl, refl)
 kinds-sound CasRegister = (refl, refl, refl)
 kinds-sound Map = (refl, refl, refl)
+
+-- A kind that is found by a name has it.
+pub kind_found : (name : List ℕ) (o : Option Kind) → o ≡ find (λ k. bytes_eq (kind_name k) name) all_kinds
+    → IfSome o (λ kind. kind_name kind ≡ name)
+kind_found name None found = search rules
+kind_found name (Some kind) found =
+    (bytes_eq-Decides (kind_name kind) name).0 (find_inside (λ k. bytes_eq (kind_name k) name) all_kinds kind (sym found)).1
+
+-- No kind has a name by which none is found.
+pub no_kind_found : (name : List ℕ) (o : Option Kind) → o ≡ find (λ k. bytes_eq (kind_name k) name) all_kinds
+    → IfNone o ((kind : Kind) → kind_name kind ≢ name)
+no_kind_found name None found = λ kind same.
+    none-some kind (found ∙ ap (λ n. find (λ k. bytes_eq (kind_name k) n) all_kinds) (sym same) ∙ (kinds-sound kind).2)
+no_kind_found name (Some kind) found = search rules
 
 table_parts : (kind : Kind)
     → (list_all (λ e. is_plain_name e.name) (entries kind) ≡ true) × (are_distinct same_code (entries kind) ≡ true) × (are_distinct same_name (entries kind) ≡ true)

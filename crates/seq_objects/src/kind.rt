@@ -32,24 +32,28 @@ pub enum Kind {
     Map,
 }
 
+/// All kinds.
+const KINDS: &[Kind] = &[
+    Kind::Queue,
+    Kind::Stack,
+    Kind::Register,
+    Kind::Counter,
+    Kind::IntSet,
+    Kind::Pqueue,
+    Kind::CasRegister,
+    Kind::Map,
+];
+
 impl Kind {
     /// The kind with this name in texts.
-    #[tactic(auto, unfolding(crate::specs::Words::kind_name))]
     pub fn from_name(name: &[u8]) -> Option<Kind>
         ensures found { IfSome result (λ kind. kind_name kind ≡ name.now) }
         ensures none { IfNone result ((kind : Kind) → kind_name kind ≢ name.now) }
     {
-        match name {
-            b"queue" => Some(Kind::Queue),
-            b"stack" => Some(Kind::Stack),
-            b"register" => Some(Kind::Register),
-            b"counter" => Some(Kind::Counter),
-            b"set" => Some(Kind::IntSet),
-            b"pqueue" => Some(Kind::Pqueue),
-            b"casreg" => Some(Kind::CasRegister),
-            b"map" => Some(Kind::Map),
-            _ => None,
-        }
+        KINDS
+            .iter()
+            .find(|kind| kind.name().as_bytes() == name)
+            .copied()
     }
 
     /// The name in texts.

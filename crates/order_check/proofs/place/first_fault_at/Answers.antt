@@ -7,8 +7,29 @@ use Rattle.book_base.specs.Book.{IsCall, answers_of, record_of, Precedes}
 use Rattle.book_base.specs.Order.{StandsAt, call_at}
 use Rattle.order_check.proofs.Faults.{no_place}
 use Rattle.order_check.proofs.Placing.{unanswered_in_time, in_place}
-use Rattle.order_check.proofs.FirstAt.{skipped_first, late_first, record_first}
+use Rattle.order_check.proofs.FirstAt.{unknown_first, twice_first, skipped_first, late_first, record_first}
 use Rattle.order_check.proofs.place.first_fault_at.Goals as goal
+
+pub returns-then-not-is_call-clause-fault : goal.returns-then-not-is_call-clause-fault
+returns-then-not-is_call-clause-fault c = λ init next.
+    let order = c.args.order.now in
+    let p = c.args.at in
+    let book = c.args.book.now in
+    let here : Place = get_or order p no_place in
+    let at : slice_get order p ≡ Some here = slice_get-get_or order p no_place c.requires.place in
+    unknown_first init next book order p here at (λ (is : IsCall book (call_at here)).
+    let made = c.is_call.ensures.1 (subst (IsCall book) (sym c.call_at-call.ensures) is) in
+    cc)
+
+pub returns-then-call-next-clause-fault : goal.returns-then-call-next-clause-fault
+returns-then-call-next-clause-fault c = λ init next.
+    let order = c.args.order.now in
+    let p = c.args.at in
+    let here : Place = get_or order p no_place in
+    let at : slice_get order p ≡ Some here = slice_get-get_or order p no_place c.requires.place in
+    let is : IsCall c.args.book.now (call_at here) = subst (IsCall c.args.book.now) c.call_at-call.ensures (c.is_call.ensures.0 c.if-not-is_call.false) in
+    twice_first init next c.args.book.now order p c.args.standing.now here c.requires.standing at is
+    (omega (arith, c.if-call-next.true, c.get-next.ensures, ap (λ (x : Call). x.number) c.call_at-call.ensures, ap (λ (x : Call). get_or c.args.standing.now x.caller 0) c.call_at-call.ensures))
 
 pub returns-then-call-next-2-clause-fault : goal.returns-then-call-next-2-clause-fault
 returns-then-call-next-2-clause-fault c = λ init next.
