@@ -64,3 +64,29 @@ fn work_beside<R: Threads + Sync, C: Sync, W: Work<C>>(
     { work_all(rt, shared, behind) };
     join_mut(rt, &mut in_front, &mut from_behind);
 }
+
+/// The workers of two lists work, each over what those of its list share: all of both side by side.
+///
+/// All have worked when it returns.
+pub fn work_both<R: Threads + Sync, C: Sync, W: Work<C>, D: Sync, V: Work<D>>(
+    rt: &R,
+    shared: &C,
+    all: &mut [W],
+    aside: &D,
+    others: &mut [V],
+)
+    requires all { All (λ w. W.ready w shared.now) all.old }
+    requires others { All (λ v. V.ready v aside.now) others.old }
+    ensures all { AllZip (λ before after. W.done before shared.now after) all.old all.new }
+    ensures others { AllZip (λ before after. V.done before aside.now after) others.old others.new }
+{
+    let mut one = ||
+        requires { IsSync R.row × IsSync C.row × IsSend W.row × All (λ w. W.ready w shared.now) all.now }
+        ensures { AllZip (λ before after. W.done before shared.entry.now after) all.entry.now all.exit.now }
+    { work_all(rt, shared, all) };
+    let mut other = ||
+        requires { IsSync R.row × IsSync D.row × IsSend V.row × All (λ v. V.ready v aside.now) others.now }
+        ensures { AllZip (λ before after. V.done before aside.entry.now after) others.entry.now others.exit.now }
+    { work_all(rt, aside, others) };
+    join_mut(rt, &mut one, &mut other);
+}
