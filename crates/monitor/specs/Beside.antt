@@ -1,0 +1,74 @@
+-- Callers of a bench that watch: off the bench, through their rounds, and back.
+use Rattle.std.specs.Prelude.{◌≡◌, ◌≢◌, ℕ, false, List, None, Some}
+use Rattle.world_core.specs.Shape.{Meaning}
+use Rattle.world_core.specs.Local.{Local, IsIdle}
+use Rattle.call_lines.specs.Phases.{progress_of}
+use Rattle.row_table.specs.declared.rows.Rows.{Rows}
+use Rattle.row_table.specs.declared.bench.Bench.{Bench}
+use Rattle.row_table.specs.Callers.{who_of, on_bench, stance_on}
+use Rattle.drv_wrapper.specs.Stands.{ready}
+use Rattle.monitor.specs.declared.board.Board.{Board}
+use Rattle.monitor.specs.declared.monitor.Monitor.{Monitor}
+use Rattle.monitor.specs.declared.watch.Watch.{Watch}
+use Rattle.monitor.specs.declared.beside.Left.{Left}
+use Rattle.monitor.specs.Rounds.{HasMadeRounds}
+use Rattle.monitor.specs.Monitors.{caller_of, local_of, own_of, IsMonitorOf}
+use Rattle.monitor.specs.Watching.{IsFresh}
+
+module _ {P : Type 0} where
+  -- The bench holds a caller with this local, live and idle.
+  pub record IsFreeOn (b : Bench P) (i : ℕ) (l : Local) : Type 0 where
+    pub here : on_bench b i ≡ Some l
+    pub stance : stance_on b i ≡ Some ready
+    pub idle : IsIdle l
+
+  -- The bench holds a caller, live and idle, with whatever local.
+  abbrev pub IsFree : Bench P → ℕ → Type 0
+  IsFree b i = (l : Local) × IsFreeOn b i l
+
+  -- Caller i of one bench is as it is on the other.
+  pub record IsUnmoved (b c : Bench P) (i : ℕ) : Type 0 where
+    pub local : on_bench c i ≡ on_bench b i
+    pub stance : stance_on c i ≡ stance_on b i
+
+  -- A watch is that of caller i, which had this local, before its first round.
+  pub record IsWatchOf (meaning : P → ℕ → ℕ → Meaning) (r : Rows P) (b : Board) (i : ℕ) (l : Local) (most : ℕ) (w : Watch P) : Type 0 where
+    pub monitor : Monitor P
+    pub here : w.monitor ≡ Some monitor
+    pub fresh : IsFresh meaning r b monitor
+    pub who : who_of (caller_of monitor) ≡ i
+    pub local : local_of monitor ≡ l
+    pub rounds : w.rounds ≡ most
+
+  -- A watch is that of caller i, which had this local, after its rounds.
+  pub record HasWatchedAs (init : List ℕ) (next : List ℕ → ℕ → List ℕ × ℕ) (meaning : P → ℕ → ℕ → Meaning) (r : Rows P) (i : ℕ) (l : Local) (most : ℕ) (w : Watch P) : Type 0 where
+    pub monitor : Monitor P
+    pub here : w.monitor ≡ Some monitor
+    pub of : IsMonitorOf meaning r monitor
+    pub who : who_of (caller_of monitor) ≡ i
+    pub progress : progress_of (local_of monitor) ≡ progress_of l
+    pub rounds : w.wants_memory ≡ false → HasMadeRounds init next r.callers most l (local_of monitor) (own_of monitor)
+
+  -- The monitor of a watch is at hand, and its caller is off the bench.
+  pub record IsAtHand (meaning : P → ℕ → ℕ → Meaning) (r : Rows P) (b : Bench P) (w : Watch P) : Type 0 where
+    pub monitor : Monitor P
+    pub here : w.monitor ≡ Some monitor
+    pub of : IsMonitorOf meaning r monitor
+    pub gone : on_bench b (who_of (caller_of monitor)) ≡ None
+
+  -- The caller of a watch came back to the bench as it was, live and idle, and handed over what it had found.
+  pub record ComesBack (b c : Bench P) (w : Watch P) (left : Left) : Type 0 where
+    pub monitor : Monitor P
+    pub here : w.monitor ≡ Some monitor
+    pub back : IsFreeOn c (who_of (caller_of monitor)) (local_of monitor)
+    pub found : left.own ≡ own_of monitor
+    pub wanted : left.wants_memory ≡ w.wants_memory
+    pub others : (i : ℕ) → i ≢ who_of (caller_of monitor) → IsUnmoved b c i
+
+  -- Caller i, which had this local, is back on the bench, live and idle: it came no further with its calls, and made its rounds,
+  -- unless it wanted memory.
+  pub record IsBackFrom (init : List ℕ) (next : List ℕ → ℕ → List ℕ × ℕ) (n : ℕ) (b : Bench P) (i : ℕ) (l : Local) (most : ℕ) (left : Left) : Type 0 where
+    pub local : Local
+    pub here : IsFreeOn b i local
+    pub progress : progress_of local ≡ progress_of l
+    pub rounds : left.wants_memory ≡ false → HasMadeRounds init next n most l local left.own

@@ -1,0 +1,36 @@
+-- What a monitor has found, and what it knows of its board.
+use Rattle.std.specs.Prelude.{◌≡◌, Bool, Option, Some}
+use Rattle.once_cell.specs.Once.{cell_name, Agrees}
+use Rattle.monitor.specs.declared.witness.Witness.{Witness}
+use Rattle.monitor.specs.declared.board.Board.{Board}
+use Rattle.monitor.specs.declared.claim.Claim.{Claim}
+
+-- The own witness of a claim; whether the board took a copy of it; and the witness on the board, where the claim knows it.
+abbrev pub own_in : Claim → Option Witness
+own_in c = c.own
+
+abbrev pub placed_in : Claim → Bool
+placed_in c = c.placed
+
+abbrev pub known_in : Claim → Option Witness
+known_in c = c.note.known
+
+-- The note of a claim is one of this board; and the notes of two claims are of one board.
+abbrev pub IsClaimOn : Board → Claim → Type 0
+IsClaimOn b c = c.note.cell ≡ cell_name b.cell
+
+abbrev pub AreOnOne : Claim → Claim → Type 0
+AreOnOne c d = c.note.cell ≡ d.note.cell
+
+-- Two claims have the same own witness, and the board took a copy for both or for none.
+pub record HasSameFindings (c d : Claim) : Type 0 where
+  pub own : own_in d ≡ own_in c
+  pub placed : placed_in d ≡ placed_in c
+
+-- A witness on the board is known afterwards, and is the one that was known before, where one was.
+abbrev pub Knows : Option Witness → Option Witness → Type 0
+Knows before after = (w : Witness) × (after ≡ Some w) × Agrees before w
+
+-- Two that know a witness on the board know the same one.
+abbrev pub Agree : Option Witness → Option Witness → Type 0
+Agree known other = (w v : Witness) → known ≡ Some w → other ≡ Some v → w ≡ v

@@ -1,0 +1,103 @@
+-- Whose a monitor is, what it has found, what it knows of its board, and what a round costs.
+use Rattle.std.specs.Prelude.{◌≡◌, ℕ, ◌+◌, ◌≤◌, Bool, List, Option, None, Some, IfSome, IsSomeAnd, length}
+use Rattle.world_core.specs.Shape.{Meaning}
+use Rattle.world_core.specs.Local.{Local, IsIdle}
+use Rattle.world_core.specs.Calls.{IsGathered}
+use Rattle.row_table.specs.declared.rows.Rows.{Rows}
+use Rattle.row_table.specs.declared.caller.Caller.{Caller}
+use Rattle.row_table.specs.Callers.{who_of, local_with, stance_of, IsCallerOf}
+use Rattle.collect_scan.specs.Scanned.{most_words}
+use Rattle.row_gather.specs.declared.gathered.Gathered.{Gathered}
+use Rattle.row_gather.specs.Gathered.{IsGatheredBy, TicksForNew}
+use Rattle.drv_wrapper.specs.Stands.{ready}
+use Rattle.monitor.specs.declared.witness.Witness.{Witness}
+use Rattle.monitor.specs.declared.board.Board.{Board}
+use Rattle.monitor.specs.declared.monitor.Monitor.{Monitor}
+use Rattle.monitor.specs.declared.round.Round.{Round}
+use Rattle.monitor.specs.declared.round.Round.TheVariants.{Legal, Illegal}
+use Rattle.monitor.specs.Claims.{own_in, placed_in, known_in, IsClaimOn, AreOnOne}
+use Rattle.monitor.specs.Rounds.{HasScannedOnce, IsLegalAt, IsIllegalAt}
+
+-- A monitor scanned M once, whatever cut that gave.
+abbrev pub HasScannedSome : Local → Local → Type 0
+HasScannedSome l m = (cut : List ℕ) × HasScannedOnce cut l m
+
+-- A monitor scanned M once, and gathered a book at the cut that it was given, at a table of n callers.
+pub record HasGathered (n : ℕ) (l m : Local) (g : Gathered) : Type 0 where
+  pub once : HasScannedOnce g.cut l m
+  pub book : IsGathered n m g.cut g.book
+
+-- What a round found, by the caller's local before and after it and the own witness: the book at the cut of its one scan has a legal
+-- order, and there is no witness; or it has none, and is the own witness.
+abbrev pub HasFound : List ℕ → (List ℕ → ℕ → List ℕ × ℕ) → ℕ → Local → Local → Option Witness → Round → Type 0
+HasFound init next n l m own (Legal cut) = HasScannedOnce cut l m × IsLegalAt init next n m cut × (own ≡ None)
+HasFound init next n l m own (Illegal cut) =
+    HasScannedOnce cut l m × (w : Witness) × (own ≡ Some w) × (w.cut ≡ cut) × IsIllegalAt init next n m w
+
+-- What a monitor of a table of n callers keeps for its next round: after a legal round its book, and after an illegal one none.
+abbrev pub IsKeptAfter : ℕ → Round → Option Gathered → Type 0
+IsKeptAfter n (Legal cut) kept = IsSomeAnd kept (λ g. (length g.book ≡ n) × (g.cut ≡ cut))
+IsKeptAfter n (Illegal cut) kept = kept ≡ None
+
+-- The counter ticked for a round's scan, at most so often as a scan may, and then once for each word of the book of the round that
+-- is new, as against the book that was kept before.
+pub record TicksForBook (n : ℕ) (before : Option Gathered) (g : Gathered) (ticks ticks' : ℕ) : Type 0 where
+  pub scan : ℕ
+  pub few : scan ≤ most_words n
+  pub new : TicksForNew n before g (ticks + scan) ticks'
+
+-- So it is with the book of this round, which is kept after a legal one, and is the own witness after an illegal one.
+abbrev pub TicksForRound : ℕ → Option Gathered → Option Gathered → Option Witness → ℕ → ℕ → Round → Type 0
+TicksForRound n before kept own ticks ticks' (Legal cut) = IfSome kept (λ g. TicksForBook n before g ticks ticks')
+TicksForRound n before kept own ticks ticks' (Illegal cut) =
+    IfSome own (λ w. TicksForBook n before (record { book = w.book; cut = w.cut }) ticks ticks')
+
+module _ {P : Type 0} where
+  -- The caller that a monitor is, and its local.
+  abbrev pub caller_of : Monitor P → Caller P
+  caller_of m = m.caller
+
+  abbrev pub local_of : Monitor P → Local
+  local_of m = local_with m.caller
+
+  -- The own witness of a monitor; whether the board took a copy of it; and the witness on the board, where the monitor knows it.
+  abbrev pub own_of : Monitor P → Option Witness
+  own_of m = own_in m.claim
+
+  abbrev pub placed_by : Monitor P → Bool
+  placed_by m = placed_in m.claim
+
+  abbrev pub known_by : Monitor P → Option Witness
+  known_by m = known_in m.claim
+
+  -- The book that a monitor gathered last and keeps, from which its next round grows.
+  abbrev pub kept_by : Monitor P → Option Gathered
+  kept_by m = m.gathered
+
+  -- A monitor is one of this board; and two monitors are of one board.
+  abbrev pub IsOn : Board → Monitor P → Type 0
+  IsOn b m = IsClaimOn b m.claim
+
+  abbrev pub AreOfOne : Monitor P → Monitor P → Type 0
+  AreOfOne m k = AreOnOne m.claim k.claim
+
+  -- A caller of these rows is live and idle.
+  pub record IsResting (meaning : P → ℕ → ℕ → Meaning) (r : Rows P) (c : Caller P) : Type 0 where
+    pub caller : IsCallerOf meaning r c
+    pub idle : IsIdle (local_with c)
+    pub stance : stance_of c ≡ ready
+
+  -- A monitor is a resting caller of these rows, which has gathered the book that it keeps.
+  pub record IsMonitorOf (meaning : P → ℕ → ℕ → Meaning) (r : Rows P) (m : Monitor P) : Type 0 where
+    pub resting : IsResting meaning r m.caller
+    pub gathered : IsGatheredBy (local_with m.caller) m.gathered
+
+  -- A monitor is one of whatever rows a caller is of.
+  abbrev pub Becomes : Caller P → Monitor P → Type 0
+  Becomes c m = (meaning : P → ℕ → ℕ → Meaning) (r : Rows P) → IsCallerOf meaning r c → IsMonitorOf meaning r m
+
+  -- The monitor k is m at a later moment: one of these rows and this board, with the number of m.
+  pub record IsLater (meaning : P → ℕ → ℕ → Meaning) (r : Rows P) (b : Board) (m k : Monitor P) : Type 0 where
+    pub monitor : IsMonitorOf meaning r k
+    pub who : who_of k.caller ≡ who_of m.caller
+    pub on : IsOn b k

@@ -1,0 +1,58 @@
+-- What the rounds of a monitor leave in its caller's local: for each a cut, and a verdict on the book that was gathered at it.
+use Rattle.std.specs.Prelude.{◌≡◌, ℕ, ◌≤◌, List, [], ◌∷◌, ◌++◌, Option, None, Some, length, slice_get}
+use Rattle.book_base.specs.Book.{Page}
+use Rattle.book_base.specs.Order.{HasLegalOrder}
+use Rattle.world_core.specs.declared.region.Region.TheVariants.{M}
+use Rattle.world_core.specs.Local.{Local, Given}
+use Rattle.world_core.specs.Calls.{IsGathered}
+use Rattle.call_lines.specs.Phases.{progress_of}
+use Rattle.collect_scan.specs.Given.{AddsCut}
+use Rattle.monitor.specs.declared.witness.Witness.{Witness}
+
+-- A caller made one scan of M, which gave this cut, and peeked words; it came no further with its calls.
+pub record HasScannedOnce (cut : List ℕ) (l m : Local) : Type 0 where
+  pub adds : AddsCut M cut l m
+  pub progress : progress_of m ≡ progress_of l
+
+module _ (init : List ℕ) (next : List ℕ → ℕ → List ℕ × ℕ) (n : ℕ) where
+  -- The book that a caller of n gathered at this cut has a legal order.
+  pub record IsLegalAt (l : Local) (cut : List ℕ) : Type 0 where
+    pub book : List Page
+    pub gathered : IsGathered n l cut book
+    pub order : HasLegalOrder init next book
+
+  -- The book of this witness is one that a caller of n gathered at its cut, and has no legal order.
+  pub record IsIllegalAt (l : Local) (w : Witness) : Type 0 where
+    pub gathered : IsGathered n l w.cut w.book
+    pub none : ¬ HasLegalOrder init next w.book
+
+  -- A scan of M gave this cut, and the book that was gathered there has a legal order.
+  pub record IsLegalRound (l : Local) (given : Given) : Type 0 where
+    pub region : given.region ≡ M
+    pub legal : IsLegalAt l given.cut
+
+  -- Each of these rounds is legal.
+  abbrev pub AreLegal : Local → List Given → Type 0
+  AreLegal l rounds = (k : ℕ) (given : Given) → slice_get rounds k ≡ Some given → IsLegalRound l given
+
+  -- After legal rounds the last one is illegal, with this witness.
+  pub record EndsIllegal (l : Local) (rounds : List Given) (w : Witness) : Type 0 where
+    pub before : List Given
+    pub since : ℕ
+    pub is : rounds ≡ before ++ record { region = M; cut = w.cut; since = since } ∷ []
+    pub legal : AreLegal l before
+    pub illegal : IsIllegalAt l w
+
+  -- The rounds of a monitor that makes at most so many: all are legal, and there are as many; or the last one is illegal, with the
+  -- own witness, and there are no more than that.
+  abbrev pub AreRounds : ℕ → Local → List Given → Option Witness → Type 0
+  AreRounds most l rounds None = (length rounds ≡ most) × AreLegal l rounds
+  AreRounds most l rounds (Some w) = (length rounds ≤ most) × EndsIllegal l rounds w
+
+  -- A monitor made its rounds: their cuts follow those that its caller had been given before, and the caller came no further with
+  -- its calls.
+  pub record HasMadeRounds (most : ℕ) (l m : Local) (own : Option Witness) : Type 0 where
+    pub rounds : List Given
+    pub cuts : m.cuts ≡ l.cuts ++ rounds
+    pub are : AreRounds most m rounds own
+    pub progress : progress_of m ≡ progress_of l

@@ -1,0 +1,159 @@
+ghost use Rattle.std.specs.Prelude.{◌≡◌, ◌≢◌, ℕ, true, is_some, [], ◌∷◌, None, Some};
+ghost use Rattle.std.specs.List.{All, AllZip};
+ghost use Rattle.world_core.specs.Local.{Local};
+ghost use Rattle.row_table.specs.Callers.{on_bench, IsBenchOf};
+ghost use Rattle.monitor.specs.Watching.{IsReady, HasWatched};
+ghost use Rattle.monitor.specs.Beside.{IsFree, IsUnmoved, IsWatchOf, IsAtHand, ComesBack, IsBackFrom};
+
+use crate::board::Board;
+use crate::monitor::Monitor;
+use crate::watch::{Watch, Watched};
+use crate::witness::Witness;
+use book_base::SeqObject;
+use row_table::{Bench, Rows};
+use std::alloc::Global;
+use std::thread::Threads;
+use work_halves::{Work, work_both};
+use world_core::Program;
+
+/// What a monitor leaves: its own witness, whether the board took a copy of it, and whether the monitor wanted memory.
+#[derive(Debug, Drop)]
+pub struct Left {
+    pub own: Option<Witness>,
+    pub placed: bool,
+    pub wants_memory: bool,
+}
+
+// A caller leaves its bench to watch.
+fn take_off<P: Program>(
+    rows: &Rows<P>,
+    bench: &mut Bench<P>,
+    caller: u32,
+    board: &Board,
+    rounds: u64,
+) -> Watch<P>
+    requires bench { IsBenchOf P.meaning rows.now bench.old }
+    requires free { IsFree bench.old caller }
+    ensures bench { IsBenchOf P.meaning rows.now bench.new }
+    ensures gone { on_bench bench.new caller ≡ None }
+    ensures others { (i : ℕ) → i ≢ caller → IsUnmoved bench.old bench.new i }
+    ensures watch { (l : Local) → on_bench bench.old caller ≡ Some l
+        → IsWatchOf P.meaning rows.now board.now caller l rounds result }
+{
+    let caller = rows.part(bench, caller);
+    Watch {
+        monitor: Some(Monitor::new(caller, board)),
+        rounds,
+        wants_memory: false,
+    }
+}
+
+// The caller of a watch comes back to its bench.
+fn bring_back<P: Program>(rows: &Rows<P>, bench: &mut Bench<P>, watch: Watch<P>) -> Left
+    requires bench { IsBenchOf P.meaning rows.now bench.old }
+    requires watch { IsAtHand P.meaning rows.now bench.old watch }
+    ensures bench { IsBenchOf P.meaning rows.now bench.new }
+    ensures back { ComesBack bench.old bench.new watch result }
+    ensures placed { result.placed ≡ true → is_some result.own ≡ true }
+{
+    let Watch {
+        monitor,
+        rounds: _,
+        wants_memory,
+    } = watch;
+    let (caller, own, placed) = monitor.unwrap().into_parts();
+    rows.back(bench, caller);
+    Left {
+        own,
+        placed,
+        wants_memory,
+    }
+}
+
+// The two watches of an array.
+fn both<P: Program>(_rows: &Rows<P>, watches: [Watch<P>; 2]) -> (Watch<P>, Watch<P>)
+    ensures { watches ≡ result.0 ∷ result.1 ∷ [] }
+{
+    let [first, second] = watches;
+    (first, second)
+}
+
+// Two watches work while workers work, all side by side.
+fn work_beside<
+    R: Threads + Sync,
+    C: Sync,
+    W: Work<C>,
+    P: Program + Send + Sync,
+    S: SeqObject + Sync,
+>(
+    rt: &R,
+    shared: &C,
+    all: &mut [W],
+    watched: &Watched<S, P>,
+    first: Watch<P>,
+    second: Watch<P>,
+) -> (Watch<P>, Watch<P>)
+    requires ready { All (λ w. W.ready w shared.now) all.old }
+    requires first { IsReady P.meaning watched.now.rows.now watched.now.board.now first }
+    requires second { IsReady P.meaning watched.now.rows.now watched.now.board.now second }
+    ensures done { AllZip (λ w d. W.done w shared.now d) all.old all.new }
+    ensures first { HasWatched (S.init watched.now.sequential.now) (S.next watched.now.sequential.now)
+        P.meaning watched.now.rows.now watched.now.board.now first result.0 }
+    ensures second { HasWatched (S.init watched.now.sequential.now) (S.next watched.now.sequential.now)
+        P.meaning watched.now.rows.now watched.now.board.now second result.1 }
+{
+    let mut watches = [first, second];
+    work_both(rt, shared, all, watched, &mut watches);
+    both(watched.rows, watches)
+}
+
+/// Two callers of a bench watch while workers work, all side by side.
+///
+/// All workers have worked when it returns, and both callers are back.
+pub fn watch_beside<
+    R: Threads + Sync,
+    C: Sync,
+    W: Work<C>,
+    P: Program + Send + Sync,
+    S: SeqObject + Sync,
+>(
+    rt: &R,
+    alloc: Global,
+    rows: &Rows<P>,
+    bench: &mut Bench<P>,
+    sequential: &S,
+    shared: &C,
+    all: &mut [W],
+    one: u32,
+    other: u32,
+    rounds: u64,
+) -> (Left, Left)
+    requires bench { IsBenchOf P.meaning rows.now bench.old }
+    requires ready { All (λ w. W.ready w shared.now) all.old }
+    requires apart { one ≢ other }
+    requires free { IsFree bench.old one × IsFree bench.old other }
+    ensures bench { IsBenchOf P.meaning rows.now bench.new }
+    ensures done { AllZip (λ w d. W.done w shared.now d) all.old all.new }
+    ensures others { (i : ℕ) → i ≢ one → i ≢ other → IsUnmoved bench.old bench.new i }
+    ensures one { (l : Local) → on_bench bench.old one ≡ Some l
+        → IsBackFrom (S.init sequential.now) (S.next sequential.now) rows.now.callers
+        bench.new one l rounds result.0 }
+    ensures other { (l : Local) → on_bench bench.old other ≡ Some l
+        → IsBackFrom (S.init sequential.now) (S.next sequential.now) rows.now.callers
+        bench.new other l rounds result.1 }
+    ensures placed { (result.0.placed ≡ true → is_some result.0.own ≡ true) × (result.1.placed ≡ true → is_some result.1.own ≡ true) }
+{
+    let board = Board::new(alloc);
+    let first = take_off(rows, bench, one, &board, rounds);
+    let second = take_off(rows, bench, other, &board, rounds);
+    let watched = Watched {
+        alloc,
+        rows,
+        board: &board,
+        sequential,
+    };
+    let (first, second) = work_beside(rt, shared, all, &watched, first, second);
+    let one = bring_back(rows, bench, first);
+    let other = bring_back(rows, bench, second);
+    (one, other)
+}

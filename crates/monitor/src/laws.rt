@@ -1,0 +1,20 @@
+//! Laws of monitors. Each is the contract of a function with nothing in it.
+
+ghost use Rattle.monitor.specs.Worlds.{RoundsAreRight, RoundsAreJudged, OwnIsAWitness, WitnessesAreFinal};
+
+/// What a round found is right of the calls of all callers, at each later moment: its cut is published,
+/// and the book there has a legal order or not.
+pub fn rounds_are_right()
+    ensures { RoundsAreRight }
+{}
+
+/// What the rounds of a watch found is right of the calls of all callers.
+pub fn rounds_are_judged()
+    ensures rounds { RoundsAreJudged }
+    ensures own { OwnIsAWitness }
+{}
+
+/// Witnesses are final: where there is one, the book of all published records has no legal order.
+pub fn witnesses_are_final()
+    ensures { WitnessesAreFinal }
+{}

@@ -1,0 +1,196 @@
+ghost use Rattle.std.specs.Prelude.{IfOk};
+ghost use Rattle.frontier_check.specs.Verdict.{IsRight};
+
+use crate::board::Board;
+use crate::claim::Claim;
+use crate::round::Round;
+use crate::witness::Witness;
+use book_base::{Book, NoMemory, SeqObject};
+use collect_scan::scan;
+use frontier_check::{Guide, Verdict, check_from};
+use row_gather::{Gathered, grow_at};
+use row_table::{Caller, Rows, Steps};
+use std::alloc::Global;
+use std::sync::ledger::Ledger;
+use world_core::{Outside, Program, Region};
+
+// Whether a book has a legal order, by a search that begins with the guide; the first one makes the guide.
+fn judge<S: SeqObject>(
+    alloc: Global,
+    object: &S,
+    book: &Book,
+    guide: &mut Option<Guide>,
+) -> Result<Verdict, NoMemory>
+    ensures { IfOk result (λ verdict. IsRight (S.init object.now) (S.next object.now) book.now verdict) }
+{
+    let mut own = match guide.take() {
+        Some(own) => own,
+        None => Guide::new(alloc)?,
+    };
+    let verdict = check_from(alloc, object, book, &mut own)?;
+    *guide = Some(own);
+    Ok(verdict)
+}
+
+/// A caller that makes no calls: round by round it judges what the others have published.
+///
+/// It keeps the book that it gathered last and the last legal order, so that a round costs what is new.
+pub struct Monitor<P = Outside> {
+    caller: Caller<P>,
+    gathered: Option<Gathered>,
+    guide: Option<Guide>,
+    claim: Claim,
+}
+
+impl<P: Program> Monitor<P> {
+    ghost use Rattle.std.specs.Prelude.{◌≡◌, ◌+◌, ◌≤◌, true, false, is_some, None, Some, IfSome, IfNone, IsSomeAnd, OnErr};
+    ghost use Rattle.std.specs.Option.{MatchOption};
+    ghost use Rattle.once_cell.specs.Once.{Agrees};
+    ghost use Rattle.world_core.specs.Local.{IsIdle};
+    ghost use Rattle.row_table.specs.Callers.{who_of, local_with, stance_of};
+    ghost use Rattle.drv_wrapper.specs.Stands.{ready};
+    ghost use Rattle.monitor.specs.Claims.{Knows, Agree};
+    ghost use Rattle.monitor.specs.Monitors.{caller_of, local_of, own_of, placed_by, known_by, kept_by, IsOn, AreOfOne, IsMonitorOf, Becomes, IsLater, HasFound, HasScannedSome, HasGathered, IsKeptAfter, TicksForBook, TicksForRound};
+
+    /// A monitor that has made no round. It takes no memory.
+    pub fn new(caller: Caller<P>, board: &Board) -> Monitor<P>
+        requires idle { IsIdle (local_with caller) }
+        requires live { stance_of caller ≡ ready }
+        ensures monitor { Becomes caller result }
+        ensures caller { caller_of result ≡ caller }
+        ensures board { IsOn board.now result }
+        ensures nothing { (own_of result ≡ None) × (placed_by result ≡ false) × (known_by result ≡ None) }
+    {
+        Monitor {
+            caller,
+            gathered: None,
+            guide: None,
+            claim: Claim::new(board),
+        }
+    }
+
+    // One scan of M, and the book at the cut that it gave, which grows from the book that is kept.
+    //
+    // No book is kept after it.
+    fn look<L: Ledger>(
+        &mut self,
+        alloc: Global,
+        rows: &Rows<P>,
+        steps: &mut Steps<L>,
+    ) -> Result<Gathered, NoMemory>
+        requires rows { IsMonitorOf P.meaning rows.now self.old }
+        ensures rows { IsMonitorOf P.meaning rows.now self.new }
+        ensures who { who_of self.new.caller ≡ who_of self.old.caller }
+        ensures claim { self.new.claim ≡ self.old.claim }
+        ensures none { kept_by self.new ≡ None }
+        ensures scanned { HasScannedSome (local_of self.old) (local_of self.new) }
+        ensures gathered { IfOk result (HasGathered rows.now.callers (local_of self.old) (local_of self.new)) }
+        ensures ticks { IfOk result (λ g. TicksForBook rows.now.callers (kept_by self.old) g steps.old steps.new) }
+        ensures rise { steps.old ≤ steps.new }
+    {
+        let cut = scan(rows, &mut self.caller, Region::M, steps);
+        let kept = self.gathered.take();
+        grow_at(alloc, rows, &mut self.caller, kept, &cut, steps)
+    }
+
+    /// Scans M, gathers the book at that cut, and judges it (Castañeda and Rodríguez 2023).
+    ///
+    /// Where the book has no legal order it is the own witness from then on, and the board is tried once
+    /// with a copy. After want of memory the board wasn't tried.
+    pub fn round<S: SeqObject, L: Ledger>(
+        &mut self,
+        alloc: Global,
+        object: &S,
+        rows: &Rows<P>,
+        board: &Board,
+        steps: &mut Steps<L>,
+    ) -> Result<Round, NoMemory>
+        requires rows { IsMonitorOf P.meaning rows.now self.old }
+        requires board { IsOn board.now self.old }
+        requires none { own_of self.old ≡ None }
+        ensures later { IsLater P.meaning rows.now board.now self.old self.new }
+        ensures scanned { HasScannedSome (local_of self.old) (local_of self.new) }
+        ensures found { IfOk result (HasFound (S.init object.now) (S.next object.now)
+            rows.now.callers (local_of self.old) (local_of self.new) (own_of self.new)) }
+        ensures known { IfSome (own_of self.new) (λ w. Knows (known_by self.old) (known_by self.new)) }
+        ensures first { placed_by self.new ≡ true → known_by self.old ≡ None }
+        ensures kept { IfOk result (λ r. IsKeptAfter rows.now.callers r (kept_by self.new)) }
+        ensures err { OnErr result ((own_of self.new ≡ None) × (known_by self.new ≡ known_by self.old)) }
+        ensures ticks { IfOk result (TicksForRound rows.now.callers (kept_by self.old) (kept_by self.new)
+            (own_of self.new) steps.old steps.new) }
+        ensures rise { steps.old ≤ steps.new }
+    {
+        let found = self.look(alloc, rows, steps)?;
+        match judge(alloc, object, &found.book, &mut self.guide)? {
+            Verdict::Legal(_) => {
+                let cut = found.cut;
+                self.gathered = Some(found);
+                Ok(Round::Legal(cut))
+            }
+            Verdict::Illegal => {
+                let Gathered { book, cut } = found;
+                self.claim.keep(alloc, board, Witness { cut, book })?;
+                Ok(Round::Illegal(cut))
+            }
+        }
+    }
+
+    /// Its own witness, where a round was illegal.
+    pub fn own(&self) -> Option<&Witness>
+        ensures { MatchOption result (own_of self.now ≡ None) (λ r. own_of self.now ≡ Some r.now) }
+    {
+        self.claim.own()
+    }
+
+    /// Whether the board took its copy of the own witness.
+    pub fn placed(&self) -> bool
+        ensures { result ≡ placed_by self.now }
+    {
+        self.claim.placed()
+    }
+
+    /// The witness on the board, which this monitor knows from then on.
+    pub fn known<'a>(&mut self, board: &'a Board) -> Option<&'a Witness>
+        requires board { IsOn board.now self.old }
+        ensures board { IsOn board.now self.new }
+        ensures caller { caller_of self.new ≡ caller_of self.old }
+        ensures findings { (own_of self.new ≡ own_of self.old) × (placed_by self.new ≡ placed_by self.old) × (kept_by self.new ≡ kept_by self.old) }
+        ensures none { IfNone result ((known_by self.old ≡ None) × (known_by self.new ≡ None)) }
+        ensures some { IfSome result (λ r. (known_by self.new ≡ Some r.now) × Agrees (known_by self.old) r.now) }
+        ensures placed { placed_by self.old ≡ true → IsSomeAnd result (λ r. own_of self.old ≡ Some r.now) }
+    {
+        self.claim.known(board)
+    }
+
+    /// Where both know a witness on their board, it is the same one. It takes no memory.
+    pub fn agree(&mut self, other: &mut Monitor<P>)
+        requires { AreOfOne self.old other.old }
+        ensures same { (self.new ≡ self.old) × (other.new ≡ other.old) }
+        ensures agree { Agree (known_by self.new) (known_by other.new) }
+    {
+        self.claim.agree(&mut other.claim);
+    }
+
+    /// The caller, with its local as it is.
+    pub fn leave(self) -> Caller<P>
+        ensures { result ≡ caller_of self }
+    {
+        let (caller, _, _) = self.into_parts();
+        caller
+    }
+
+    /// The caller, the own witness, and whether the board took a copy of that.
+    pub(crate) fn into_parts(self) -> (Caller<P>, Option<Witness>, bool)
+        ensures parts { (result.0 ≡ caller_of self) × (result.1 ≡ own_of self) × (result.2 ≡ placed_by self) }
+        ensures found { result.2 ≡ true → is_some result.1 ≡ true }
+    {
+        let Monitor {
+            caller,
+            gathered: _,
+            guide: _,
+            claim,
+        } = self;
+        let (own, placed) = claim.into_parts();
+        (caller, own, placed)
+    }
+}

@@ -1,0 +1,10 @@
+use book_base::Cut;
+
+/// What a round came to, with the cut that its scan gave.
+#[derive(Debug, Clone, Copy, Drop)]
+pub enum Round {
+    /// The book at the cut has a legal order.
+    Legal(Cut),
+    /// It has none.
+    Illegal(Cut),
+}
