@@ -1,0 +1,4 @@
+pub mod LogWords
+pub mod LogSteps
+pub mod LogEffects
+pub mod LogOrders

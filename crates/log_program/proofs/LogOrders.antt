@@ -1,0 +1,114 @@
+-- The order of effects of a log is that of its tickets.
+use Rattle.std.proofs.Common.{◌≡◌, ◌≢◌, ℕ, zero, suc, ◌+◌, ◌-◌, ◌*◌, ◌<◌, true, nat_lt, List, ◌++◌, Option, Some, None, refl, sym, ap, ◌∙◌, subst, arith, inl, inr}
+use Rattle.std.proofs.lemmas.Bool.{and_parts, cases_lt, cases_Bool, cond-true, cond-false}
+use Rattle.std.proofs.lemmas.Option.{none-some}
+use Rattle.book_base.specs.declared.call.Call.{Call}
+use Rattle.world_core.specs.Shape.{Shape}
+use Rattle.world_core.specs.World.{World, Step, start, object_word, are_possible, IsRun, end_of}
+use Rattle.world_laws.proofs.Running.{are_possible-append}
+use Rattle.object_orders.specs.Effects.{TakesEffectBefore}
+use Rattle.object_orders.proofs.EffectOrders.{the_order_is_of_effects}
+use Rattle.object_orders.proofs.Linearizations.{contained}
+use Rattle.log_program.specs.LogWords.{number_of, ticket_place, ticket_of}
+use Rattle.log_program.specs.LogProgram.{log_shape}
+use Rattle.log_program.specs.LogEffects.{place_with, reply_there, reply_of_number, log_effects, HasPlace, LogOrdersAreOfTickets}
+use Rattle.log_program.specs.LogRules.{IsLog}
+use Rattle.log_program.proofs.LogWords.{place_is, no_place_is}
+use Rattle.log_program.proofs.LogSteps.{rules_hold, tickets_stay}
+use Rattle.log_program.proofs.LogEffects.{has_effects}
+
+module _ (init : List ℕ) (next : List ℕ → ℕ → List ℕ × ℕ) (n cap : ℕ) where
+  abbrev s : Shape
+  s = log_shape init next n cap
+
+  abbrev total : ℕ
+  total = n * cap
+
+  abbrev ticket : World → ℕ → ℕ
+  ticket w q = object_word s w (ticket_place total q)
+
+  abbrev reply : World → Call → Option ℕ
+  reply w call = (log_effects init next n cap).reply w call
+
+  abbrev own_ticket : Call → ℕ
+  own_ticket call = ticket_of (number_of cap call.caller call.number)
+
+  -- a call with a reply is below the cap
+  reply_few : (w : World) (call : Call) (x : ℕ) → reply w call ≡ Some x → nat_lt call.number cap ≡ true
+  reply_few w call x is =
+      elim (cases_Bool (nat_lt call.number cap)) [
+        | inl few ↦ few
+        | inr many ↦
+            absurd (none-some x (sym (cond-false (nat_lt call.number cap) (reply_of_number next init (object_word s w) total (number_of cap call.caller call.number)) None many) ∙ is))
+      ]
+
+  -- and its ticket stands
+  place_of_reply : (w : World) (number x : ℕ) (o : Option ℕ) → reply_there next init (object_word s w) total number o ≡ Some x → (p : ℕ) × (o ≡ Some p)
+  place_of_reply w number x None is = absurd (none-some x is)
+  place_of_reply w number x (Some p) is = (p, refl)
+
+  no_place_of_none : (w : World) (number : ℕ) (o : Option ℕ) → reply_there next init (object_word s w) total number o ≡ None → o ≡ None
+  no_place_of_none w number None is = refl
+  no_place_of_none w number (Some p) is = absurd cc
+
+  has_place : (w : World) (call : Call) (x : ℕ) → reply w call ≡ Some x → (p : ℕ) × (p < total) × (ticket w p ≡ own_ticket call)
+  has_place w call x is =
+      let number : ℕ = number_of cap call.caller call.number in
+      let there : reply_of_number next init (object_word s w) total number ≡ Some x =
+      sym (cond-true (nat_lt call.number cap) (reply_of_number next init (object_word s w) total number) None (reply_few w call x is)) ∙ is in
+      let found = place_of_reply w number x (place_with (object_word s w) total (ticket_of number) total) there in
+      let at = place_is (object_word s w) total (ticket_of number) total found.0 found.1 in
+      (found.0, at.0, at.1)
+
+  has_no_place : (w : World) (call : Call) → nat_lt call.number cap ≡ true → reply w call ≡ None → (q : ℕ) → q < total → ticket w q ≢ own_ticket call
+  has_no_place w call few is =
+      let number : ℕ = number_of cap call.caller call.number in
+      let none : reply_of_number next init (object_word s w) total number ≡ None =
+      sym (cond-true (nat_lt call.number cap) (reply_of_number next init (object_word s w) total number) None few) ∙ is in
+      no_place_is (object_word s w) total (ticket_of number) total (no_place_of_none w number (place_with (object_word s w) total (ticket_of number) total) none)
+
+  -- below a filled place all are filled
+  filled_below : (w : World) → IsLog s w → (q d : ℕ) → q + d < total → ticket w (q + d) ≢ 0 → ticket w q ≢ 0
+  filled_below w log q zero low filled = let same : q + 0 ≡ q = omega arith in λ free. filled (ap (ticket w) same ∙ free)
+  filled_below w log q (suc d) low filled =
+      let same : q + suc d ≡ (q + d) + 1 = omega arith in
+      filled_below w log q d (omega (arith, low)) (log.prefix (q + d) (omega (arith, low)) (λ free. filled (ap (ticket w) same ∙ free)))
+
+  -- of two calls, the one that took effect first has the lower place
+  lower : (steps : List Step) → IsRun s steps → (a b : Call) (y : ℕ) → TakesEffectBefore s (log_effects init next n cap) steps a b
+      → reply (end_of s steps) b ≡ Some y → (p q : ℕ) × (p < q) × HasPlace s (end_of s steps) a p × HasPlace s (end_of s steps) b q
+  lower steps run a b y t is =
+      let v : World = end_of s t.before in
+      let both : IsRun s (t.before ++ t.later) = subst (IsRun s) (sym t.run) run in
+      let parts = and_parts (are_possible s (start s) t.before) (are_possible s v t.later) (sym (are_possible-append s (start s) t.before t.later) ∙ both) in
+      let log = rules_hold init next n cap v (t.before, parts.0, refl) in
+      let first = has_place v a t.reply t.first in
+      let last = has_place (end_of s steps) b y is in
+      let stays : (q : ℕ) → ticket v q ≢ 0 → ticket (end_of s steps) q ≡ ticket v q =
+      λ q filled. ap (λ (sts : List Step). ticket (end_of s sts) q) (sym t.run) ∙ tickets_stay init next n cap t.before t.later q both filled in
+      let filled : ticket v first.0 ≢ 0 = λ free. omega (arith, sym first.2 ∙ free) in
+      let none = has_no_place v b (reply_few (end_of s steps) b y is) t.second in
+      let below : first.0 < last.0 = elim (cases_lt first.0 last.0) [
+        | inl low ↦ low
+        | inr high ↦
+            let more : last.0 + (first.0 - last.0) ≡ first.0 = omega (arith, high) in
+            let there : ticket v last.0 ≢ 0 =
+            filled_below v log last.0 (first.0 - last.0) (omega (arith, more, first.1)) (λ free. filled (ap (ticket v) (sym more) ∙ free)) in
+            absurd (none last.0 last.1 (sym (stays last.0 there) ∙ last.2))
+      ] in (
+        first.0,
+        last.0,
+        below,
+        record { low = first.1; ticket = stays first.0 filled ∙ first.2 },
+        record { low = last.1; ticket = last.2 },
+      )
+
+pub log_orders_are_of_tickets : LogOrdersAreOfTickets
+log_orders_are_of_tickets init next n cap steps run =
+    let sh : Shape = log_shape init next n cap in
+    let found = the_order_is_of_effects init next sh (log_effects init next n cap) (has_effects init next n cap) steps run in (
+      found.0,
+      found.1,
+      λ p q a b lt at there.
+          lower init next n cap steps run a.call b.call b.reply (found.2.ordered p q a b lt at there) (found.2.replied b (contained found.0 q b there)),
+    )

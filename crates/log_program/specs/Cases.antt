@@ -1,0 +1,172 @@
+-- Worked runs over logs of one caller and of two, and the steps that the program refuses.
+use Rattle.std.specs.Prelude.{ℕ, List, [], ◌∷◌, ◌++◌}
+use Rattle.book_base.specs.OperationWord.{joined}
+use Rattle.world_core.specs.declared.region.Region.TheVariants.{N, M}
+use Rattle.world_core.specs.Shape.{Shape}
+use Rattle.world_core.specs.Event.{Announce, Object, Begins_scan, Begins_view}
+use Rattle.world_core.specs.World.{Step}
+use Rattle.world_core.specs.Histories.{numbering}
+use Rattle.world_core.specs.Schedules.{by, scan, stages, publication, object_step}
+use Rattle.object_orders.specs.Cases.{gets}
+use Rattle.log_program.specs.LogProgram.{log_shape}
+
+-- Two callers with one call each over the log of an object whose reply is the number of operations before. The words of caller 0 lie at
+-- places 0 and 1, those of caller 1 at 2 and 3, and the log at 4 and 5; their tickets are 1 and 2.
+abbrev pub log_pair : Shape
+log_pair = log_shape [] numbering 2 1
+
+-- One caller with two calls over such a log, with the words of its calls and the log at the same places.
+abbrev pub log_alone : Shape
+log_alone = log_shape [] numbering 1 2
+
+-- A caller makes an object step at a place that finds one word and leaves another.
+abbrev pub steps_at : ℕ → ℕ → ℕ → ℕ → Step
+steps_at who place old new = by who (Object (object_step place old new))
+
+-- A caller scans N, and announces the operation of a low and a high word, embedding the cut.
+abbrev pub announces : ℕ → ℕ → ℕ → List ℕ → List Step
+announces who low high cut = scan who N Begins_scan cut ++ stages who N 0 (low ∷ high ∷ cut) ++ by who Announce ∷ []
+
+-- The operations of caller 0 and of caller 1.
+abbrev pub first_operation : ℕ
+first_operation = joined 5 8
+
+abbrev pub second_operation : ℕ
+second_operation = joined 6 9
+
+-- Both callers have announced; caller 0 has stored the low word of its operation, and then the high one too; and so has caller 1.
+abbrev pub announced : List Step
+announced = announces 0 5 8 (0 ∷ 0 ∷ []) ++ announces 1 6 9 (1 ∷ 0 ∷ [])
+
+abbrev pub stored_low : List Step
+stored_low = announced ++ steps_at 0 0 0 5 ∷ []
+
+abbrev pub stored : List Step
+stored = stored_low ++ steps_at 0 1 0 8 ∷ []
+
+abbrev pub stored_both : List Step
+stored_both = stored ++ steps_at 1 2 0 6 ∷ steps_at 1 3 0 9 ∷ []
+
+-- Caller 1 has placed its ticket at place 0 of the log.
+abbrev pub placed_one : List Step
+placed_one = stored_both ++ steps_at 1 4 0 2 ∷ []
+
+-- Caller 0 has found that ticket; it has placed its own after it; and it has loaded the low word of the operation of caller 1, and then
+-- the high one too.
+abbrev pub found_one : List Step
+found_one = placed_one ++ steps_at 0 4 2 2 ∷ []
+
+abbrev pub placed_both : List Step
+placed_both = found_one ++ steps_at 0 5 0 1 ∷ []
+
+abbrev pub loaded_low : List Step
+loaded_low = placed_both ++ steps_at 0 2 6 6 ∷ []
+
+abbrev pub loaded : List Step
+loaded = loaded_low ++ steps_at 0 3 9 9 ∷ []
+
+-- Both callers have their replies: one operation stands before that of caller 0, and none before that of caller 1.
+abbrev pub replied : List Step
+replied = loaded ++ gets 0 1 1 ∷ gets 1 1 0 ∷ []
+
+-- What the program refuses to caller 0 once both have announced.
+abbrev pub refused_as_announced : List Step
+refused_as_announced =
+    -- another low word
+    steps_at 0 0 0 6
+    -- the high word before the low one
+    ∷ steps_at 0 1 0 8
+    -- its low word at the place of another call
+    ∷ steps_at 0 2 0 5
+    -- its ticket before its words
+    ∷ steps_at 0 4 0 1
+    -- a reply
+    ∷ gets 0 1 0
+    ∷ []
+
+-- Once it has stored its low word alone.
+abbrev pub refused_as_stored_low : List Step
+refused_as_stored_low =
+    -- the low word again
+    steps_at 0 0 5 5
+    -- another high word
+    ∷ steps_at 0 1 0 0
+    -- its ticket, with the high word forgotten
+    ∷ steps_at 0 4 0 1
+    ∷ []
+
+-- Once it has stored both.
+abbrev pub refused_as_stored : List Step
+refused_as_stored =
+    -- the high word again
+    steps_at 0 1 8 8
+    -- a place of the log that isn't the first
+    ∷ steps_at 0 5 0 1
+    -- the ticket of another call
+    ∷ steps_at 0 4 0 2
+    -- a free place left free
+    ∷ steps_at 0 4 0 0
+    -- a load of words whose ticket it doesn't know
+    ∷ steps_at 0 2 0 0
+    -- a reply before its ticket stands
+    ∷ gets 0 1 0
+    ∷ []
+
+-- Once caller 1 has placed its ticket: its own ticket in place of that one.
+abbrev pub refused_as_placed_one : List Step
+refused_as_placed_one = steps_at 0 4 2 1 ∷ steps_at 0 5 0 1 ∷ []
+
+-- Once it has found the ticket of caller 1.
+abbrev pub refused_as_found_one : List Step
+refused_as_found_one =
+    -- the place that it knows to be filled
+    steps_at 0 4 2 2
+    -- a load before its own ticket stands
+    ∷ steps_at 0 2 6 6
+    -- a reply before it
+    ∷ gets 0 1 1
+    ∷ []
+
+-- Once it has placed its own ticket.
+abbrev pub refused_as_placed_both : List Step
+refused_as_placed_both =
+    -- a load that changes the word
+    steps_at 0 2 6 7
+    -- a load of a word of its own
+    ∷ steps_at 0 0 5 5
+    -- its place again
+    ∷ steps_at 0 5 1 1
+    -- a reply before it has loaded the operation before its own
+    ∷ gets 0 1 1
+    ∷ gets 0 1 0
+    ∷ []
+
+-- Once it has loaded the low word alone: a reply with the high word forgotten.
+abbrev pub refused_as_loaded_low : List Step
+refused_as_loaded_low = gets 0 1 1 ∷ []
+
+-- Once it has loaded both: another reply.
+abbrev pub refused_as_loaded : List Step
+refused_as_loaded = gets 0 1 0 ∷ gets 0 1 2 ∷ []
+
+-- Caller 1 may not place its ticket twice.
+abbrev pub refused_to_one : List Step
+refused_to_one = steps_at 1 5 0 2 ∷ steps_at 1 4 2 2 ∷ gets 1 1 1 ∷ []
+
+-- A caller alone makes its first call whole, and then stores the words of its second.
+abbrev pub first_call : List Step
+first_call =
+    announces 0 5 8 (0 ∷ [])
+    ++ steps_at 0 0 0 5
+    ∷ steps_at 0 1 0 8
+    ∷ steps_at 0 4 0 1
+    ∷ scan 0 N (Begins_view 0) (1 ∷ [])
+    ++ publication 0 0 (1 ∷ []) (0 ∷ [])
+    ++ scan 0 M Begins_scan (1 ∷ [])
+
+abbrev pub second_stored : List Step
+second_stored = first_call ++ announces 0 6 9 (1 ∷ []) ++ steps_at 0 2 0 6 ∷ steps_at 0 3 0 9 ∷ []
+
+-- It places its second ticket after the first, which it knows, and replies without a load.
+abbrev pub two_calls_alone : List Step
+two_calls_alone = second_stored ++ steps_at 0 5 0 2 ∷ gets 0 2 1 ∷ []

@@ -1,0 +1,5 @@
+pub mod LogWords
+pub mod LogProgram
+pub mod LogEffects
+pub mod LogRules
+pub mod Cases

@@ -1,0 +1,54 @@
+//! Worked runs over logs: what the program allows, and what it refuses.
+
+ghost use Rattle.std.specs.Prelude.{◌≡◌, [], ◌∷◌, IsTrue};
+ghost use Rattle.world_core.specs.History.{Invoked, Returned, call_of, history_of};
+ghost use Rattle.world_core.specs.Schedules.{allows_in, refuses_in};
+ghost use Rattle.world_core.specs.World.{IsRun, end_of, object_word};
+ghost use Rattle.object_orders.specs.Cases.{gets};
+ghost use Rattle.log_program.specs.Cases.{log_pair, log_alone, steps_at, first_operation, second_operation, announced, stored_low, stored, stored_both, placed_one, found_one, placed_both, loaded_low, loaded, replied, refused_as_announced, refused_as_stored_low, refused_as_stored, refused_as_placed_one, refused_as_found_one, refused_as_placed_both, refused_as_loaded_low, refused_as_loaded, refused_to_one, second_stored, two_calls_alone};
+
+/// Of two callers the second places its ticket first. The first finds it, places its own after it, loads the
+/// operation before its own, and replies that there is one.
+pub fn two_callers_make_a_log()
+    ensures run { IsRun log_pair replied }
+    ensures first_ticket { object_word log_pair (end_of log_pair replied) 4 ≡ 2 }
+    ensures second_ticket { object_word log_pair (end_of log_pair replied) 5 ≡ 1 }
+    ensures history { history_of log_pair replied ≡ Invoked (call_of 0 0) first_operation ∷ Invoked (call_of 1 0) second_operation ∷ Returned (call_of 0 0) 1 ∷ Returned (call_of 1 0) 0 ∷ [] }
+{}
+
+/// A caller that makes its second call knows its first: it tries no place before its ticket, and loads nothing.
+pub fn a_caller_knows_its_calls()
+    ensures run { IsRun log_alone two_calls_alone }
+    ensures filled { IsTrue (refuses_in log_alone second_stored (steps_at 0 4 1 1 ∷ steps_at 0 4 1 2 ∷ [])) }
+    ensures history { history_of log_alone two_calls_alone ≡ Invoked (call_of 0 0) first_operation ∷ Returned (call_of 0 0) 0 ∷ Invoked (call_of 0 1) second_operation ∷ Returned (call_of 0 1) 1 ∷ [] }
+{}
+
+/// A call stores the low and then the high word of its operation, each once, before it tries for a place.
+pub fn words_are_stored_first()
+    ensures announced { IsTrue (refuses_in log_pair announced refused_as_announced) }
+    ensures low { IsTrue (allows_in log_pair announced (steps_at 0 0 0 5 ∷ [])) }
+    ensures stored_low { IsTrue (refuses_in log_pair stored_low refused_as_stored_low) }
+    ensures high { IsTrue (allows_in log_pair stored_low (steps_at 0 1 0 8 ∷ [])) }
+{}
+
+/// A call tries for the first place that its caller doesn't know to be filled, leaves a ticket that it finds
+/// there, and places its own once.
+pub fn places_are_tried_in_order()
+    ensures stored { IsTrue (refuses_in log_pair stored refused_as_stored) }
+    ensures first { IsTrue (allows_in log_pair stored_both (steps_at 0 4 0 1 ∷ steps_at 1 4 0 2 ∷ [])) }
+    ensures placed_one { IsTrue (refuses_in log_pair placed_one refused_as_placed_one) }
+    ensures once { IsTrue (refuses_in log_pair placed_one refused_to_one) }
+    ensures finds { IsTrue (allows_in log_pair placed_one (steps_at 0 4 2 2 ∷ gets 1 1 0 ∷ [])) }
+    ensures found_one { IsTrue (refuses_in log_pair found_one refused_as_found_one) }
+    ensures next { IsTrue (allows_in log_pair found_one (steps_at 0 5 0 1 ∷ [])) }
+{}
+
+/// A call loads the operations of the tickets below its own, once its own stands, and replies once it knows all
+/// of them.
+pub fn replies_come_last()
+    ensures placed_both { IsTrue (refuses_in log_pair placed_both refused_as_placed_both) }
+    ensures loads { IsTrue (allows_in log_pair placed_both (steps_at 0 2 6 6 ∷ steps_at 0 3 9 9 ∷ [])) }
+    ensures loaded_low { IsTrue (refuses_in log_pair loaded_low refused_as_loaded_low) }
+    ensures loaded { IsTrue (refuses_in log_pair loaded refused_as_loaded) }
+    ensures replies { IsTrue (allows_in log_pair loaded (gets 0 1 1 ∷ [])) }
+{}

@@ -1,0 +1,18 @@
+//! What holds of every run of a log, for every sequential object, number of callers and cap. Each law is the
+//! contract of a function with nothing in it.
+
+ghost use Rattle.log_program.specs.LogEffects.{LogsLinearize, LogOrdersAreOfTickets};
+ghost use Rattle.log_program.specs.LogRules.{LogRulesHold, TicketsStay};
+
+/// In every reachable world the filled places of the log are a prefix, each ticket names a call whose words are
+/// stored, no ticket stands twice, and what an object step left stands; and a ticket never changes.
+pub fn log_rules_hold()
+    ensures rules { LogRulesHold }
+    ensures tickets { TicketsStay }
+{}
+
+/// The object history of every run of a log is linearizable, in the order of its tickets (Herlihy and Wing 1990).
+pub fn logs_linearize()
+    ensures linearizable { LogsLinearize }
+    ensures order { LogOrdersAreOfTickets }
+{}
