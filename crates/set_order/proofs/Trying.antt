@@ -4,13 +4,14 @@ use Rattle.std.specs.List.{AllByRecursion}
 use Rattle.std.specs.Option.{IfSome, IfNone}
 use Rattle.std.proofs.lemmas.Bool.{cases_eq, cases_lt}
 use Rattle.std.proofs.lemmas.Option.{same_Some, none-some, slice_get_within}
-use Rattle.std.proofs.lemmas.List.{length-map, length_push, map-append, take_more}
+use Rattle.std.proofs.lemmas.List.{length-map, length_push, map-append, map_push, take_more, take_all}
+use Rattle.std.proofs.lemmas.List.Elements.{All-from_recursion, All-get_or}
 use Rattle.list_laws.proofs.Elements.{AllByRecursion-append}
 use Rattle.book_base.proofs.PageLemmas.{caller_from_call}
 use Rattle.book_base.specs.declared.call.Call.{Call}
 use Rattle.book_base.specs.declared.call.Record.{Record}
 use Rattle.book_base.specs.declared.call.Place.{Place}
-use Rattle.book_base.specs.Book.{Page, operation_of, record_of}
+use Rattle.book_base.specs.Book.{Page, IsCall, calls_of, operation_of, record_of}
 use Rattle.book_base.specs.Order.{call_at, step_at}
 use Rattle.book_laws.specs.Next.{next_call, HoldsAnswered, MayComeNext}
 use Rattle.book_laws.proofs.LegalOrder.{same_place}
@@ -231,8 +232,30 @@ candidates-all book cut below callers e h = record {
       h.all i early comes;
 }
 
--- one place more is made
+-- one of these callers is one of the cut's
+pub caller-within : (cut callers : List ℕ) (at : ℕ) → at < length callers → AllByRecursion (λ i. i < length cut) callers → get_or callers at 0 < length cut
+caller-within cut callers at inside all = All-get_or (λ i. i < length cut) callers at 0 inside (All-from_recursion (λ i. i < length cut) callers all)
 
+-- the number of its next call is below that of its calls
+pub number-within : (book : List Page) (cut callers : List ℕ) (at number : ℕ) → at < length callers → number ≡ get_or cut (get_or callers at 0) 0
+    → AllByRecursion (λ i. IsCall book (next_call cut i)) callers → number < calls_of book (get_or callers at 0)
+number-within book cut callers at number inside is all =
+    let Made : ℕ → Type 0 = λ i. IsCall book (next_call cut i) in
+    subst (λ (n : ℕ). n < calls_of book (get_or callers at 0)) (sym is) (All-get_or Made callers at 0 inside (All-from_recursion Made callers all))
+
+-- one operation more is read
+pub operations-more : (book : List Page) (cut callers : List ℕ) (at number op : ℕ) (ops : List ℕ) → ops ≡ next_operations book cut (take at callers)
+    → at < length callers → number ≡ get_or cut (get_or callers at 0) 0 → operation_of book (record { caller = get_or callers at 0; number = number }) ≡ Some op
+    → ops ++ op ∷ [] ≡ next_operations book cut (take (at + 1) callers)
+operations-more book cut callers at number op ops so inside is known =
+    let caller : ℕ = get_or callers at 0 in
+    let read : ℕ → ℕ = λ n. unwrap_or (operation_of book (record { caller = caller; number = n })) 0 in
+    let one : op ≡ read (get_or cut caller 0) = sym (ap (λ (o : Option ℕ). unwrap_or o 0) known) ∙ ap read is in
+    ap (λ (x : List ℕ). x ++ op ∷ []) so
+    ∙ (ap (λ (n : ℕ). next_operations book cut (take at callers) ++ n ∷ []) one
+    ∙ (sym (map_push (λ i. unwrap_or (operation_of book (next_call cut i)) 0) (take at callers) caller) ∙ ap (next_operations book cut) (sym (take_more callers at 0 inside))))
+
+-- one place more is made
 pub placed-more : (book : List Page) (cut callers replies : List ℕ) (at number reply : ℕ) (places : List Place) → ArePlaced book cut (take at callers) (take at replies) places
     → at < length callers → at < length replies → number ≡ get_or cut (get_or callers at 0) 0 → reply ≡ get_or replies at 0
     → ((r : Record) → record_of book (record { caller = get_or callers at 0; number = number }) ≡ Some r → r.reply ≡ reply)
@@ -246,6 +269,13 @@ placed-more book cut callers replies at number reply places h inside within is g
       numbers = AllByRecursion-append (HasNumber cut) places (place ∷ []) h.numbers (is, tt);
       recorded = AllByRecursion-append (λ p. (r : Record) → record_of book (call_at p) ≡ Some r → r.reply ≡ p.reply) places (place ∷ []) h.recorded (recorded, tt);
     }
+
+-- all places are made
+pub placed-all : (book : List Page) (cut callers replies : List ℕ) (at : ℕ) (places : List Place) → ArePlaced book cut (take at callers) (take at replies) places
+    → length callers ≤ at → length replies ≡ length callers → ArePlaced book cut callers replies places
+placed-all book cut callers replies at places h past same =
+    subst (λ (x : List ℕ). ArePlaced book cut x replies places) (take_all at callers past)
+    (subst (λ (x : List ℕ). ArePlaced book cut (take at callers) x places) (take_all at replies (omega arith)) h)
 
 pub got : (xs : List ℕ) (k x : ℕ) → slice_get xs k ≡ Some x → get_or xs k 0 ≡ x
 got [] k x e = absurd (none-some x e)
