@@ -5,3 +5,4 @@ pub mod ViewLemmas
 pub mod RefusalLemmas
 pub mod ForesightLemmas
 pub mod ReachingLemmas
+pub mod PruningLemmas

@@ -8,6 +8,9 @@ pub mod BookAt
 pub mod Rising
 pub mod Sequential
 pub mod Order
+pub mod Next
 pub mod Refusal
 pub mod Foresight
 pub mod ForesightLaws
+pub mod Pruning
+pub mod Decision

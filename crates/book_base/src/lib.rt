@@ -4,20 +4,26 @@
 mod book;
 mod call;
 mod cut;
+mod decision;
 mod fault;
 mod foresight;
 pub mod laws;
+mod marks;
 mod op_word;
 mod seq_object;
+mod sight;
 mod state;
 
 pub use book::Book;
 pub use call::{Call, Place, Record};
 pub use cut::Cut;
+pub use decision::Decision;
 pub use fault::{BookFault, NoMemory, ReadFault, TextFault, What};
 pub use foresight::Foresight;
+pub use marks::Marks;
 pub use op_word::{OpWord, high, join, low};
 pub use seq_object::SeqObject;
+pub use sight::{Labelled, Sight, Span};
 pub use state::State;
 
 /// The greatest number of callers of a book or of a table.

@@ -1,11 +1,19 @@
-ghost use Rattle.std.specs.Prelude.{◌≡◌, ℕ, ◌+◌, ◌<◌, ◌≤◌, Bool, false, List, length, IfOk, IsTrue};
+ghost use Rattle.std.specs.Prelude.{◌≡◌, ℕ, ◌+◌, ◌<◌, ◌≤◌, Bool, false, List, length, IfOk, IfSome, IsTrue};
 ghost use Rattle.book_base.specs.declared.TheConstants.{BAD};
+ghost use Rattle.book_base.specs.declared.sight.Sight.{Sight};
+ghost use Rattle.book_base.specs.Book.{Page};
+ghost use Rattle.book_base.specs.Decision.{IsRightDecision};
 ghost use Rattle.book_base.specs.Foresight.{IsForesight, Leaves};
+ghost use Rattle.book_base.specs.Pruning.{HasOneOpen, IsForced, IsReached, IsMarkedWithin, MarksAllNext, MarksSuffice};
 
 use crate::OpWord;
 use crate::book::Book;
+use crate::cut::Cut;
+use crate::decision::Decision;
 use crate::fault::NoMemory;
 use crate::foresight::Foresight;
+use crate::marks::Marks;
+use crate::sight::Sight;
 use crate::state::State;
 use std::alloc::Global;
 
@@ -20,6 +28,9 @@ pub trait SeqObject {
 
     /// The list after an operation, and the reply to it.
     ghost next: { Self → List ℕ → ℕ → List ℕ × ℕ };
+
+    /// What a sight of a book says, where the object prepares one.
+    ghost sees: { Self → List Page → Sight → Type 0 } = { λ _ _ _. Unit {0} };
 
     /// Whether the object knows an operation word.
     fn known(&self, op: OpWord) -> bool
@@ -50,6 +61,45 @@ pub trait SeqObject {
         ensures { IsTrue result → Leaves (next self.now) op reply }
     {
         false
+    }
+
+    /// What the object looks at in [`SeqObject::narrow`], made once a book. An object that leaves this out
+    /// prepares nothing, and isn't asked to narrow anything.
+    fn prepare(&self, alloc: Global, book: &Book) -> Result<Option<Sight>, NoMemory>
+        ensures { IfOk result (λ found. IfSome found (sees self.now book.now)) }
+    {
+        Ok(None)
+    }
+
+    /// Which of the calls that may come next a search has to try, after a cut and at a list: of those that
+    /// are marked, as few as suffice. One that may stand at once is the only one that is left, and at a dead
+    /// end none is. The forced caller's first call outside the cut has the least view of all such calls.
+    fn narrow(
+        &self,
+        sight: &Sight,
+        book: &Book,
+        cut: &Cut,
+        words: &[u64],
+        forced: u32,
+        marks: Marks,
+    ) -> Marks
+        requires sight { sees self.now book.now sight.now }
+        requires open { HasOneOpen book.now }
+        requires wide { length cut.now ≡ length book.now }
+        requires reached { IsReached (init self.now) (next self.now) book.now cut.now words.now }
+        requires forced { IsForced book.now cut.now forced }
+        requires marks { MarksAllNext book.now cut.now marks }
+        ensures fewer { IsMarkedWithin result marks }
+        ensures suffice { MarksSuffice book.now (next self.now) cut.now words.now result }
+    {
+        marks
+    }
+
+    /// What the object says of a whole book without a search. An object that leaves this out says nothing.
+    fn decide(&self, alloc: Global, book: &Book) -> Result<Decision, NoMemory>
+        ensures { IfOk result (IsRightDecision (init self.now) (next self.now) book.now) }
+    {
+        Ok(Decision::Unsaid)
     }
 
     /// The list begins with at most one word.

@@ -1,7 +1,7 @@
 -- Legal orders, one call after another: what a legal order has after the calls of a cut is what may stand one after another there.
-use Rattle.std.proofs.Common.{◌≡◌, ◌≢◌, ℕ, zero, suc, ◌+◌, ◌<◌, ◌≤◌, ◌⊎◌, ◌∙◌, List, [], ◌∷◌, length, get_or, Some, refl, sym, ap, subst, inl, inr, slice_get, arith}
+use Rattle.std.proofs.Common.{◌≡◌, ◌≢◌, ℕ, zero, suc, ◌+◌, ◌<◌, ◌≤◌, ◌⊎◌, ◌∙◌, List, [], ◌∷◌, length, get_or, set, Some, refl, sym, ap, subst, inl, inr, slice_get, arith}
 use Rattle.std.proofs.lemmas.Bool.{cases_eq, cases_lt}
-use Rattle.std.proofs.lemmas.List.{get_or-set_same, get_or-set_other, length-set}
+use Rattle.std.proofs.lemmas.List.{get_or-set_same, get_or-set_other, length-set, set_comm}
 use Rattle.std.proofs.lemmas.Option.{same_Some, none-some, slice_get_within, slice_get_cases}
 use Rattle.list_laws.proofs.Options.{some_from_is_some_and}
 use Rattle.book_base.specs.declared.call.Call.{Call}
@@ -12,7 +12,7 @@ use Rattle.book_base.specs.Book.{Page, page_of, IsCall, IsAnswered, record_of, P
 use Rattle.book_base.specs.Order.{call_at, StandsAt, IsLegalOrder}
 use Rattle.book_base.proofs.PageLemmas.{caller_from_call}
 pub use Rattle.book_base.proofs.ViewLemmas.{same_call, answer_stands}
-use Rattle.book_laws.specs.Next.{raised, MayComeNext, MayStandNext, list_after, Continues, IsLegalRest}
+use Rattle.book_base.specs.Next.{raised, MayComeNext, MayStandNext, list_after, Continues, IsLegalRest}
 
 -- a raised cut counts one more for the caller
 pub raised_same : (cut : List ℕ) (i : ℕ) → i < length cut → get_or (raised cut i) i 0 ≡ get_or cut i 0 + 1
@@ -43,6 +43,22 @@ raised_cases cut i call h held =
           ]
       | inr other ↦ inl (subst (λ (n : ℕ). call.number < n) (raised_other cut i call.caller other) held)
     ]
+
+-- two callers' counts may be raised in either order
+pub raised_twice : (cut : List ℕ) (i j : ℕ) → i ≢ j → raised (raised cut i) j ≡ raised (raised cut j) i
+raised_twice cut i j apart =
+    ap (λ (n : ℕ). set (raised cut i) j (n + 1)) (raised_other cut i j (λ e. apart (sym e)))
+    ∙ (set_comm cut i j (get_or cut i 0 + 1) (get_or cut j 0 + 1) apart
+    ∙ ap (λ (n : ℕ). set (raised cut j) i (n + 1)) (sym (raised_other cut j i apart)))
+
+-- a call may still come next when another caller's call has come
+pub comes_later : (book : List Page) (cut : List ℕ) (i : ℕ) (call : Call) → i < length cut → call.caller ≢ i → MayComeNext book cut call → MayComeNext book (raised cut i) call
+comes_later book cut i call inside apart may = record {
+  is_call = may.is_call;
+  next = may.next ∙ sym (raised_other cut i call.caller apart);
+  preceded = λ (a : Call) (p : Precedes book a call).
+      let held : a.number < get_or cut a.caller 0 = may.preceded a p in omega (arith, held, raised_more cut i a.caller inside);
+}
 
 -- what stands at the first place
 pub stands_first : (place : Place) (rest : List Place) (call : Call) → StandsAt (place ∷ rest) 0 call → call_at place ≡ call

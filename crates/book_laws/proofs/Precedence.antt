@@ -7,7 +7,7 @@ use Rattle.std.specs.Option.{IsSomeAnd}
 use Rattle.book_base.specs.declared.call.Call.{Call}
 use Rattle.book_base.specs.declared.call.Record.{Record}
 use Rattle.book_base.specs.Book.{Page, calls_of, IsCall, IsAnswered, IsValid, record_of, Precedes}
-use Rattle.book_laws.specs.Next.{next_call, MayComeNext}
+use Rattle.book_base.specs.Next.{next_call, MayComeNext}
 use Rattle.list_laws.proofs.Options.{some_from_is_some_and}
 pub use Rattle.book_base.proofs.ViewLemmas.{views_grow}
 use Rattle.book_base.proofs.ViewLemmas.{answer_stands}

@@ -10,7 +10,7 @@ use Rattle.book_base.specs.Book.{Page, calls_of, answers_of, record_of, IsAnswer
 use Rattle.book_base.specs.BookAt.{book_at}
 use Rattle.book_base.specs.Sequential.{IsRunFrom}
 use Rattle.book_base.specs.Order.{step_at, IsLegalOrder, HasLegalOrder}
-use Rattle.book_laws.specs.Next.{next_call, MayStandNext}
+use Rattle.book_base.specs.Next.{next_call, MayStandNext}
 use Rattle.book_laws.specs.Cases.{line_next, answer, stand, overtaken, overtaken_seen, overtaken_early, overtaking, tenfold_next, mistaken}
 use Rattle.book_laws.proofs.LegalOrder.{legal_order_from_continues}
 use Rattle.book_laws.proofs.Precedence.{may_come_next-from_first}

@@ -16,13 +16,14 @@ use Rattle.book_base.specs.Order.{call_at, step_at, IsLegalOrder}
 use Rattle.book_base.specs.Foresight.{Leaves, IsHopeless, HasEarly, rank_of}
 use Rattle.book_base.proofs.PageLemmas.{caller_from_call, caller_from_answer}
 use Rattle.book_base.proofs.GrowthLemmas.{below_calls}
-use Rattle.book_laws.specs.Next.{next_call, raised, list_after, HoldsAnswered, MayComeNext, MayStandNext, Continues}
+use Rattle.book_base.specs.Next.{next_call, raised, list_after, HoldsAnswered, MayComeNext, MayStandNext, Continues}
 use Rattle.book_laws.proofs.LegalOrder.{same_call, same_place, answer_stands}
 use Rattle.book_laws.proofs.Precedence.{may_come_next-from_first}
 use Rattle.history_rules.specs.Standing.{MayStandAtOnce, answered_place, word_of}
 use Rattle.history_rules.proofs.Exchange.{goes_on_with_it}
 use Rattle.frontier_check.specs.declared.choice.Choice.{Choice}
-use Rattle.frontier_check.specs.Search.{ViewsAreWithin, IsLeast, IsAmong, places_of, AreChosen, IsOpen, IsDeadEnd, GoesOnBy, StandsAtOnce, IsReached, IsRankIn}
+use Rattle.book_base.specs.Pruning.{ViewsAreWithin, IsLeast, IsDeadEnd, StandsAtOnce, IsReached}
+use Rattle.frontier_check.specs.Search.{IsAmong, places_of, AreChosen, IsOpen, GoesOnBy, IsRankIn}
 
 -- a place among the places of choices, with one more choice
 

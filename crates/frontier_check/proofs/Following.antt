@@ -14,7 +14,7 @@ use Rattle.book_base.specs.Foresight.{Reaches}
 use Rattle.book_base.proofs.PageLemmas.{caller_from_call}
 use Rattle.book_base.proofs.ViewLemmas.{same_call}
 use Rattle.book_base.proofs.ReachingLemmas.{no_places_reach_the_start, one_more_place_reaches_on}
-use Rattle.book_laws.specs.Next.{next_call, raised, list_after, MayComeNext, Continues}
+use Rattle.book_base.specs.Next.{next_call, raised, list_after, MayComeNext, Continues}
 use Rattle.book_laws.proofs.LegalOrder.{raised_other, raised_more, raised_same, legal_order_from_continues}
 use Rattle.book_laws.proofs.Precedence.{may_come_next-from_first}
 use Rattle.frontier_check.specs.declared.front.Front.{Front}

@@ -14,13 +14,14 @@ use Rattle.book_base.specs.Order.{call_at, step_at, IsLegalOrder, HasLegalOrder}
 use Rattle.book_base.specs.Foresight.{Reaches}
 use Rattle.book_base.proofs.ReachingLemmas.{one_more_place_reaches_on}
 use Rattle.book_base.proofs.PageLemmas.{caller_from_call}
-use Rattle.book_laws.specs.Next.{raised, list_after, HoldsAnswered, MayComeNext, Continues}
+use Rattle.book_base.specs.Next.{raised, list_after, HoldsAnswered, MayComeNext, Continues}
 use Rattle.book_laws.proofs.LegalOrder.{raised_same, raised_other, within_cut, continues_from_legal_order}
 use Rattle.frontier_check.specs.declared.walk.Level.{Level}
 use Rattle.frontier_check.specs.declared.walk.TheConstants.{ROOM}
 use Rattle.frontier_check.specs.declared.front.Front.{Front}
 use Rattle.frontier_check.specs.Front.{no_calls, IsFront}
-use Rattle.frontier_check.specs.Search.{places_of, IsOpen, IsDeadEnd, Leads, Fits, IsReached, order_of}
+use Rattle.book_base.specs.Pruning.{IsDeadEnd, IsReached}
+use Rattle.frontier_check.specs.Search.{places_of, IsOpen, Leads, Fits, order_of}
 
 -- one level more
 pub leads-push : (book : List Page) (next : List ℕ → ℕ → List ℕ × ℕ) (cut list : List ℕ) (levels : List Level) (to_cut to_list : List ℕ) (level : Level)

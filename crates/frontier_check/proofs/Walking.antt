@@ -7,7 +7,7 @@ use Rattle.book_base.specs.declared.call.Record.{Record}
 use Rattle.book_base.specs.declared.TheConstants.{MAX_CALLS}
 use Rattle.book_base.specs.Book.{Page}
 use Rattle.book_base.specs.Order.{IsLegalOrder}
-use Rattle.book_laws.specs.Next.{next_call, raised, list_after, HoldsAnswered, MayComeNext}
+use Rattle.book_base.specs.Next.{next_call, raised, list_after, HoldsAnswered, MayComeNext}
 use Rattle.book_laws.proofs.LegalOrder.{answer_stands}
 use Rattle.frontier_check.specs.declared.choice.Choice.{Choice}
 use Rattle.frontier_check.specs.declared.walk.Level.{Level}
@@ -16,7 +16,8 @@ use Rattle.frontier_check.specs.declared.walk.TheConstants.{ROOM}
 use Rattle.frontier_check.specs.Memo.{IsMemo, Remembers}
 use Rattle.frontier_check.specs.declared.front.Front.{Front}
 use Rattle.frontier_check.specs.Front.{IsFront}
-use Rattle.frontier_check.specs.Search.{places_of, Fits, IsLeast, IsOpen, IsDeadEnd, IsReached, Leads, IsWalk, order_of, weigh, weight}
+use Rattle.book_base.specs.Pruning.{IsLeast, IsDeadEnd, IsReached}
+use Rattle.frontier_check.specs.Search.{places_of, Fits, IsOpen, Leads, IsWalk, order_of, weigh, weight}
 use Rattle.frontier_check.proofs.Choosing.{may_come-from_least, open-last, open-rest, dead_end}
 use Rattle.frontier_check.proofs.Leading.{leads-push, leads-pop, standing, reached-from_leads, legal-from_leads, lowered}
 use Rattle.frontier_check.proofs.Weighing.{weigh-push, weigh-skip, weigh-pop}

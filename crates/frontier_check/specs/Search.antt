@@ -9,7 +9,8 @@ use Rattle.book_base.specs.Cut.{IsWithin}
 use Rattle.book_base.specs.Order.{IsLegalOrder}
 use Rattle.book_base.specs.Book.{Page, IsAnswered, record_of}
 use Rattle.book_base.specs.Foresight.{Reaches, HasEarly}
-use Rattle.book_laws.specs.Next.{next_call, raised, list_after, HoldsAnswered, MayStandNext, Continues}
+use Rattle.book_base.specs.Pruning.{IsDeadEnd}
+use Rattle.book_base.specs.Next.{next_call, raised, list_after, HoldsAnswered, MayStandNext, Continues}
 use Rattle.frontier_check.specs.declared.choice.Choice.{Choice}
 use Rattle.frontier_check.specs.declared.front.Front.{Front}
 use Rattle.frontier_check.specs.declared.walk.Level.{Level}
@@ -23,20 +24,6 @@ use Rattle.frontier_check.specs.Front.{IsFront}
 -- the object's list may grow by one word for each call of a book
 abbrev pub Fits : List ℕ → List ℕ → Type 0
 Fits cut list = length list + 1 ≤ ROOM
-
--- A dead end: no places may stand one after another there, up to a legal order.
-abbrev pub IsDeadEnd : List Page → (List ℕ → ℕ → List ℕ × ℕ) → List ℕ → List ℕ → Type 0
-IsDeadEnd book next cut list = (rest : List Place) → Continues book next cut list rest → ⊥
-
--- where both calls are answered, the view of one is within that of the other
-abbrev pub ViewsAreWithin : List Page → Call → Call → Type 0
-ViewsAreWithin book a b = (r s : Record) → record_of book a ≡ Some r → record_of book b ≡ Some s → IsWithin r.view s.view
-
--- Of the callers below a number, the caller's first call outside the cut has the least view: it is answered, and its view is
--- within that of each of the others' first calls outside the cut that is answered.
-pub record IsLeast (book : List Page) (cut : List ℕ) (below caller : ℕ) : Type 0 where
-  pub answered : IsAnswered book (next_call cut caller)
-  pub least : (other : ℕ) → other < below → ViewsAreWithin book (next_call cut caller) (next_call cut other)
 
 -- the place is one of these
 abbrev pub IsAmong : Place → List Place → Type 0
@@ -57,17 +44,6 @@ pub record IsOpen (book : List Page) (next : List ℕ → ℕ → List ℕ × �
   pub unended : HoldsAnswered book cut → ⊥
   pub sound : AllByRecursion (MayStandNext book next cut list) places
   pub covered : (rest : List Place) → Continues book next cut list rest → GoesOnBy book next cut list places
-
--- A place may stand at once: it may stand next, and where an order goes on at all, one goes on by it.
-pub record StandsAtOnce (book : List Page) (next : List ℕ → ℕ → List ℕ × ℕ) (cut list : List ℕ) (place : Place) : Type 0 where
-  pub may_stand : MayStandNext book next cut list place
-  pub goes_on : (rest : List Place) → Continues book next cut list rest → (other : List Place) × Continues book next cut list (place ∷ other)
-
--- An order from the start reaches a cut and a list, and makes a legal order with all that goes on from there.
-pub record IsReached (init : List ℕ) (next : List ℕ → ℕ → List ℕ × ℕ) (book : List Page) (cut list : List ℕ) : Type 0 where
-  pub before : List Place
-  pub reaches : Reaches init next book before cut list
-  pub legal : (rest : List Place) → Continues book next cut list rest → IsLegalOrder init next book (before ++ rest)
 
 -- A list has a word of this rank: where it is below a limit, the list has a word of a rank below that limit.
 abbrev pub IsRankIn : List (ℕ × ℕ) → List ℕ → ℕ → Type 0

@@ -3,7 +3,7 @@ ghost use Rattle.book_base.specs.declared.call.Record.{Record};
 ghost use Rattle.book_base.specs.Cut.{IsWithin};
 ghost use Rattle.book_base.specs.Book.{record_of};
 ghost use Rattle.book_base.specs.Order.{call_at};
-ghost use Rattle.book_laws.specs.Next.{next_call};
+ghost use Rattle.book_base.specs.Next.{next_call};
 ghost use Rattle.frontier_check.specs.Front.{no_calls, IsNext, IsPut, IsFront, LeavesOpen};
 
 use crate::walk::ROOM;

@@ -5,9 +5,10 @@ ghost use Rattle.book_base.specs.Book.{IsCall, IsAnswered, record_of};
 ghost use Rattle.book_base.specs.Order.{IsLegalOrder};
 ghost use Rattle.book_base.specs.Foresight.{IsForesight, IsHopeless};
 ghost use Rattle.book_base.specs.declared.TheConstants.{MAX_CALLERS, MAX_CALLS};
-ghost use Rattle.book_laws.specs.Next.{next_call, raised, list_after, HoldsAnswered, MayComeNext};
+ghost use Rattle.book_base.specs.Next.{next_call, raised, list_after, HoldsAnswered, MayComeNext};
 ghost use Rattle.frontier_check.specs.Front.{IsFront};
-ghost use Rattle.frontier_check.specs.Search.{IsLeast, IsDeadEnd, ViewsAreWithin, places_of, AreChosen, IsOpen, IsReached, IsWalk, IsRightOutcome, StandsAtOnce, IsRankIn, Fits, weigh, weight};
+ghost use Rattle.book_base.specs.Pruning.{IsLeast, IsDeadEnd, ViewsAreWithin, IsReached, StandsAtOnce};
+ghost use Rattle.frontier_check.specs.Search.{places_of, AreChosen, IsOpen, IsWalk, IsRightOutcome, IsRankIn, Fits, weigh, weight};
 
 use crate::choice::Choice;
 use crate::front::Front;

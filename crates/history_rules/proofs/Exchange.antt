@@ -1,7 +1,6 @@
 -- An answered call that leaves the list may be moved to the front of what goes on.
 use Rattle.std.proofs.Common.{◌≡◌, ◌≢◌, ℕ, ◌+◌, ◌<◌, ◌≤◌, ◌∙◌, List, [], ◌∷◌, length, get_or, set, Some, sym, ap, subst, inl, inr, length-set, arith}
 use Rattle.std.proofs.lemmas.Bool.{cases_eq}
-use Rattle.std.proofs.lemmas.List.{set_comm}
 use Rattle.std.proofs.lemmas.Option.{same_Some, slice_get_within}
 use Rattle.book_base.specs.declared.call.Call.{Call}
 use Rattle.book_base.specs.declared.call.Place.{Place}
@@ -9,26 +8,10 @@ use Rattle.book_base.specs.declared.call.Record.{Record}
 use Rattle.book_base.specs.Cut.{Holds}
 use Rattle.book_base.specs.Book.{Page, record_of, Precedes}
 use Rattle.book_base.specs.Order.{call_at}
-use Rattle.book_laws.specs.Next.{raised, MayComeNext, MayStandNext, list_after, Continues}
-use Rattle.book_laws.proofs.LegalOrder.{raised_other, raised_more, same_call, within_cut}
+use Rattle.book_base.specs.Next.{raised, MayComeNext, MayStandNext, list_after, Continues}
+use Rattle.book_laws.proofs.LegalOrder.{raised_twice, comes_later, same_call, within_cut}
 use Rattle.book_base.specs.Foresight.{Leaves}
 use Rattle.history_rules.specs.Standing.{answered_place, word_of, GoesOnWithIt}
-
--- two callers' counts may be raised in either order
-raised_twice : (cut : List ℕ) (i j : ℕ) → i ≢ j → raised (raised cut i) j ≡ raised (raised cut j) i
-raised_twice cut i j apart =
-    ap (λ (n : ℕ). set (raised cut i) j (n + 1)) (raised_other cut i j (λ e. apart (sym e)))
-    ∙ (set_comm cut i j (get_or cut i 0 + 1) (get_or cut j 0 + 1) apart
-    ∙ ap (λ (n : ℕ). set (raised cut j) i (n + 1)) (sym (raised_other cut j i apart)))
-
--- a call may still come next when another caller's call has come
-comes_later : (book : List Page) (cut : List ℕ) (i : ℕ) (call : Call) → i < length cut → call.caller ≢ i → MayComeNext book cut call → MayComeNext book (raised cut i) call
-comes_later book cut i call inside apart may = record {
-  is_call = may.is_call;
-  next = may.next ∙ sym (raised_other cut i call.caller apart);
-  preceded = λ (a : Call) (p : Precedes book a call).
-      let held : a.number < get_or cut a.caller 0 = may.preceded a p in omega (arith, held, raised_more cut i a.caller inside);
-}
 
 -- What may come next, is answered, and leaves every list with its recorded reply, wherever it stands.
 record Leaving (book : List Page) (next : List ℕ → ℕ → List ℕ × ℕ) (cut : List ℕ) (call : Call) (r : Record) : Type 0 where

@@ -16,7 +16,7 @@ use Rattle.book_base.specs.Foresight.{Known, IsForesight, Reaches}
 use Rattle.book_base.proofs.PageLemmas.{caller_from_call}
 use Rattle.book_base.proofs.ViewLemmas.{same_call, answer_stands}
 use Rattle.book_base.proofs.ReachingLemmas.{no_places_reach_the_start, one_more_place_reaches_on}
-use Rattle.book_laws.specs.Next.{next_call}
+use Rattle.book_base.specs.Next.{next_call}
 use Rattle.object_foresight.specs.Stuck.{IsBlocked}
 use Rattle.object_foresight.proofs.Counting.{call_of}
 

@@ -4,7 +4,7 @@ ghost use Rattle.book_base.specs.Cut.{Holds};
 ghost use Rattle.book_base.specs.Book.{IsCall, IsAnswered, IsValid};
 ghost use Rattle.book_base.specs.Order.{HasLegalOrder};
 ghost use Rattle.book_base.specs.Foresight.{IsForesight};
-ghost use Rattle.book_laws.specs.Next.{next_call};
+ghost use Rattle.book_base.specs.Next.{next_call};
 ghost use Rattle.object_foresight.specs.Stuck.{IsBlocked};
 
 use book_base::{Book, Call, Cut, Foresight, MAX_CALLERS, MAX_CALLS};

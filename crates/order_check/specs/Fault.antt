@@ -5,7 +5,7 @@ use Rattle.book_base.specs.declared.call.Record.{Record as Answer}
 use Rattle.book_base.specs.declared.call.Place.{Place}
 use Rattle.book_base.specs.Book.{Page, IsCall, IsAnswered, record_of, Precedes}
 use Rattle.book_base.specs.Order.{call_at, StandsAt, step_at}
-use Rattle.book_laws.specs.Next.{list_after}
+use Rattle.book_base.specs.Next.{list_after}
 use Rattle.order_check.specs.declared.fault.OrderFault.{OrderFault}
 use Rattle.order_check.specs.declared.fault.OrderFault.TheVariants.{Unknown, Twice, Skipped, Late, Record, Run, Missing}
 

@@ -3,7 +3,7 @@ ghost use Rattle.book_base.specs.declared.call.Call.{Call};
 ghost use Rattle.book_base.specs.Cut.{Holds};
 ghost use Rattle.book_base.specs.Book.{IsAnswered};
 ghost use Rattle.book_base.specs.Order.{IsLegalOrder};
-ghost use Rattle.book_laws.specs.Next.{HoldsAnswered};
+ghost use Rattle.book_base.specs.Next.{HoldsAnswered};
 ghost use Rattle.order_check.specs.Fault.{IsFirstFault};
 
 use crate::fault::OrderFault;

@@ -9,7 +9,7 @@ use Rattle.book_base.specs.declared.call.Place.{Place}
 use Rattle.book_base.specs.declared.TheConstants.{MAX_CALLERS, MAX_CALLS}
 use Rattle.book_base.specs.Book.{Page, calls_of, IsSmall, IsCall}
 use Rattle.book_base.specs.Order.{call_at, step_at}
-use Rattle.book_laws.specs.Next.{HoldsAnswered}
+use Rattle.book_base.specs.Next.{HoldsAnswered}
 use Rattle.frontier_check.proofs.Leading.{sum_small}
 use Rattle.set_order.specs.declared.walk.Level.{Level}
 use Rattle.set_order.specs.SetOrder.{operations_of, IsLegalSetOrder, HasLegalSetOrder}

@@ -12,7 +12,7 @@ use Rattle.book_base.specs.Book.{Page, IsCall, IsAnswered, record_of, Precedes}
 use Rattle.book_base.specs.Order.{call_at, StandsAt}
 use Rattle.book_base.proofs.ViewLemmas.{answer_stands}
 use Rattle.book_base.proofs.PageLemmas.{caller_from_call}
-use Rattle.book_laws.specs.Next.{MayComeNext}
+use Rattle.book_base.specs.Next.{MayComeNext}
 use Rattle.book_laws.proofs.LegalOrder.{same_place}
 use Rattle.set_order.specs.SetOrder.{callers_of, RiseFrom, StandsIn, IsServedFrom, IsLegalSetOrder}
 use Rattle.set_order.specs.Search.{raised_by, MayStandIn, MayStandTogether, SetsContinue}

@@ -5,7 +5,7 @@ use Rattle.std.proofs.lemmas.Option.{same_Some, none-some}
 use Rattle.book_base.specs.declared.call.Place.{Place}
 use Rattle.book_base.specs.Book.{Page}
 use Rattle.book_base.specs.Order.{step_at, HasLegalOrder}
-use Rattle.book_laws.specs.Next.{raised, list_after, MayStandNext, Continues}
+use Rattle.book_base.specs.Next.{raised, list_after, MayStandNext, Continues}
 use Rattle.book_laws.proofs.LegalOrder.{legal_order_from_continues, continues_from_legal_order}
 use Rattle.set_order.specs.Serving.{served_alone}
 use Rattle.set_order.specs.SetOrder.{replies_of, HasLegalSetOrder}

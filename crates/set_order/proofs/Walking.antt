@@ -7,7 +7,7 @@ use Rattle.book_base.specs.Book.{Page, IsSmall, IsCall}
 use Rattle.std.proofs.lemmas.List.{length-map}
 use Rattle.book_base.specs.Order.{step_at}
 use Rattle.book_base.proofs.PageLemmas.{caller_from_call}
-use Rattle.book_laws.specs.Next.{next_call, HoldsAnswered, MayComeNext}
+use Rattle.book_base.specs.Next.{next_call, HoldsAnswered, MayComeNext}
 use Rattle.std.proofs.lemmas.Option.{none-some}
 use Rattle.frontier_check.specs.declared.memo.Entry.{Entry}
 use Rattle.frontier_check.specs.declared.memo.Memo.{Memo}

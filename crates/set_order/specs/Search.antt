@@ -6,7 +6,7 @@ use Rattle.book_base.specs.declared.call.Place.{Place}
 use Rattle.book_base.specs.declared.TheConstants.{MAX_CALLERS}
 use Rattle.book_base.specs.Book.{Page, operation_of, record_of}
 use Rattle.book_base.specs.Order.{call_at}
-use Rattle.book_laws.specs.Next.{next_call, HoldsAnswered, MayComeNext}
+use Rattle.book_base.specs.Next.{next_call, HoldsAnswered, MayComeNext}
 use Rattle.frontier_check.specs.Memo.{IsMemo, Remembers}
 use Rattle.set_order.specs.declared.walk.Level.{Level}
 use Rattle.set_order.specs.declared.walk.Walk.{Walk}

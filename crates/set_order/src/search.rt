@@ -3,7 +3,7 @@ ghost use Rattle.std.specs.List.{AllByRecursion};
 ghost use Rattle.book_base.specs.declared.TheConstants.{MAX_CALLERS};
 ghost use Rattle.book_base.specs.Book.{IsValid, IsSmall, IsCall, record_of};
 ghost use Rattle.book_base.specs.declared.call.Record.{Record};
-ghost use Rattle.book_laws.specs.Next.{next_call, HoldsAnswered, MayComeNext};
+ghost use Rattle.book_base.specs.Next.{next_call, HoldsAnswered, MayComeNext};
 ghost use Rattle.set_order.specs.SetOrder.{callers_of, IsLegalSetOrder, HasLegalSetOrder};
 ghost use Rattle.set_order.specs.Search.{raised_by, picked, MayStandTogether, AreCandidates, CannotStand, IsDeadEnd, IsWalk, IsRightOutcome, next_operations, ArePlaced, HasWrongReply, weigh, weight};
 

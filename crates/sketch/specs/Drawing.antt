@@ -4,7 +4,7 @@ use Rattle.book_base.specs.declared.call.Call.{Call}
 use Rattle.book_base.specs.declared.call.Record.{Record}
 use Rattle.book_base.specs.Cut.{Holds, IsWithin}
 use Rattle.book_base.specs.Book.{Page, calls_of, answers_of, announced, answered, record_of}
-use Rattle.book_laws.specs.Next.{raised}
+use Rattle.book_base.specs.Next.{raised}
 use Rattle.sketch.specs.declared.event.Event.{Event}
 use Rattle.sketch.specs.declared.event.Event.TheVariants.{Invoke, Return}
 use Rattle.sketch.specs.declared.drawn.Drawn.{Drawn}

@@ -1,6 +1,6 @@
 use Rattle.std.proofs.Common.{ℕ, ◌<◌}
 use Rattle.book_base.specs.Book.{IsCall}
-use Rattle.book_laws.specs.Next.{next_call}
+use Rattle.book_base.specs.Next.{next_call}
 use Rattle.object_foresight.specs.Stuck.{IsBlocked}
 use Rattle.object_foresight.proofs.stuck.is_end.Given as goal
 

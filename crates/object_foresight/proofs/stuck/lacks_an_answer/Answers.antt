@@ -1,5 +1,5 @@
 use Rattle.std.proofs.Common.{arith}
-use Rattle.book_laws.specs.Next.{next_call}
+use Rattle.book_base.specs.Next.{next_call}
 use Rattle.object_foresight.proofs.stuck.lacks_an_answer.Goals as goal
 
 pub returns-then-get-answers : goal.returns-then-get-answers

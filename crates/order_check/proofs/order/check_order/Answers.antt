@@ -6,7 +6,7 @@ use Rattle.book_base.specs.declared.call.Place.{Place}
 use Rattle.book_base.specs.Book.{IsCall, calls_of, operation_of}
 use Rattle.book_base.specs.Order.{call_at}
 use Rattle.book_base.proofs.PageLemmas.{caller_from_call}
-use Rattle.book_laws.specs.Next.{raised}
+use Rattle.book_base.specs.Next.{raised}
 use Rattle.order_check.specs.declared.fault.OrderFault.TheVariants.{Run, Missing}
 use Rattle.order_check.specs.Fault.{IsFirstFault, reply_at}
 use Rattle.order_check.specs.Standing.{IsStanding, IsInPlace, IsGiven}

@@ -2,7 +2,7 @@ use Rattle.std.proofs.Common.{◌≡◌, ◌+◌, ◌∙◌, ℕ, set, ap, sym, 
 use Rattle.std.specs.Option.{unwrap_or}
 use Rattle.book_base.specs.State.{Contents}
 use Rattle.book_base.specs.Order.{step_at}
-use Rattle.book_laws.specs.Next.{raised, list_after}
+use Rattle.book_base.specs.Next.{raised, list_after}
 use Rattle.frontier_check.specs.declared.front.Front.{Front}
 use Rattle.frontier_check.proofs.Following.{putting, put-more}
 use Rattle.frontier_check.proofs.front.Front.put.Goals as goal

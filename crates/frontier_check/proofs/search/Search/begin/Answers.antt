@@ -1,6 +1,6 @@
 use Rattle.std.proofs.Common.{◌∙◌, ℕ, List, length, sym, ap, subst, arith}
 use Rattle.book_base.specs.State.{Contents}
-use Rattle.frontier_check.specs.Search.{IsLeast}
+use Rattle.book_base.specs.Pruning.{IsLeast}
 use Rattle.frontier_check.proofs.Following.{stands-fit}
 use Rattle.frontier_check.proofs.Walking.{front-fits}
 use Rattle.frontier_check.proofs.search.Search.begin.Goals as goal

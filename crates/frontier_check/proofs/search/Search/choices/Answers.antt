@@ -1,7 +1,7 @@
 use Rattle.std.proofs.Common.{◌≡◌, ◌∙◌, ℕ, List, [], ◌∷◌, ◌++◌, length, sym, ap, subst, arith}
 use Rattle.book_base.specs.declared.call.Place.{Place}
 use Rattle.book_base.specs.Foresight.{IsHopeless}
-use Rattle.book_laws.specs.Next.{next_call}
+use Rattle.book_base.specs.Next.{next_call}
 use Rattle.frontier_check.specs.declared.choice.Choice.{Choice}
 use Rattle.frontier_check.specs.Search.{AreChosen, IsOpen, places_of}
 use Rattle.frontier_check.proofs.Choosing.{may_come-from_least, outside-skip, hopeless-skip, open-from_chosen, open-from_once}

@@ -1,10 +1,11 @@
 use Rattle.std.proofs.Common.{◌≡◌, ◌+◌, ◌∙◌, [], ◌∷◌, ◌++◌, ℕ, List, length, get_or, set, refl, sym, ap, subst, arith}
 use Rattle.std.proofs.lemmas.List.{length-set}
 use Rattle.book_base.specs.State.{Contents}
-use Rattle.book_laws.specs.Next.{raised, list_after, HoldsAnswered}
+use Rattle.book_base.specs.Next.{raised, list_after, HoldsAnswered}
 use Rattle.frontier_check.specs.declared.walk.Level.{Level}
 use Rattle.frontier_check.specs.declared.walk.Walk.{Walk}
-use Rattle.frontier_check.specs.Search.{places_of, IsOpen, IsLeast}
+use Rattle.book_base.specs.Pruning.{IsLeast}
+use Rattle.frontier_check.specs.Search.{places_of, IsOpen}
 use Rattle.frontier_check.specs.Memo.{Remembers}
 use Rattle.frontier_check.proofs.Pairs.{remembers-moved}
 use Rattle.frontier_check.proofs.Leading.{standing, lowered}

@@ -1,6 +1,6 @@
 use Rattle.std.proofs.Common.{◌+◌, ℕ, Option, sym, subst, arith}
 use Rattle.book_base.specs.Book.{IsAnswered}
-use Rattle.book_laws.specs.Next.{next_call}
+use Rattle.book_base.specs.Next.{next_call}
 use Rattle.frontier_check.proofs.Choosing.{LeastSoFar, so_far-start, so_far-new, so_far-not_before, so_far-not_open, so_far-answered, so_far-some, so_far-none}
 use Rattle.frontier_check.proofs.search.Search.least_open.Goals as goal
 use Rattle.frontier_check.proofs.search.Search.least_open.Goals.{then-from-answers+then-is_before, else-from-answers, else-from-answers-via-then-from-answers+else-is_before, else-from-answers-via-else-from-answers}

@@ -1,7 +1,7 @@
 use Rattle.std.proofs.Common.{◌≡◌, ◌+◌, ◌-◌, ◌^◌, ◌∙◌, ℕ, List, length, refl, sym, ap, subst, arith}
 use Rattle.std.proofs.lemmas.Bool.{both_ways}
 use Rattle.book_base.specs.State.{Contents}
-use Rattle.book_laws.specs.Next.{HoldsAnswered}
+use Rattle.book_base.specs.Next.{HoldsAnswered}
 use Rattle.set_order.specs.declared.walk.Level.{Level}
 use Rattle.set_order.specs.declared.walk.Walk.{Walk}
 use Rattle.set_order.specs.Search.{MayStandTogether, IsOpen, AreCandidates}

@@ -1,7 +1,7 @@
 use Rattle.std.proofs.Common.{◌<◌, false, get_or, refl, arith}
 use Rattle.std.proofs.lemmas.Bool.{both_ways}
 use Rattle.book_base.specs.declared.call.Call.{Call}
-use Rattle.book_laws.specs.Next.{HoldsAnswered}
+use Rattle.book_base.specs.Next.{HoldsAnswered}
 use Rattle.set_order.proofs.search.SetSearch.holds_answered.Goals as goal
 
 pub returns-then-from-answers : goal.returns-then-from-answers

@@ -3,7 +3,7 @@ use Rattle.std.proofs.lemmas.Bool.{both_ways}
 use Rattle.book_base.specs.declared.call.Call.{Call}
 use Rattle.book_base.specs.Book.{IsAnswered, Precedes}
 use Rattle.book_base.proofs.PageLemmas.{caller_from_answer}
-use Rattle.book_laws.specs.Next.{next_call, MayComeNext}
+use Rattle.book_base.specs.Next.{next_call, MayComeNext}
 use Rattle.book_laws.proofs.Precedence.{may_come_next-from_first}
 use Rattle.set_order.proofs.search.SetSearch.may_come.Goals as goal
 

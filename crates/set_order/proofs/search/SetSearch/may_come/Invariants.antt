@@ -1,6 +1,6 @@
 use Rattle.std.proofs.Common.{ℕ, ◌<◌}
 use Rattle.book_base.specs.Book.{IsAnswered, Precedes}
-use Rattle.book_laws.specs.Next.{next_call}
+use Rattle.book_base.specs.Next.{next_call}
 use Rattle.set_order.proofs.search.SetSearch.may_come.Given as goal
 
 abbrev pub invariant-loop-other : goal.invariant-loop-other

@@ -2,7 +2,7 @@ use Rattle.std.proofs.Common.{◌≡◌, ◌∙◌, ◌^◌, ◌+◌, [], ℕ, L
 use Rattle.std.proofs.lemmas.Bool.{both_ways}
 use Rattle.book_base.specs.declared.call.Place.{Place}
 use Rattle.book_base.specs.State.{Contents}
-use Rattle.book_laws.specs.Next.{HoldsAnswered}
+use Rattle.book_base.specs.Next.{HoldsAnswered}
 use Rattle.set_order.specs.SetOrder.{IsLegalSetOrder}
 use Rattle.set_order.specs.declared.walk.Walk.{Walk}
 use Rattle.set_order.specs.Search.{no_calls, AreCandidates, IsOpen}

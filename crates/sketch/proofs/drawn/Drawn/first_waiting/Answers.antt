@@ -1,7 +1,7 @@
 use Rattle.std.proofs.Common.{◌≡◌, ℕ, ◌+◌, sym, ap, subst, arith}
 use Rattle.book_base.specs.declared.call.Call.{Call}
 use Rattle.book_base.specs.Book.{IsAnswered}
-use Rattle.book_laws.specs.Next.{next_call}
+use Rattle.book_base.specs.Next.{next_call}
 use Rattle.sketch.proofs.Waiting.{IsFirstUpTo, first-more, first-more_only, first-more_none, first_of_all_callers}
 use Rattle.sketch.proofs.drawn.Drawn.first_waiting.Goals as goal
 use Rattle.sketch.proofs.drawn.Drawn.first_waiting.Goals.{then-number-answers+in-Some, then-number-answers+in-None, else-number-answers}

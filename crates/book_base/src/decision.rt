@@ -1,0 +1,12 @@
+use crate::call::Place;
+
+/// What an object says of a whole book without a search of pairs.
+#[derive(Debug, Drop)]
+pub enum Decision {
+    /// A legal order.
+    Order(Vec<Place>),
+    /// There is none.
+    NoOrder,
+    /// Nothing.
+    Unsaid,
+}
