@@ -1,3 +1,5 @@
 pub mod Opening
 pub mod Exchanging
 pub mod Omitting
+pub mod Forcing
+pub mod Bringing

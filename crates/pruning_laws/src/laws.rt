@@ -2,6 +2,7 @@
 
 ghost use Rattle.pruning_laws.specs.Twins.{TwinServes};
 ghost use Rattle.pruning_laws.specs.Idle.{IdleMayBeLeftOut};
+ghost use Rattle.pruning_laws.specs.Keys.{ForcedKeyGoesFirst};
 
 /// Of two calls of one operation that may come next, the one that is answered serves for the other: with
 /// the same reply and no greater view, or where the other is unanswered. Of two unanswered ones either
@@ -15,4 +16,9 @@ pub fn twins_serve_for_one_another()
 #[tactic(auto, using(crate::proofs::Omitting::idle_may_be_left_out))]
 pub fn idle_calls_may_be_left_out()
     ensures { IdleMayBeLeftOut }
+{}
+
+/// Of an object of keys only calls with the forced call's key need be tried.
+pub fn the_forced_key_goes_first()
+    ensures { ForcedKeyGoesFirst }
 {}
