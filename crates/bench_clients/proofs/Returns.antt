@@ -1,11 +1,12 @@
 -- Clients that are finished, and their callers back on the bench.
-use Rattle.std.proofs.Common.{◌≡◌, ◌≢◌, ◌∙◌, sym, subst, ap, refl, inl, inr, ℕ, zero, suc, ◌+◌, ◌*◌, ◌<◌, ◌≤◌, Bool, true, false, ◌||◌, List, [], ◌∷◌, ◌++◌, Some, None, length, slice_get, slice_index, arith}
+use Rattle.std.proofs.Common.{◌≡◌, ◌≢◌, ◌∙◌, sym, subst, ap, refl, inl, inr, ℕ, ◌+◌, ◌<◌, ◌≤◌, Bool, true, false, ◌||◌, List, [], ◌∷◌, ◌++◌, Some, length, slice_get, slice_index, arith}
 use Rattle.std.specs.Prelude.{Option, IfSome}
 use Rattle.std.proofs.lemmas.Bool.{cases_lt, false≢true}
 use Rattle.std.proofs.lemmas.List.{length_push}
 use Rattle.std.proofs.lemmas.Option.{same_Some}
 use Rattle.list_laws.proofs.Places.{slice_get-push_old, slice_get-push_last}
-use Rattle.world_core.specs.Local.{Local}
+use Rattle.world_core.specs.Local.{Local, Object_step}
+use Rattle.world_core.specs.CallSteps.{all_steps_of}
 use Rattle.call_lines.specs.declared.line.Line.{Line}
 use Rattle.row_table.specs.declared.bench.Bench.{Bench}
 use Rattle.call_phases.specs.declared.stand.Stand.{Stand}
@@ -13,8 +14,9 @@ use Rattle.call_phases.specs.declared.stand.Stand.TheVariants.{Idle, Announced, 
 use Rattle.call_phases.specs.Stands.{caller_at, local_at_stand, phases_at}
 use Rattle.call_phases.specs.Clients.{Spent, HasSpent, phases_by}
 use Rattle.call_phases.specs.Ends.{Sequential, HasLeftAt}
-use Rattle.call_phases.specs.Course.{HasTold}
-use Rattle.call_phases.specs.Finishing.{is_unjudged, Leaves}
+use Rattle.call_phases.specs.Asking.{Fits, PassCount, FitsCaller}
+use Rattle.call_phases.specs.Course.{HasTold, HasCounted}
+use Rattle.call_phases.specs.Finishing.{is_unjudged, KeepsAsked, Leaves}
 use Rattle.call_phases.specs.declared.client.Client.{Client}
 use Rattle.call_phases.specs.declared.finished.Finished.{Finished}
 use Rattle.call_phases.proofs.Told.{if_some_as}
@@ -23,14 +25,15 @@ use Rattle.world_core.specs.Calls.{Made, calls_in}
 use Rattle.call_lines.specs.Phases.{Progress, IsProgressAfter, HasMade, IsTold}
 use Rattle.call_lines.specs.Allotments.{operations_at}
 use Rattle.row_table.specs.declared.rows.Rows.{Rows}
-use Rattle.row_table.specs.Callers.{who_of, local_with, on_bench}
+use Rattle.row_table.specs.declared.caller.Caller.{Caller}
+use Rattle.row_table.specs.Callers.{shape_of, who_of, local_with, on_bench, IsCallerOf}
 use Rattle.drv_wrapper.specs.Stands.{IsSame}
 use Rattle.bench_clients.specs.Work.{Says, IsReady, HasRun}
-use Rattle.bench_clients.specs.Starts.{Course, IsUnused, IsFreshPass, IsClientOf, IsStart}
+use Rattle.bench_clients.specs.Starts.{Course, IsUnused, IsNewCount, IsFreshPass, IsClientOf, IsStart}
 use Rattle.bench_clients.specs.Places.{AreInOrder}
 use Rattle.bench_clients.proofs.Places.{item_at}
 use Rattle.bench_clients.proofs.Starts.{no_phase}
-use Rattle.bench_clients.specs.Returns.{IsSpent, IsBackOn, ComesBack, IsBack, AreBack}
+use Rattle.bench_clients.specs.Returns.{IsSpent, IsCountOf, IsBackOn, ComesBack, IsBack, AreBack}
 use Rattle.bench_clients.specs.declared.worker.Worker.{Worker}
 
 -- no more phases were made than were given
@@ -48,9 +51,9 @@ pub neither_wanted : (a b : Bool) → (a || b) ≡ false → (a ≡ false) × (b
 neither_wanted true b none = absurd (false≢true (sym none))
 neither_wanted false b none = (refl, none)
 
-module _ {P T : Type 0} (says : Says) (is_own : T → ℕ → Type 0) (made : T → ℕ) (told : T → Option (List (ℕ × ℕ))) (n : ℕ) (course : Course) where
+module _ {P T : Type 0} (meaning : P → ℕ → ℕ → Meaning) (r : Rows P) (says : Says) (fits : Fits T) (count : T → Option PassCount) (n : ℕ) (course : Course) where
   abbrev Back : Bench P → List T → List (List Line) → Bool → ℕ → Type 0
-  Back b passes lines wanted i = IsBack says is_own made told n course b passes lines wanted i
+  Back b passes lines wanted i = IsBack meaning r says fits count course b passes lines wanted i
 
   -- a caller that was back is back still when another comes
   still_back : (b c : Bench P) (passes passes' : List T) (lines lines' : List (List Line)) (wanted wanted' : Bool) (i : ℕ) (pass : T) (own : List Line)
@@ -70,25 +73,24 @@ module _ {P T : Type 0} (says : Says) (is_own : T → ℕ → Type 0) (made : T 
 
   -- one more caller is back
   pub one_pass_more : (i : ℕ) (b : Bench P) (passes passes' : List T) (lines lines' : List (List Line)) (wanted : Bool)
-      → ComesBack says is_own made told n course i b passes passes' lines lines' wanted → length passes' ≡ length passes + 1
+      → ComesBack meaning r says fits count course i b passes passes' lines lines' wanted → length passes' ≡ length passes + 1
   one_pass_more i b passes passes' lines lines' wanted h = ap (λ (ps : List T). length ps) h.pass_put ∙ length_push passes h.pass
 
   pub one_line_more : (i : ℕ) (b : Bench P) (passes passes' : List T) (lines lines' : List (List Line)) (wanted : Bool)
-      → ComesBack says is_own made told n course i b passes passes' lines lines' wanted → length lines' ≡ length lines + 1
+      → ComesBack meaning r says fits count course i b passes passes' lines lines' wanted → length lines' ≡ length lines + 1
   one_line_more i b passes passes' lines lines' wanted h = ap (λ (ls : List (List Line)). length ls) h.lines_put ∙ length_push lines h.own
 
-  pub same_callers : (m i j : ℕ) (b : Bench P) (passes passes' : List T) (lines lines' : List (List Line)) (wanted : Bool) → n ≡ m → i ≡ j
-      → ComesBack says is_own made told n course i b passes passes' lines lines' wanted → ComesBack says is_own made told m course j b passes passes' lines lines' wanted
-  same_callers m i j b passes passes' lines lines' wanted all one h =
-      subst (λ (k : ℕ). ComesBack says is_own made told k course j b passes passes' lines lines' wanted) all
-      (subst (λ (k : ℕ). ComesBack says is_own made told n course k b passes passes' lines lines' wanted) one h)
+  pub same_caller : (i j : ℕ) (b : Bench P) (passes passes' : List T) (lines lines' : List (List Line)) (wanted : Bool) → i ≡ j
+      → ComesBack meaning r says fits count course i b passes passes' lines lines' wanted → ComesBack meaning r says fits count course j b passes passes' lines lines' wanted
+  same_caller i j b passes passes' lines lines' wanted one h =
+      subst (λ (k : ℕ). ComesBack meaning r says fits count course k b passes passes' lines lines' wanted) one h
 
   pub one_more_back : (b c : Bench P) (passes passes' : List T) (lines lines' : List (List Line)) (wanted wanted' one : Bool) (k : ℕ)
       → k ≡ length passes → k ≡ length lines → (wanted' ≡ false → (wanted ≡ false) × (one ≡ false))
-      → AreBack says is_own made told n k course b passes lines wanted
-      → ComesBack says is_own made told n course k c passes passes' lines lines' one
+      → AreBack meaning r says fits count n k course b passes lines wanted
+      → ComesBack meaning r says fits count course k c passes passes' lines lines' one
       → ((i : ℕ) → i ≢ k → on_bench c i ≡ on_bench b i)
-      → AreBack says is_own made told n (k + 1) course c passes' lines' wanted'
+      → AreBack meaning r says fits count n (k + 1) course c passes' lines' wanted'
   one_more_back b c passes passes' lines lines' wanted wanted' one k at_pass at_lines weaker h come others = record {
     back = λ i low.
         elim (cases_lt i k) [
@@ -111,16 +113,27 @@ module _ {P T : Type 0} (says : Says) (is_own : T → ℕ → Type 0) (made : T 
     gone = λ i high within. others i (λ same. omega (arith, high, same)) ∙ h.gone i (omega (arith, high)) within;
   }
 
+-- a pass that fits a caller fits it by what is known of the caller
+fits_back : {P T : Type 0} (meaning : P → ℕ → ℕ → Meaning) (r : Rows P) (fits : Fits T) (c : Caller P) (l : Local) (pass pass' : T) (who : ℕ) → IsCallerOf meaning r c → who_of c ≡ who
+    → l ≡ local_with c → pass' ≡ pass → FitsCaller fits pass c → fits r.callers r.cap pass' who (all_steps_of l)
+fits_back {P} {T} meaning r fits c l pass pass' who caller number same is h =
+    subst (λ (p : T). fits r.callers r.cap p who (all_steps_of l)) (sym is)
+    (subst (λ (m : Local). fits r.callers r.cap pass who (all_steps_of m)) (sym same)
+    (subst (λ (i : ℕ). fits r.callers r.cap pass i (all_steps_of (local_with c))) number
+    (subst (λ (n : ℕ). fits r.callers n pass (who_of c) (all_steps_of (local_with c))) caller.cap
+    (subst (λ (n : ℕ). fits n c.cap pass (who_of c) (all_steps_of (local_with c))) caller.callers h))))
+
 -- what a finished client leaves on the bench
-module _ {P T E : Type 0} (meaning : P → ℕ → ℕ → Meaning) (r : Rows P) (says : Says) (object : E → Sequential) (is_own : T → ℕ → Type 0) (made room : T → ℕ) (told : T → Option (List (ℕ × ℕ))) (course : Course) where
+module _ {P T E : Type 0} (meaning : P → ℕ → ℕ → Meaning) (r : Rows P) (says : Says) (object : E → Sequential) (fits : Fits T) (count : T → Option PassCount) (course : Course) where
   pub client_back : (c : Client P T E) (f : Finished P T E) (b : Bench P) (passes passes' : List T) (lines lines' : List (List Line))
-      → IsClientOf meaning r says object is_own made room told course c.sheet.who c → HasSpent (slice_index course.allotments c.sheet.who) c
+      → IsClientOf meaning r says object fits count course c.sheet.who c → HasSpent (slice_index course.allotments c.sheet.who) c
       → IsSame (caller_at c.stand) f.caller → f.pass ≡ c.pass → f.ending ≡ c.sheet.ending → f.wants_memory ≡ is_unjudged c.stand
       → HasMade c.sheet.operations.now (phases_by c) (local_with f.caller)
+      → KeepsAsked (shape_of meaning r).program c.sheet.who (phases_by c) (local_with f.caller)
       → Leaves (says (object f.ending)) r.callers c.sheet.operations.now c.stand c.sheet.lines.items (local_with f.caller) f.lines.items
       → on_bench b (who_of f.caller) ≡ Some (local_with f.caller) → passes' ≡ passes ++ f.pass ∷ [] → lines' ≡ lines ++ f.lines.items ∷ []
-      → ComesBack says is_own made told r.callers course c.sheet.who b passes passes' lines lines' f.wants_memory
-  client_back c f b passes passes' lines lines' of spent same pass ending wanted phases leaves here pass_put lines_put =
+      → ComesBack meaning r says fits count course c.sheet.who b passes passes' lines lines' f.wants_memory
+  client_back c f b passes passes' lines lines' of spent same pass ending wanted phases asked leaves here pass_put lines_put =
       let who : who_of f.caller ≡ c.sheet.who = same.who ∙ of.work.course.number in
       let judges : object f.ending ≡ course.object = ap object ending ∙ of.judges in
       record {
@@ -132,13 +145,17 @@ module _ {P T E : Type 0} (meaning : P → ℕ → ℕ → Meaning) (r : Rows P)
         pass_put = pass_put;
         lines_put = lines_put;
         back = record {
-          own = subst (λ (p : T). is_own p c.sheet.who) (sym pass) of.work.own;
+          fits_caller = fits_back meaning r fits (caller_at c.stand) (local_with f.caller) c.pass f.pass c.sheet.who of.work.course.caller of.work.course.number same.local pass of.work.pass.fits_caller;
           within = spent_within (slice_index course.allotments c.sheet.who) (length c.sheet.lines.items) c.stand spent;
           phases = subst (λ (ops : List ℕ). HasMade ops (phases_by c) (local_with f.caller)) of.operations phases;
-          asked_for = ap made pass ∙ of.work.asked.made_is;
-          told_is = subst (λ (p : T). IfSome (told p) (IsTold (phases_by c) (calls_in (local_with f.caller)))) (sym pass)
-              (subst (λ (l : Local). IfSome (told c.pass) (IsTold (phases_by c) (calls_in l))) (sym same.local)
-              (if_some_as (told c.pass) (HasTold c.stand c.sheet.lines.items) (IsTold (phases_by c) (calls_in (local_at_stand c.stand))) (λ pairs h. h.told) of.work.asked.told_is));
+          asked = asked;
+          counts = subst (λ (p : T). IfSome (count p) (IsCountOf (phases_by c) (local_with f.caller))) (sym pass)
+              (subst (λ (l : Local). IfSome (count c.pass) (IsCountOf (phases_by c) l)) (sym same.local)
+              (if_some_as (count c.pass) (HasCounted c.sheet.operations.now c.stand c.sheet.lines.items) (IsCountOf (phases_by c) (local_at_stand c.stand))
+              (λ k h. record {
+                asked_for = h.asked.made_is;
+                told_is = if_some_as k.told (HasTold c.stand c.sheet.lines.items) (IsTold (phases_by c) (calls_in (local_at_stand c.stand))) (λ pairs t. t.told) h.asked.told_is;
+              }) of.work.pass.counts));
         };
         left = λ none.
             subst (λ (o : Sequential). HasLeftAt (says o) r.callers (operations_at course.operations c.sheet.who) (slice_index course.allotments c.sheet.who) (phases_by c) (local_with f.caller) f.lines.items) judges
@@ -147,20 +164,20 @@ module _ {P T E : Type 0} (meaning : P → ℕ → ℕ → Meaning) (r : Rows P)
       }
 
   -- the client of a worker that has spent its phases
-  pub spent_client : (i : ℕ) (w : Worker P T E) (c : Client P T E) → IsSpent meaning r says object is_own made room told course i w → w.client ≡ Some c
-      → IsClientOf meaning r says object is_own made room told course c.sheet.who c × HasSpent (slice_index course.allotments c.sheet.who) c × (c.sheet.who ≡ i)
+  pub spent_client : (i : ℕ) (w : Worker P T E) (c : Client P T E) → IsSpent meaning r says object fits count course i w → w.client ≡ Some c
+      → IsClientOf meaning r says object fits count course c.sheet.who c × HasSpent (slice_index course.allotments c.sheet.who) c × (c.sheet.who ≡ i)
   spent_client i w c h here =
       let same : h.client ≡ c = same_Some h.client c (sym h.here ∙ here) in
-      let of : IsClientOf meaning r says object is_own made room told course i c = subst (λ (d : Client P T E). IsClientOf meaning r says object is_own made room told course i d) same h.of in
+      let of : IsClientOf meaning r says object fits count course i c = subst (λ (d : Client P T E). IsClientOf meaning r says object fits count course i d) same h.of in
       let spent : HasSpent (slice_index course.allotments i) c = subst (λ (d : Client P T E). HasSpent (slice_index course.allotments i) d) same h.spent in (
-        subst (λ (k : ℕ). IsClientOf meaning r says object is_own made room told course k c) (sym of.who) of,
+        subst (λ (k : ℕ). IsClientOf meaning r says object fits count course k c) (sym of.who) of,
         subst (λ (k : ℕ). HasSpent (slice_index course.allotments k) c) (sym of.who) spent,
         of.who,
       )
 
   -- a worker that was ready and ran has spent its phases
-  pub start_spent : (i : ℕ) (w d : Worker P T E) → IsStart meaning r says object is_own made room told course i w → HasRun meaning r says object is_own made room told w d
-      → IsSpent meaning r says object is_own made room told course i d
+  pub start_spent : (i : ℕ) (w d : Worker P T E) → IsStart meaning r says object fits count course i w → HasRun meaning r says object fits count w d
+      → IsSpent meaning r says object fits count course i d
   start_spent i w d start ran =
       let same : start.client ≡ ran.before = same_Some start.client ran.before (sym start.here ∙ ran.was) in
       let none : phases_by ran.before ≡ 0 = ap (λ (c : Client P T E). phases_by c) (sym same) ∙ start.none in
@@ -178,8 +195,9 @@ module _ {P T E : Type 0} (meaning : P → ℕ → ℕ → Meaning) (r : Rows P)
       }
 
   -- and before it ran it was ready
-  pub start_ready : (i : ℕ) (w : Worker P T E) → IsStart meaning r says object is_own made room told course i w → IsReady meaning r says object is_own made room told w
-  start_ready i w start = record {
+  pub start_ready : (serves : Type 0) (i : ℕ) (w : Worker P T E) → serves → IsStart meaning r says object fits count course i w → IsReady meaning r says object fits count serves w
+  start_ready serves i w served start = record {
+    served = served;
     client = start.client;
     here = start.here;
     work = start.of.work;
@@ -189,11 +207,12 @@ module _ {P T E : Type 0} (meaning : P → ℕ → ℕ → Meaning) (r : Rows P)
 
 module _ {P T : Type 0} where
   -- a caller that made no call is back as it was
-  pub unused_back : (is_own : T → ℕ → Type 0) (made room : T → ℕ) (told : T → Option (List (ℕ × ℕ))) (course : Course) (b : Bench P) (passes : List T) (operations : List (List ℕ)) (i : ℕ)
-      → i < length passes → IsUnused b i → AreInOrder (IsFreshPass is_own made room told operations) passes → IsBackOn is_own made told course b passes i
-  unused_back is_own made room told course b passes operations i low unused fresh =
+  pub unused_back : (meaning : P → ℕ → ℕ → Meaning) (r : Rows P) (fits : Fits T) (count : T → Option PassCount) (course : Course) (b : Bench P) (passes : List T) (operations : List (List ℕ)) (i : ℕ)
+      → i < length passes → IsUnused b i → AreInOrder (IsFreshPass r fits count operations) passes → IsBackOn meaning r fits count course b passes i
+  unused_back meaning r fits count course b passes operations i low unused fresh =
       let here = item_at passes i low in
       let free = fresh i here.0 here.1 in
+      let calls : calls_in unused.local ≡ [] = ap (λ (p : Progress). p.calls) unused.none in
       record {
         local = unused.local;
         pass = here.0;
@@ -201,19 +220,23 @@ module _ {P T : Type 0} where
         here = unused.here;
         pass_here = here.1;
         back = record {
-          own = free.own;
+          fits_caller = subst (λ (steps : List Object_step). fits r.callers r.cap here.0 i steps) (sym (ap (λ (p : Progress). p.steps) unused.none)) free.fits_caller;
           within = omega arith;
           phases = subst (λ (p : Progress). IsProgressAfter (operations_at course.operations i) 0 p) (sym unused.none) (no_phase (operations_at course.operations i));
-          asked_for = free.none;
-          told_is = if_some_as (told here.0) (λ pairs. pairs ≡ []) (IsTold 0 (calls_in unused.local)) (λ pairs none. subst (λ (ps : List (ℕ × ℕ)). IsTold 0 (calls_in unused.local) ps) (sym none)
-              (subst (λ (calls : List Made). IsTold 0 calls []) (sym (ap (λ (p : Progress). p.calls) unused.none)) (record { operations = refl; replies = refl }))) free.silent;
+          asked = record { unasked = λ e. absurd (omega (arith, e)); asked = λ e. absurd (omega (arith, e)) };
+          counts = if_some_as (count here.0) (IsNewCount (length (operations_at operations i))) (IsCountOf 0 unused.local)
+              (λ k h. record {
+                asked_for = h.none;
+                told_is = if_some_as k.told (λ pairs. pairs ≡ []) (IsTold 0 (calls_in unused.local)) (λ pairs none. subst (λ (ps : List (ℕ × ℕ)). IsTold 0 (calls_in unused.local) ps) (sym none)
+                    (subst (λ (cs : List Made). IsTold 0 cs []) (sym calls) (record { operations = refl; replies = refl }))) h.silent;
+              }) free.counts;
         };
       }
 
   -- what is said beside its lines
-  pub back_on : (says : Says) (is_own : T → ℕ → Type 0) (made : T → ℕ) (told : T → Option (List (ℕ × ℕ))) (n : ℕ) (course : Course) (b : Bench P) (passes : List T) (lines : List (List Line)) (wanted : Bool) (i : ℕ)
-      → IsBack says is_own made told n course b passes lines wanted i → IsBackOn is_own made told course b passes i
-  back_on says is_own made told n course b passes lines wanted i h = record {
+  pub back_on : (meaning : P → ℕ → ℕ → Meaning) (r : Rows P) (says : Says) (fits : Fits T) (count : T → Option PassCount) (course : Course) (b : Bench P) (passes : List T) (lines : List (List Line)) (wanted : Bool) (i : ℕ)
+      → IsBack meaning r says fits count course b passes lines wanted i → IsBackOn meaning r fits count course b passes i
+  back_on meaning r says fits count course b passes lines wanted i h = record {
     local = h.local;
     pass = h.pass;
     phases = h.phases;

@@ -1,14 +1,15 @@
 -- Callers that have made no phase, their clients, and what a script gives them.
-use Rattle.std.proofs.Common.{◌≡◌, ◌≢◌, ◌∙◌, sym, subst, ap, refl, inl, inr, ℕ, zero, suc, ◌+◌, ◌*◌, ◌<◌, ◌≤◌, List, [], ◌∷◌, Some, None, length, map, slice_index, get_or, arith}
+use Rattle.std.proofs.Common.{◌≡◌, ◌≢◌, ◌∙◌, sym, subst, ap, refl, inl, inr, ℕ, zero, suc, ◌+◌, ◌*◌, ◌<◌, ◌≤◌, List, [], ◌∷◌, Some, None, length, slice_index, arith}
 use Rattle.std.specs.Prelude.{Option, IfSome, slice_index_or}
 use Rattle.std.proofs.lemmas.Bool.{cases_lt}
 use Rattle.std.proofs.lemmas.Option.{same_Some}
 use Rattle.std.proofs.lemmas.List.FromFn.{get_or-map-range_with_len}
 use Rattle.world_core.specs.Shape.{Meaning}
-use Rattle.world_core.specs.Local.{Local, IsIdle}
-use Rattle.world_core.specs.Calls.{Made, calls_in}
+use Rattle.world_core.specs.Local.{Local, Object_step, IsIdle}
+use Rattle.world_core.specs.CallSteps.{all_steps_of}
+use Rattle.world_core.specs.Calls.{Made}
 use Rattle.call_lines.specs.declared.line.Line.{Line}
-use Rattle.call_lines.specs.Phases.{Progress, no_progress, IsProgressAfter, IsTold, HasMade, progress_of, asked}
+use Rattle.call_lines.specs.Phases.{Progress, no_progress, IsProgressAfter, IsTold, progress_of, asked}
 use Rattle.call_lines.specs.Allotments.{phases_for, stop_at, operations_at, allotments_of}
 use Rattle.row_table.specs.declared.caller.Caller.{Caller}
 use Rattle.row_table.specs.declared.rows.Rows.{Rows}
@@ -16,18 +17,16 @@ use Rattle.row_table.specs.declared.bench.Bench.{Bench}
 use Rattle.row_table.specs.Callers.{local_with, stance_of, who_of, on_bench, stance_on, IsCallerOf}
 use Rattle.row_gather.specs.Gathered.{IsGatheredBy}
 use Rattle.client_scripts.specs.Plans.{Plan, IsPlan, AreStops, sizes}
-use Rattle.call_phases.specs.declared.stand.Stand.{Stand}
 use Rattle.call_phases.specs.declared.stand.Stand.TheVariants.{Idle}
 use Rattle.call_phases.specs.Ends.{Sequential}
-use Rattle.call_phases.specs.Course.{HasCome, HasTold, HasAskedFor}
+use Rattle.call_phases.specs.Asking.{Fits, PassCount, FitsCaller}
+use Rattle.call_phases.specs.Course.{HasCome, HasTold, HasAskedFor, HasCounted, Counts}
 use Rattle.call_phases.proofs.Told.{if_some_as}
 use Rattle.call_phases.specs.declared.sheet.Sheet.{Sheet}
 use Rattle.call_phases.specs.declared.client.Client.{Client}
 use Rattle.text_fields.specs.declared.version.Version.TheVariants.{Second}
-use Rattle.bench_clients.specs.Work.{Says, IsAtWork}
-use Rattle.bench_clients.specs.Starts.{Course, course_of, AreRowsFor, IsFresh, IsUnused, HoldsBelow, IsRoomFor, IsFreshPass, IsClientOf, IsStart}
-use Rattle.bench_clients.specs.declared.worker.Worker.{Worker}
-use Rattle.reports.specs.declared.report.Own.{Own}
+use Rattle.bench_clients.specs.Work.{Says}
+use Rattle.bench_clients.specs.Starts.{Course, course_of, HaveRoomFor, IsFresh, IsUnused, HoldsBelow, IsRoomFor, IsNewCount, IsFreshPass, IsStart}
 
 -- a caller without calls has made no phase
 pub no_phase : (operations : List ℕ) → IsProgressAfter operations 0 no_progress
@@ -77,9 +76,9 @@ module _ {P : Type 0} where
   }
 
   -- a bench that one more caller leaves
-  pub one_less_held : (n k : ℕ) (b c d : Bench P) → HoldsBelow n (k + 1) b c → on_bench d k ≡ None
+  pub one_less_held : (n k : ℕ) (b c d : Bench P) → k < n → HoldsBelow n (k + 1) b c → on_bench d k ≡ None
       → ((i : ℕ) → i ≢ k → (on_bench d i ≡ on_bench c i) × (stance_on d i ≡ stance_on c i)) → HoldsBelow n k b d
-  one_less_held n k b c d held gone others = record {
+  one_less_held n k b c d low_k held gone others = record {
     below = λ i low.
         let other = others i (λ same. omega (arith, low, same)) in
         let before = held.below i (omega (arith, low)) in
@@ -89,6 +88,10 @@ module _ {P : Type 0} where
           | inl behind ↦ (others i (λ same. omega (arith, behind, same))).0 ∙ held.gone i (omega (arith, behind)) within
           | inr before ↦ let same : k ≡ i = omega (arith, high, before) in subst (λ (m : ℕ). on_bench d m ≡ None) same gone
         ];
+    others = λ i high.
+        let other = others i (λ same. omega (arith, high, low_k, same)) in
+        let before = held.others i high in
+        (other.0 ∙ before.0, other.1 ∙ before.1);
   }
 
 -- what a script gives a caller
@@ -113,16 +116,30 @@ stops_within (ops ∷ operations) (None ∷ stops) zero h = omega arith
 stops_within (ops ∷ operations) (Some phases ∷ stops) zero h = omega (arith, h.0)
 stops_within (ops ∷ operations) (stop ∷ stops) (suc i) h = stops_within operations stops i h.1
 
+-- a pass with which no call was made has come along with a caller that has made no phase
+pub fresh_counts : {P : Type 0} (c : Caller P) (operations : List ℕ) (own : List Line) (count : Option PassCount) → IsFresh c → own ≡ [] → IfSome count (IsNewCount (length operations))
+    → Counts count operations (Idle c) own
+fresh_counts c operations own count fresh none new =
+    if_some_as count (IsNewCount (length operations)) (HasCounted operations (Idle c) own)
+    (λ k h. record { asked = fresh_asked c own k.made k.told fresh none h.none h.silent; has_room = h.has_room }) new
+
+-- it fits that caller
+pub fresh_fits : {P T : Type 0} (meaning : P → ℕ → ℕ → Meaning) (r : Rows P) (fits : Fits T) (pass : T) (c : Caller P) → IsCallerOf meaning r c → IsFresh c
+    → fits r.callers r.cap pass (who_of c) [] → FitsCaller fits pass c
+fresh_fits meaning r fits pass c caller fresh h =
+    subst (λ (n : ℕ). fits n c.cap pass (who_of c) (all_steps_of (local_with c))) (sym caller.callers)
+    (subst (λ (n : ℕ). fits r.callers n pass (who_of c) (all_steps_of (local_with c))) (sym caller.cap)
+    (subst (λ (steps : List Object_step). fits r.callers r.cap pass (who_of c) steps) (sym (ap (λ (p : Progress). p.steps) fresh.none)) h))
+
 -- the worker of a fresh caller
-module _ {P T E : Type 0} (meaning : P → ℕ → ℕ → Meaning) (r : Rows P) (says : Says) (object : E → Sequential) (is_own : T → ℕ → Type 0) (made room : T → ℕ) (told : T → Option (List (ℕ × ℕ))) (course : Course) (plan : Plan) where
+module _ {P T E : Type 0} (meaning : P → ℕ → ℕ → Meaning) (r : Rows P) (says : Says) (object : E → Sequential) (fits : Fits T) (count : T → Option PassCount) (course : Course) (plan : Plan) where
   pub fresh_start : (c : Caller P) (pass : T) (sheet : Sheet E) (kept : ∥ IsGatheredBy (local_with c) sheet.gathered ∥₁) (allotment : ℕ)
-      → course ≡ course_of plan (allotments_of plan.operations plan.stops) course.object → AreRowsFor plan r → IsPlan Second plan
-      → IsCallerOf meaning r c → IsFresh c → IsFreshPass is_own made room told plan.operations (who_of c) pass
+      → course ≡ course_of plan (allotments_of plan.operations plan.stops) course.object → HaveRoomFor plan r → IsPlan Second plan
+      → IsCallerOf meaning r c → IsFresh c → IsFreshPass r fits count plan.operations (who_of c) pass → who_of c < length plan.operations
       → sheet.who ≡ who_of c → sheet.operations.now ≡ operations_at plan.operations (who_of c) → IsRoomFor plan.operations (who_of c) (record { lines = sheet.lines }) → object sheet.ending ≡ course.object
       → allotment ≡ phases_for (stop_at plan.stops (who_of c)) (length (operations_at plan.operations (who_of c)))
-      → IsStart meaning r says object is_own made room told course (who_of c) (record { client = Some (record { stand = Idle c; pass = pass; sheet = sheet; kept = kept }); allotment = allotment })
-  fresh_start c pass sheet kept allotment is rows valid caller fresh free who operations empty judges phases =
-      let low : who_of c < length plan.operations = omega (arith, caller.seat.who, rows.callers) in
+      → IsStart meaning r says object fits count course (who_of c) (record { client = Some (record { stand = Idle c; pass = pass; sheet = sheet; kept = kept }); allotment = allotment })
+  fresh_start c pass sheet kept allotment is rows valid caller fresh free low who operations empty judges phases =
       let ops : operations_at course.operations (who_of c) ≡ operations_at plan.operations (who_of c) = ap (λ (k : Course). operations_at k.operations (who_of c)) is in
       let client : Client P T E = record { stand = Idle c; pass = pass; sheet = sheet; kept = kept } in
       let few : length sheet.operations.now ≡ length (operations_at plan.operations (who_of c)) = ap (λ (o : List ℕ). length o) operations in
@@ -133,11 +150,13 @@ module _ {P T E : Type 0} (meaning : P → ℕ → ℕ → Meaning) (r : Rows P)
           work = record {
             course = subst (λ (w : ℕ). HasCome meaning r (says (object sheet.ending)) w sheet.operations.now (Idle c) sheet.lines.items) (sym who)
                 (fresh_come meaning r (says (object sheet.ending)) sheet.operations.now c sheet.lines.items caller fresh empty.none);
-            asked = fresh_asked c sheet.lines.items (made pass) (told pass) fresh empty.none free.none free.silent;
-            own = subst (λ (w : ℕ). is_own pass w) (sym who) free.own;
+            pass = record {
+              fits_caller = fresh_fits meaning r fits pass c caller fresh free.fits_caller;
+              counts = fresh_counts c sheet.operations.now sheet.lines.items (count pass) fresh empty.none
+                  (subst (λ (n : ℕ). IfSome (count pass) (IsNewCount n)) (sym few) free.counts);
+            };
             has_room = record {
               rows = omega (arith, few, rows.cap (who_of c));
-              passes = omega (arith, few, free.has_room);
               lines = omega (arith, few, empty.has_room);
             };
           };

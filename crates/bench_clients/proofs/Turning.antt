@@ -1,5 +1,5 @@
 -- Turns, one by one.
-use Rattle.std.proofs.Common.{◌≡◌, ◌≢◌, ◌∙◌, sym, subst, ap, refl, inl, inr, ℕ, zero, suc, ◌+◌, ◌*◌, ◌<◌, ◌≤◌, ◌⊎◌, ◌==◌, min, List, [], ◌∷◌, ◌++◌, Some, None, length, map, take, set, get_or, slice_get, slice_index, arith}
+use Rattle.std.proofs.Common.{◌≡◌, ◌≢◌, ◌∙◌, sym, subst, ap, refl, inl, inr, ℕ, zero, suc, ◌+◌, ◌*◌, ◌<◌, ◌≤◌, ◌⊎◌, ◌==◌, min, List, [], ◌∷◌, Some, length, take, set, get_or, slice_get, slice_index, arith}
 use Rattle.std.specs.Prelude.{Option}
 use Rattle.std.specs.List.{AllByRecursion}
 use Rattle.std.proofs.lemmas.Bool.{eq-eqb, ne_eqb}
@@ -14,9 +14,10 @@ use Rattle.row_table.specs.declared.rows.Rows.{Rows}
 use Rattle.call_phases.specs.declared.stand.Stand.{Stand}
 use Rattle.call_phases.specs.declared.stand.Stand.TheVariants.{Idle, Announced, Answered, Viewed, Published, Halted, Unjudged}
 use Rattle.call_phases.specs.declared.client.Client.{Client}
+use Rattle.call_phases.specs.Asking.{Fits, PassCount}
 use Rattle.call_phases.specs.Ends.{Sequential}
-use Rattle.call_phases.specs.Stands.{phases_at, GoesOnFrom}
-use Rattle.call_phases.specs.Clients.{phases_by, Spent, HasSpent}
+use Rattle.call_phases.specs.Stands.{GoesOnFrom}
+use Rattle.call_phases.specs.Clients.{phases_by, HasSpent}
 use Rattle.call_phases.proofs.Spending.{spent_by, spent_exact, spent_more}
 use Rattle.bench_clients.specs.Work.{Says}
 use Rattle.bench_clients.specs.Starts.{Course, course_of, IsClientOf, IsStart}
@@ -34,12 +35,12 @@ goes_or_not (Published p) = inl tt
 goes_or_not (Halted c) = inr (λ goes. goes)
 goes_or_not (Unjudged u) = inr (λ goes. goes)
 
-module _ {P T E : Type 0} (meaning : P → ℕ → ℕ → Meaning) (r : Rows P) (says : Says) (object : E → Sequential) (is_own : T → ℕ → Type 0) (made room : T → ℕ) (told : T → Option (List (ℕ × ℕ))) (course : Course) where
+module _ {P T E : Type 0} (meaning : P → ℕ → ℕ → Meaning) (r : Rows P) (says : Says) (object : E → Sequential) (fits : Fits T) (count : T → Option PassCount) (course : Course) where
   abbrev Turned : ℕ → ℕ → Worker P T E → Type 0
-  Turned i turns w = IsTurned meaning r says object is_own made room told course i turns w
+  Turned i turns w = IsTurned meaning r says object fits count course i turns w
 
   -- before any turn
-  pub no_turn : (i : ℕ) (w : Worker P T E) → IsStart meaning r says object is_own made room told course i w → Turned i 0 w
+  pub no_turn : (i : ℕ) (w : Worker P T E) → IsStart meaning r says object fits count course i w → Turned i 0 w
   no_turn i w start = record {
     client = start.client;
     here = start.here;
@@ -50,7 +51,7 @@ module _ {P T E : Type 0} (meaning : P → ℕ → ℕ → Meaning) (r : Rows P)
   }
 
   -- a worker that took turns may take one more
-  pub turning : (i turns : ℕ) (w : Worker P T E) → Turned i turns w → IsTurning meaning r says object is_own made room told w
+  pub turning : (i turns : ℕ) (w : Worker P T E) → Turned i turns w → IsTurning meaning r says object fits count w
   turning i turns w h = record {
     client = h.client;
     here = h.here;
@@ -59,11 +60,11 @@ module _ {P T E : Type 0} (meaning : P → ℕ → ℕ → Meaning) (r : Rows P)
   }
 
   -- one more turn
-  pub one_more_turn : (i turns : ℕ) (w d : Worker P T E) → Turned i turns w → HasTurned meaning r says object is_own made room told w d → Turned i (turns + 1) d
+  pub one_more_turn : (i turns : ℕ) (w d : Worker P T E) → Turned i turns w → HasTurned meaning r says object fits count w d → Turned i (turns + 1) d
   one_more_turn i turns w d h t =
       let a = slice_index course.allotments i in
       let mine : h.client ≡ t.before = same_Some h.client t.before (sym h.here ∙ t.was) in
-      let of : IsClientOf meaning r says object is_own made room told course i t.before = subst (λ (c : Client P T E). IsClientOf meaning r says object is_own made room told course i c) mine h.of in
+      let of : IsClientOf meaning r says object fits count course i t.before = subst (λ (c : Client P T E). IsClientOf meaning r says object fits count course i c) mine h.of in
       let spent : HasSpent (min a turns) t.before = subst (λ (c : Client P T E). HasSpent (min a turns) c) mine h.spent in
       let left : GoesOnFrom t.before.stand → phases_by t.before + w.allotment ≡ a = subst (λ (c : Client P T E). GoesOnFrom c.stand → phases_by c + w.allotment ≡ a) mine h.left in
       let within : a ≤ 5 * length t.before.sheet.operations.now = subst (λ (c : Client P T E). a ≤ 5 * length c.sheet.operations.now) mine h.within in
@@ -132,30 +133,30 @@ set_cases (z ∷ xs) (suc p) (suc j) y x there =
       | inr other ↦ inr ((λ same. other.0 (omega (arith, same))), other.1)
     ]
 
-module _ {P T E : Type 0} (meaning : P → ℕ → ℕ → Meaning) (r : Rows P) (says : Says) (object : E → Sequential) (is_own : T → ℕ → Type 0) (made room : T → ℕ) (told : T → Option (List (ℕ × ℕ))) (course : Course) where
+module _ {P T E : Type 0} (meaning : P → ℕ → ℕ → Meaning) (r : Rows P) (says : Says) (object : E → Sequential) (fits : Fits T) (count : T → Option PassCount) (course : Course) where
   abbrev Are : ℕ → List ℕ → List (Worker P T E) → Type 0
-  Are n turns ws = AreDownFrom n (λ i w. IsTurned meaning r says object is_own made room told course i (turns_of turns i) w) ws
+  Are n turns ws = AreDownFrom n (λ i w. IsTurned meaning r says object fits count course i (turns_of turns i) w) ws
 
   -- one more turn, of the worker at its place
   pub turned_set : (n k place : ℕ) (turns : List ℕ) (ws : List (Worker P T E)) (w d : Worker P T E) → k < length turns → place + get_or turns k 0 + 1 ≡ n
-      → slice_get ws place ≡ Some w → HasTurned meaning r says object is_own made room told w d → Are n (take k turns) ws → Are n (take (k + 1) turns) (set ws place d)
+      → slice_get ws place ≡ Some w → HasTurned meaning r says object fits count w d → Are n (take k turns) ws → Are n (take (k + 1) turns) (set ws place d)
   turned_set n k place turns ws w d low at there turned all i j x here gets =
       elim (set_cases ws place j d x gets) [
         | inl mine ↦
             let named : get_or turns k 0 ≡ i = omega (arith, at, here, mine.0) in
             let before = all i place w (omega (arith, here, mine.0)) there in
-            subst (λ (v : Worker P T E). IsTurned meaning r says object is_own made room told course i (turns_of (take (k + 1) turns) i) v) (sym mine.1)
-            (subst (λ (m : ℕ). IsTurned meaning r says object is_own made room told course i m d) (sym (more_named turns k i low named))
-            (one_more_turn meaning r says object is_own made room told course i (turns_of (take k turns) i) w d before turned))
+            subst (λ (v : Worker P T E). IsTurned meaning r says object fits count course i (turns_of (take (k + 1) turns) i) v) (sym mine.1)
+            (subst (λ (m : ℕ). IsTurned meaning r says object fits count course i m d) (sym (more_named turns k i low named))
+            (one_more_turn meaning r says object fits count course i (turns_of (take k turns) i) w d before turned))
         | inr other ↦
             let unnamed : get_or turns k 0 ≢ i = λ same. other.0 (omega (arith, at, here, same)) in
-            subst (λ (m : ℕ). IsTurned meaning r says object is_own made room told course i m x) (sym (more_other turns k i low unnamed)) (all i j x here other.1)
+            subst (λ (m : ℕ). IsTurned meaning r says object fits count course i m x) (sym (more_other turns k i low unnamed)) (all i j x here other.1)
       ]
 
   -- behind all turns each worker has spent what it was given
   pub turned_spent : (plan : Plan) (i : ℕ) (w : Worker P T E) → course ≡ course_of plan (allotments_of plan.operations plan.stops) course.object → i < length plan.operations
-      → IsTurned meaning r says object is_own made room told course i (turns_of plan.turns i) w
-      → IsSpent meaning r says object is_own made room told (course_of plan (allotments_by_turns plan.operations plan.stops plan.turns) course.object) i w
+      → IsTurned meaning r says object fits count course i (turns_of plan.turns i) w
+      → IsSpent meaning r says object fits count (course_of plan (allotments_by_turns plan.operations plan.stops plan.turns) course.object) i w
   turned_spent plan i w is low h =
       let given : slice_index (allotments_by_turns plan.operations plan.stops plan.turns) i ≡ min (slice_index (allotments_of plan.operations plan.stops) i) (turns_of plan.turns i) =
       get_or-map-range_with_len (λ i. min (slice_index (allotments_of plan.operations plan.stops) i) (turns_of plan.turns i)) 0 (length plan.operations) i i 0 low (omega arith) in

@@ -1,6 +1,7 @@
 -- A worked caller that is back: its first call is judged, and its second one announced.
 use Rattle.std.specs.Prelude.{◌≡◌, ℕ, List, [], ◌∷◌, length, Option, Some, None}
 use Rattle.world_core.specs.Local.{Local, fresh}
+use Rattle.world_core.specs.Programs.{outside}
 use Rattle.call_phases.specs.Ends.{silent}
 use Rattle.bench_clients.specs.Starts.{Course}
 use Rattle.bench_clients.specs.Returns.{IsBackWith}
@@ -28,7 +29,13 @@ pub record Pass : Type 0 where
 
 -- The caller that is given so many phases is back with this local and this pass, and has made p of them.
 abbrev pub IsBackAfter : ℕ → ℕ → Local → Pass → Type 0
-IsBackAfter given p l pass = IsBackWith (λ pass who. who ≡ 0) (λ (pass : Pass). pass.made) (λ (pass : Pass). pass.told) (course_to given) 0 p l pass
+IsBackAfter given p l pass =
+    IsBackWith (record { callers = 1; cap = 2; program = outside }) (λ n cap (pass : Pass) who steps. who ≡ 0)
+    (λ (pass : Pass). Some (record { made = pass.made; room = 2; told = pass.told })) (course_to given) 0 p l pass
+
+-- The same local, whose second call has an object step.
+abbrev pub with_object_step : Local → Local
+with_object_step l = record l { object_steps = [] ∷ (record { place = 0; old = 0; new = 1 } ∷ []) ∷ [] }
 
 -- A pass that tells of nothing, and one that tells of these calls.
 abbrev pub silent_pass : ℕ → Pass

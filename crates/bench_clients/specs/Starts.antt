@@ -1,9 +1,9 @@
 -- What callers and passes are before any call, and the workers that are made of them.
-use Rattle.std.specs.Prelude.{◌≡◌, ℕ, ◌+◌, ◌*◌, ◌<◌, ◌≤◌, List, [], Option, Some, None, IfSome, length, slice_index, vec_capacity}
+use Rattle.std.specs.Prelude.{◌≡◌, ℕ, ◌*◌, ◌<◌, ◌≤◌, List, [], Option, Some, None, IfSome, length, slice_index, vec_capacity}
 use Rattle.world_core.specs.Shape.{Meaning}
 use Rattle.world_core.specs.Local.{Local, IsIdle}
 use Rattle.call_lines.specs.Phases.{progress_of, no_progress}
-use Rattle.call_lines.specs.Allotments.{operations_at, allotments_of}
+use Rattle.call_lines.specs.Allotments.{operations_at}
 use Rattle.row_table.specs.declared.rows.Rows.{Rows}
 use Rattle.row_table.specs.declared.caller.Caller.{Caller}
 use Rattle.row_table.specs.declared.bench.Bench.{Bench}
@@ -11,6 +11,7 @@ use Rattle.row_table.specs.Callers.{local_with, stance_of, on_bench, stance_on}
 use Rattle.drv_wrapper.specs.Stands.{ready}
 use Rattle.client_scripts.specs.Plans.{Plan}
 use Rattle.reports.specs.declared.report.Own.{Own}
+use Rattle.call_phases.specs.Asking.{Fits, PassCount}
 use Rattle.call_phases.specs.Ends.{Sequential}
 use Rattle.call_phases.specs.Stands.{GoesOnFrom}
 use Rattle.call_phases.specs.Clients.{phases_by}
@@ -29,9 +30,14 @@ abbrev pub course_of : Plan → List ℕ → Sequential → Course
 course_of plan allotments object = record { operations = plan.operations; allotments = allotments; object = object }
 
 module _ {P : Type 0} where
-  -- These rows are wide enough for the callers of a plan, and for the calls of each.
+  -- These rows have just the callers of a plan, and room for the calls of each.
   pub record AreRowsFor (plan : Plan) (r : Rows P) : Type 0 where
     pub callers : r.callers ≡ length plan.operations
+    pub cap : (i : ℕ) → length (operations_at plan.operations i) ≤ r.cap
+
+  -- These rows have room for the callers of a plan, and for the calls of each. They may have more callers.
+  pub record HaveRoomFor (plan : Plan) (r : Rows P) : Type 0 where
+    pub callers : length plan.operations ≤ r.callers
     pub cap : (i : ℕ) → length (operations_at plan.operations i) ≤ r.cap
 
   -- A caller is live and idle, without calls, and so without object steps.
@@ -48,36 +54,47 @@ module _ {P : Type 0} where
     pub idle : IsIdle local
     pub none : progress_of local ≡ no_progress
 
-  -- Of n callers the second bench holds those below k, each as the first has it, and no other.
+  -- From caller n on both benches hold the same callers, standing the same.
+  abbrev pub AreAlikeFrom : ℕ → Bench P → Bench P → Type 0
+  AreAlikeFrom n b c = (i : ℕ) → n ≤ i → (on_bench c i ≡ on_bench b i) × (stance_on c i ≡ stance_on b i)
+
+  -- Of the first n callers the second bench holds those below k, each as the first has it, and no other; and what is there of callers
+  -- from n on is on both alike.
   pub record HoldsBelow (n k : ℕ) (b c : Bench P) : Type 0 where
     pub below : (i : ℕ) → i < k → (on_bench c i ≡ on_bench b i) × (stance_on c i ≡ stance_on b i)
     pub gone : (i : ℕ) → k ≤ i → i < n → on_bench c i ≡ None
+    pub others : AreAlikeFrom n b c
 
 -- An empty list of lines with room for one of each operation of caller i.
 pub record IsRoomFor (operations : List (List ℕ)) (i : ℕ) (own : Own) : Type 0 where
   pub none : own.lines.items ≡ []
   pub has_room : length (operations_at operations i) ≤ vec_capacity own.lines
 
--- The pass of caller i, with which no call was made: the object's own, with a call for each operation, and it tells of none.
-pub record IsFreshPass {T : Type 0} (is_own : T → ℕ → Type 0) (made room : T → ℕ) (told : T → Option (List (ℕ × ℕ))) (operations : List (List ℕ)) (i : ℕ) (pass : T) : Type 0 where
-  pub own : is_own pass i
-  pub none : made pass ≡ 0
-  pub has_room : length (operations_at operations i) ≤ room pass
-  pub silent : IfSome (told pass) (λ pairs. pairs ≡ [])
+-- With a pass that counts no call was made, it has a call for each of so many operations, and it tells of none.
+pub record IsNewCount (operations : ℕ) (count : PassCount) : Type 0 where
+  pub none : count.made ≡ 0
+  pub has_room : operations ≤ count.room
+  pub silent : IfSome count.told (λ pairs. pairs ≡ [])
+
+-- The pass of caller i of these rows, with which no call was made: it fits the caller without object steps, and where it counts it has
+-- a call for each operation.
+pub record IsFreshPass {P T : Type 0} (r : Rows P) (fits : Fits T) (count : T → Option PassCount) (operations : List (List ℕ)) (i : ℕ) (pass : T) : Type 0 where
+  pub fits_caller : fits r.callers r.cap pass i []
+  pub counts : IfSome (count pass) (IsNewCount (length (operations_at operations i)))
 
 module _ {P T E : Type 0} where
   -- The client of caller i, at work on its course.
-  pub record IsClientOf (meaning : P → ℕ → ℕ → Meaning) (r : Rows P) (says : Says) (object : E → Sequential) (is_own : T → ℕ → Type 0) (made room : T → ℕ) (told : T → Option (List (ℕ × ℕ))) (course : Course) (i : ℕ) (c : Client P T E) : Type 0 where
-    pub work : IsAtWork meaning r says object is_own made room told c
+  pub record IsClientOf (meaning : P → ℕ → ℕ → Meaning) (r : Rows P) (says : Says) (object : E → Sequential) (fits : Fits T) (count : T → Option PassCount) (course : Course) (i : ℕ) (c : Client P T E) : Type 0 where
+    pub work : IsAtWork meaning r says object fits count c
     pub who : c.sheet.who ≡ i
     pub operations : c.sheet.operations.now ≡ operations_at course.operations i
     pub judges : object c.sheet.ending ≡ course.object
 
   -- The worker of caller i, before its first phase.
-  pub record IsStart (meaning : P → ℕ → ℕ → Meaning) (r : Rows P) (says : Says) (object : E → Sequential) (is_own : T → ℕ → Type 0) (made room : T → ℕ) (told : T → Option (List (ℕ × ℕ))) (course : Course) (i : ℕ) (w : Worker P T E) : Type 0 where
+  pub record IsStart (meaning : P → ℕ → ℕ → Meaning) (r : Rows P) (says : Says) (object : E → Sequential) (fits : Fits T) (count : T → Option PassCount) (course : Course) (i : ℕ) (w : Worker P T E) : Type 0 where
     pub client : Client P T E
     pub here : w.client ≡ Some client
-    pub of : IsClientOf meaning r says object is_own made room told course i client
+    pub of : IsClientOf meaning r says object fits count course i client
     pub goes : GoesOnFrom client.stand
     pub none : phases_by client ≡ 0
     pub allotment : w.allotment ≡ slice_index course.allotments i

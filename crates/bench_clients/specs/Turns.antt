@@ -1,7 +1,8 @@
 -- Workers that take turns.
-use Rattle.std.specs.Prelude.{◌≡◌, ℕ, ◌+◌, ◌*◌, ◌≤◌, ◌⊎◌, min, List, Option, Some, length, slice_index}
+use Rattle.std.specs.Prelude.{◌≡◌, ℕ, ◌+◌, ◌*◌, ◌≤◌, ◌⊎◌, min, Option, Some, length, slice_index}
 use Rattle.world_core.specs.Shape.{Meaning}
 use Rattle.row_table.specs.declared.rows.Rows.{Rows}
+use Rattle.call_phases.specs.Asking.{Fits, PassCount}
 use Rattle.call_phases.specs.Ends.{Sequential}
 use Rattle.call_phases.specs.Stands.{GoesOnFrom}
 use Rattle.call_phases.specs.Clients.{phases_by, HasSpent, IsSameClient}
@@ -13,19 +14,19 @@ use Rattle.bench_clients.specs.declared.worker.Worker.{Worker}
 module _ {P T E : Type 0} where
   -- The worker of caller i, after so many turns that named it: its client has spent a phase at each, but none beyond its allotment, and
   -- where it isn't halted it has the rest of its allotment left.
-  pub record IsTurned (meaning : P → ℕ → ℕ → Meaning) (r : Rows P) (says : Says) (object : E → Sequential) (is_own : T → ℕ → Type 0) (made room : T → ℕ) (told : T → Option (List (ℕ × ℕ))) (course : Course) (i turns : ℕ) (w : Worker P T E) : Type 0 where
+  pub record IsTurned (meaning : P → ℕ → ℕ → Meaning) (r : Rows P) (says : Says) (object : E → Sequential) (fits : Fits T) (count : T → Option PassCount) (course : Course) (i turns : ℕ) (w : Worker P T E) : Type 0 where
     pub client : Client P T E
     pub here : w.client ≡ Some client
-    pub of : IsClientOf meaning r says object is_own made room told course i client
+    pub of : IsClientOf meaning r says object fits count course i client
     pub spent : HasSpent (min (slice_index course.allotments i) turns) client
     pub left : GoesOnFrom client.stand → phases_by client + w.allotment ≡ slice_index course.allotments i
     pub within : slice_index course.allotments i ≤ 5 * length client.sheet.operations.now
 
   -- A worker may take a turn: it has its client, at work, and no more phases left than the client has.
-  pub record IsTurning (meaning : P → ℕ → ℕ → Meaning) (r : Rows P) (says : Says) (object : E → Sequential) (is_own : T → ℕ → Type 0) (made room : T → ℕ) (told : T → Option (List (ℕ × ℕ))) (w : Worker P T E) : Type 0 where
+  pub record IsTurning (meaning : P → ℕ → ℕ → Meaning) (r : Rows P) (says : Says) (object : E → Sequential) (fits : Fits T) (count : T → Option PassCount) (w : Worker P T E) : Type 0 where
     pub client : Client P T E
     pub here : w.client ≡ Some client
-    pub work : IsAtWork meaning r says object is_own made room told client
+    pub work : IsAtWork meaning r says object fits count client
     pub left : GoesOnFrom client.stand → phases_by client + w.allotment ≤ 5 * length client.sheet.operations.now
 
   -- At a turn nothing is done, since no phase is left or the client is halted; or a phase is made.
@@ -35,12 +36,12 @@ module _ {P T E : Type 0} where
       ⊎ (GoesOnFrom before.stand × (phases_by after ≡ phases_by before + 1) × (w.allotment ≡ d.allotment + 1))
 
   -- A worker has taken a turn.
-  pub record HasTurned (meaning : P → ℕ → ℕ → Meaning) (r : Rows P) (says : Says) (object : E → Sequential) (is_own : T → ℕ → Type 0) (made room : T → ℕ) (told : T → Option (List (ℕ × ℕ))) (w d : Worker P T E) : Type 0 where
+  pub record HasTurned (meaning : P → ℕ → ℕ → Meaning) (r : Rows P) (says : Says) (object : E → Sequential) (fits : Fits T) (count : T → Option PassCount) (w d : Worker P T E) : Type 0 where
     pub before : Client P T E
     pub after : Client P T E
     pub was : w.client ≡ Some before
     pub is : d.client ≡ Some after
-    pub work : IsAtWork meaning r says object is_own made room told after
+    pub work : IsAtWork meaning r says object fits count after
     pub same : IsSameClient before after
     pub judges : object after.sheet.ending ≡ object before.sheet.ending
     pub turns : Turns w d before after

@@ -7,8 +7,8 @@ use Rattle.call_lines.specs.declared.line.LineEnd.{LineEnd}
 use Rattle.row_table.specs.declared.rows.Rows.{Rows}
 use Rattle.call_phases.specs.Ends.{Sequential}
 use Rattle.call_phases.specs.Stands.{GoesOnFrom}
-use Rattle.call_phases.specs.Course.{HasAskedFor}
-use Rattle.call_phases.specs.Clients.{phases_by, HasSpent, IsUnderWay, HasRoom, IsSameClient}
+use Rattle.call_phases.specs.Asking.{Fits, PassCount}
+use Rattle.call_phases.specs.Clients.{phases_by, HasSpent, IsUnderWay, HasPass, HasRoom, IsSameClient}
 use Rattle.call_phases.specs.declared.client.Client.{Client}
 use Rattle.bench_clients.specs.declared.worker.Worker.{Worker}
 
@@ -16,32 +16,32 @@ use Rattle.bench_clients.specs.declared.worker.Worker.{Worker}
 abbrev pub Says : Type 1
 Says = Sequential → ℕ → Local → Record → List ℕ → LineEnd → Type 0
 
--- In all of these: the meaning of the program, the rows; what the ends of lines say, and by which object an ending judges; whose a
--- pass is, how many calls were made with it, how many may be, and which it tells of.
+-- In all of these: the meaning of the program, the rows; what the ends of lines say, and by which object an ending judges; whom a pass
+-- fits, and what it counts.
 module _ {P T E : Type 0} where
-  -- A client is at work: it has come as far as it stands, its pass is its caller's own and tells of the calls so far, and there is
-  -- room for all its calls.
-  pub record IsAtWork (meaning : P → ℕ → ℕ → Meaning) (r : Rows P) (says : Says) (object : E → Sequential) (is_own : T → ℕ → Type 0) (made room : T → ℕ) (told : T → Option (List (ℕ × ℕ))) (c : Client P T E) : Type 0 where
+  -- A client is at work: it has come as far as it stands, its pass fits its caller and has come along, and there is room for all its
+  -- calls.
+  pub record IsAtWork (meaning : P → ℕ → ℕ → Meaning) (r : Rows P) (says : Says) (object : E → Sequential) (fits : Fits T) (count : T → Option PassCount) (c : Client P T E) : Type 0 where
     pub course : IsUnderWay meaning r (says (object c.sheet.ending)) c
-    pub asked : HasAskedFor (made c.pass) (told c.pass) c.stand c.sheet.lines.items
-    pub own : is_own c.pass c.sheet.who
-    pub has_room : HasRoom r (room c.pass) c
+    pub pass : HasPass fits count c
+    pub has_room : HasRoom r c
 
-  -- A worker is ready: its client is at work and goes on, and has that many phases left.
-  pub record IsReady (meaning : P → ℕ → ℕ → Meaning) (r : Rows P) (says : Says) (object : E → Sequential) (is_own : T → ℕ → Type 0) (made room : T → ℕ) (told : T → Option (List (ℕ × ℕ))) (w : Worker P T E) : Type 0 where
+  -- A worker is ready: the object serves its caller, and its client is at work, goes on and has that many phases left.
+  pub record IsReady (meaning : P → ℕ → ℕ → Meaning) (r : Rows P) (says : Says) (object : E → Sequential) (fits : Fits T) (count : T → Option PassCount) (serves : Type 0) (w : Worker P T E) : Type 0 where
+    pub served : serves
     pub client : Client P T E
     pub here : w.client ≡ Some client
-    pub work : IsAtWork meaning r says object is_own made room told client
+    pub work : IsAtWork meaning r says object fits count client
     pub goes : GoesOnFrom client.stand
     pub left : phases_by client + w.allotment ≤ 5 * length client.sheet.operations.now
 
   -- A worker has run: its client has spent its phases, and is at work still.
-  pub record HasRun (meaning : P → ℕ → ℕ → Meaning) (r : Rows P) (says : Says) (object : E → Sequential) (is_own : T → ℕ → Type 0) (made room : T → ℕ) (told : T → Option (List (ℕ × ℕ))) (w d : Worker P T E) : Type 0 where
+  pub record HasRun (meaning : P → ℕ → ℕ → Meaning) (r : Rows P) (says : Says) (object : E → Sequential) (fits : Fits T) (count : T → Option PassCount) (w d : Worker P T E) : Type 0 where
     pub before : Client P T E
     pub after : Client P T E
     pub was : w.client ≡ Some before
     pub is : d.client ≡ Some after
-    pub work : IsAtWork meaning r says object is_own made room told after
+    pub work : IsAtWork meaning r says object fits count after
     pub same : IsSameClient before after
     pub judges : object after.sheet.ending ≡ object before.sheet.ending
     pub spent : HasSpent (phases_by before + w.allotment) after

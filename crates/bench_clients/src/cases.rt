@@ -1,11 +1,11 @@
 //! Worked cases: how far a caller has come that is back.
 
 ghost use Rattle.std.specs.Prelude.{[], ◌∷◌};
-ghost use Rattle.bench_clients.specs.Cases.{in_second_call, silent_pass, pass_of, IsBackAfter};
+ghost use Rattle.bench_clients.specs.Cases.{in_second_call, with_object_step, silent_pass, pass_of, IsBackAfter};
 
 /// A caller that is in its second call has made its sixth phase, or its seventh as well, in which the
 /// object was asked. It was given as many phases or more; its calls have the operations that it was
-/// given, and its record is published.
+/// given, and its record is published. Before the object was asked, its call has no object step.
 pub fn callers_are_back_behind_their_phases()
     ensures announced { IsBackAfter 6 6 (in_second_call 7 1) (pass_of ((5, 50) ∷ [])) }
     ensures asked { IsBackAfter 7 7 (in_second_call 7 1) (pass_of ((5, 50) ∷ (7, 4) ∷ [])) }
@@ -15,5 +15,6 @@ pub fn callers_are_back_behind_their_phases()
     ensures not_announced { ¬ IsBackAfter 10 5 (in_second_call 7 1) (silent_pass 1) }
     ensures another_operation { ¬ IsBackAfter 10 6 (in_second_call 8 1) (silent_pass 1) }
     ensures unpublished { ¬ IsBackAfter 10 6 (in_second_call 7 0) (silent_pass 1) }
+    ensures a_step_before_it_asked { ¬ IsBackAfter 6 6 (with_object_step (in_second_call 7 1)) (pass_of ((5, 50) ∷ [])) }
     ensures asked_too_soon { ¬ IsBackAfter 6 6 (in_second_call 7 1) (silent_pass 2) }
 {}

@@ -1,9 +1,9 @@
 ghost use Rattle.std.specs.Prelude.{◌≡◌, ◌≢◌, ℕ, ◌<◌, ◌≤◌, [], None, length, vec_len, vec_capacity, slice_index};
-ghost use Rattle.row_table.specs.Callers.{IsBenchOf, on_bench};
+ghost use Rattle.row_table.specs.Callers.{IsBenchOf, on_bench, stance_on};
 ghost use Rattle.call_phases.specs.Clients.{HasSpent};
 ghost use Rattle.reports.specs.ReportLayout.{lines_in};
 ghost use Rattle.bench_clients.specs.Places.{AreDownFrom};
-ghost use Rattle.bench_clients.specs.Starts.{Course, IsClientOf};
+ghost use Rattle.bench_clients.specs.Starts.{Course, IsClientOf, AreAlikeFrom};
 ghost use Rattle.bench_clients.specs.Returns.{IsSpent, ComesBack, AreBack};
 
 use crate::worker::Worker;
@@ -24,18 +24,19 @@ fn bring_back<'a, P: Program, T, E: Ending + Drop, A: Asks<Program = P, Pass = T
 ) -> bool
     ghost course: { Course }
     requires client { IsClientOf P.meaning shared.now.rows.now E.says E.object
-        (A.is_own shared.now.asks.now) A.made A.room A.told course client.sheet.who client }
+        (A.fits shared.now.asks.now) A.count course client.sheet.who client }
     requires spent { HasSpent (slice_index course.allotments client.sheet.who) client }
     requires bench { IsBenchOf P.meaning shared.now.rows.now bench.old }
     requires gone { on_bench bench.old client.sheet.who ≡ None }
     requires passes { vec_len passes.old < vec_capacity passes.old }
     requires lines { vec_len lines.old < vec_capacity lines.old }
     ensures bench { IsBenchOf P.meaning shared.now.rows.now bench.new }
-    ensures back { ComesBack E.says (A.is_own shared.now.asks.now) A.made A.told
-        shared.now.rows.now.callers course client.entry.sheet.who bench.new
+    ensures back { ComesBack P.meaning shared.now.rows.now E.says
+        (A.fits shared.now.asks.now) A.count course client.entry.sheet.who bench.new
         passes.old.items passes.new.items
         (lines_in lines.old.items) (lines_in lines.new.items) result }
-    ensures others { (i : ℕ) → i ≢ client.entry.sheet.who → on_bench bench.new i ≡ on_bench bench.old i }
+    ensures others { (i : ℕ) → i ≢ client.entry.sheet.who
+        → (on_bench bench.new i ≡ on_bench bench.old i) × (stance_on bench.new i ≡ stance_on bench.old i) }
     ensures capacity { (vec_capacity passes.old ≤ vec_capacity passes.new)
         × (vec_capacity lines.old ≤ vec_capacity lines.new) }
 {
@@ -63,11 +64,9 @@ pub(crate) fn end_all<'a, P: Program, T, E: Ending + Drop, A: Asks<Program = P, 
     lines: &mut Vec<Own>,
 ) -> bool
     ghost course: { Course }
-    requires rows { shared.now.rows.now.callers ≡ length script.now.operations }
     requires all { vec_len workers ≡ length script.now.operations }
     requires workers { AreDownFrom (length script.now.operations)
-        (IsSpent P.meaning shared.now.rows.now E.says E.object (A.is_own shared.now.asks.now)
-        A.made A.room A.told course) workers.items }
+        (IsSpent P.meaning shared.now.rows.now E.says E.object (A.fits shared.now.asks.now) A.count course) workers.items }
     requires bench { IsBenchOf P.meaning shared.now.rows.now bench.old }
     requires gone { (i : ℕ) → i < length script.now.operations → on_bench bench.old i ≡ None }
     requires no_passes { passes.old.items ≡ [] }
@@ -75,10 +74,13 @@ pub(crate) fn end_all<'a, P: Program, T, E: Ending + Drop, A: Asks<Program = P, 
     requires no_lines { lines.old.items ≡ [] }
     requires lines { length script.now.operations ≤ vec_capacity lines.old }
     ensures bench { IsBenchOf P.meaning shared.now.rows.now bench.new }
-    ensures back { AreBack E.says (A.is_own shared.now.asks.now) A.made A.told
+    ensures back { AreBack P.meaning shared.now.rows.now E.says
+        (A.fits shared.now.asks.now) A.count
         (length script.now.operations) (length script.now.operations) course bench.new
         passes.new.items (lines_in lines.new.items) result }
+    ensures others { AreAlikeFrom (length script.now.operations) bench.old bench.new }
     ensures all_passes { vec_len passes.new ≡ length script.now.operations }
+    ensures capacity { vec_capacity passes.old ≤ vec_capacity passes.new }
     ensures all_lines { vec_len lines.new ≡ length script.now.operations }
 {
     let mut wants_memory = false;

@@ -5,7 +5,7 @@ ghost use Rattle.row_table.specs.Callers.{IsBenchOf};
 ghost use Rattle.reports.specs.ReportLayout.{lines_in};
 ghost use Rattle.bench_clients.specs.Places.{AreInOrder};
 ghost use Rattle.bench_clients.specs.Work.{IsReady, HasRun};
-ghost use Rattle.bench_clients.specs.Starts.{Course, course_of, AreRowsFor, IsUnused, IsRoomFor, IsFreshPass};
+ghost use Rattle.bench_clients.specs.Starts.{Course, course_of, HaveRoomFor, AreAlikeFrom, IsUnused, IsRoomFor, IsFreshPass};
 ghost use Rattle.bench_clients.specs.Returns.{IsBackOn, AreBack};
 
 use crate::end::end_all;
@@ -45,9 +45,10 @@ fn work_in<
     A: Asks<Program = P, Pass = T> + Sync,
 >(rt: &R, shared: &Shared<A, P>, workers: &mut Vec<Worker<'a, P, T, E>>)
     requires { All (IsReady P.meaning shared.now.rows.now E.says E.object
-        (A.is_own shared.now.asks.now) A.made A.room A.told) workers.old.items }
+        (A.fits shared.now.asks.now) A.count
+        (A.serves shared.now.asks.now shared.now.rows.now)) workers.old.items }
     ensures { AllZip (HasRun P.meaning shared.now.rows.now E.says E.object
-        (A.is_own shared.now.asks.now) A.made A.room A.told) workers.old.items workers.new.items }
+        (A.fits shared.now.asks.now) A.count) workers.old.items workers.new.items }
 {
     work_all(rt, shared, workers.as_mut_slice());
 }
@@ -77,20 +78,25 @@ pub fn run_all<
     ghost course: { Course }
     requires course { course ≡ course_of script.now
         (allotments_of script.now.operations script.now.stops) course.object }
-    requires rows { AreRowsFor script.now shared.now.rows.now }
+    requires serves { A.serves shared.now.asks.now shared.now.rows.now }
+    requires rows { HaveRoomFor script.now shared.now.rows.now }
     requires bench { IsBenchOf P.meaning shared.now.rows.now bench.old }
     requires unused { (i : ℕ) → i < length script.now.operations → IsUnused bench.old i }
     requires all_passes { vec_len passes.old ≡ length script.now.operations }
-    requires passes { AreInOrder (IsFreshPass (A.is_own shared.now.asks.now) A.made A.room A.told
+    requires passes { AreInOrder (IsFreshPass shared.now.rows.now (A.fits shared.now.asks.now) A.count
         script.now.operations) passes.old.items }
     requires all_endings { vec_len endings ≡ length script.now.operations }
     requires endings { All (λ e. E.object e ≡ course.object) endings.items }
     ensures bench { IsBenchOf P.meaning shared.now.rows.now bench.new }
+    ensures others { AreAlikeFrom (length script.now.operations) bench.old bench.new }
     ensures all_passes { vec_len passes.new ≡ length script.now.operations }
+    ensures capacity { vec_capacity passes.old ≤ vec_capacity passes.new }
     ensures back { (i : ℕ) → i < length script.now.operations
-        → IsBackOn (A.is_own shared.now.asks.now) A.made A.told course bench.new passes.new.items i }
+        → IsBackOn P.meaning shared.now.rows.now
+        (A.fits shared.now.asks.now) A.count course bench.new passes.new.items i }
     ensures all_lines { IfOk result (λ lines. vec_len lines ≡ length script.now.operations) }
-    ensures lines { IfOk result (λ lines. AreBack E.says (A.is_own shared.now.asks.now) A.made A.told
+    ensures lines { IfOk result (λ lines. AreBack P.meaning shared.now.rows.now E.says
+        (A.fits shared.now.asks.now) A.count
         (length script.now.operations) (length script.now.operations) course bench.new
         passes.new.items (lines_in lines.items) false) }
 {

@@ -5,7 +5,7 @@ ghost use Rattle.call_lines.specs.Allotments.{allotments_of};
 ghost use Rattle.text_fields.specs.declared.version.Version.TheVariants.{Second};
 ghost use Rattle.client_scripts.specs.Plans.{IsPlan};
 ghost use Rattle.bench_clients.specs.Places.{AreDownFrom, AreInOrder};
-ghost use Rattle.bench_clients.specs.Starts.{Course, course_of, AreRowsFor, IsFresh, IsUnused, IsRoomFor, IsFreshPass, IsStart};
+ghost use Rattle.bench_clients.specs.Starts.{Course, course_of, HaveRoomFor, AreAlikeFrom, IsFresh, IsUnused, IsRoomFor, IsFreshPass, IsStart};
 
 use crate::worker::Worker;
 use call_phases::{Asks, Client, Ending, Shared, Sheet, Stand};
@@ -27,15 +27,16 @@ fn begin<'a, P: Program, T, E: Ending, A: Asks<Program = P, Pass = T>>(
     requires course { course ≡ course_of script.now
         (allotments_of script.now.operations script.now.stops) course.object }
     requires plan { IsPlan Second script.now }
-    requires rows { AreRowsFor script.now _shared.now.rows.now }
+    requires rows { HaveRoomFor script.now _shared.now.rows.now }
     requires caller { IsCallerOf P.meaning _shared.now.rows.now caller }
     requires fresh { IsFresh caller }
-    requires pass { IsFreshPass (A.is_own _shared.now.asks.now) A.made A.room A.told
+    requires pass { IsFreshPass _shared.now.rows.now (A.fits _shared.now.asks.now) A.count
         script.now.operations (who_of caller) pass }
     requires room { IsRoomFor script.now.operations (who_of caller) own }
     requires ending { E.object ending ≡ course.object }
+    requires below { who_of caller < length script.now.operations }
     ensures { IsStart P.meaning _shared.now.rows.now E.says E.object
-        (A.is_own _shared.now.asks.now) A.made A.room A.told course (who_of caller) result }
+        (A.fits _shared.now.asks.now) A.count course (who_of caller) result }
 {
     let who = caller.who();
     let operations = script.operations(who);
@@ -62,7 +63,7 @@ fn begin<'a, P: Program, T, E: Ending, A: Asks<Program = P, Pass = T>>(
     }
 }
 
-/// Takes all callers off their bench, from the last to the first, each into a worker for the phases
+/// Takes the callers of a script off their bench, from the last to the first, each into a worker for the phases
 /// up to its stop.
 ///
 /// The passes, the empty lists of lines and the endings are the callers', in order.
@@ -78,11 +79,11 @@ pub(crate) fn start_all<'a, P: Program, T, E: Ending, A: Asks<Program = P, Pass 
     ghost course: { Course }
     requires course { course ≡ course_of script.now
         (allotments_of script.now.operations script.now.stops) course.object }
-    requires rows { AreRowsFor script.now shared.now.rows.now }
+    requires rows { HaveRoomFor script.now shared.now.rows.now }
     requires bench { IsBenchOf P.meaning shared.now.rows.now bench.old }
     requires unused { (i : ℕ) → i < length script.now.operations → IsUnused bench.old i }
     requires all_passes { vec_len passes.old ≡ length script.now.operations }
-    requires passes { AreInOrder (IsFreshPass (A.is_own shared.now.asks.now) A.made A.room A.told
+    requires passes { AreInOrder (IsFreshPass shared.now.rows.now (A.fits shared.now.asks.now) A.count
         script.now.operations) passes.old.items }
     requires all_rooms { vec_len room ≡ length script.now.operations }
     requires rooms { AreInOrder (IsRoomFor script.now.operations) room.items }
@@ -92,12 +93,12 @@ pub(crate) fn start_all<'a, P: Program, T, E: Ending, A: Asks<Program = P, Pass 
     requires capacity { length script.now.operations ≤ vec_capacity workers.old }
     ensures bench { IsBenchOf P.meaning shared.now.rows.now bench.new }
     ensures gone { (i : ℕ) → i < length script.now.operations → on_bench bench.new i ≡ None }
+    ensures others { AreAlikeFrom (length script.now.operations) bench.old bench.new }
     ensures no_passes { passes.new.items ≡ [] }
     ensures capacity { vec_capacity passes.new ≡ vec_capacity passes.old }
     ensures all { vec_len workers.new ≡ length script.now.operations }
     ensures workers { AreDownFrom (length script.now.operations)
-        (IsStart P.meaning shared.now.rows.now E.says E.object (A.is_own shared.now.asks.now)
-        A.made A.room A.told course) workers.new.items }
+        (IsStart P.meaning shared.now.rows.now E.says E.object (A.fits shared.now.asks.now) A.count course) workers.new.items }
 {
     let mut left = script.callers();
     while left > 0 {

@@ -1,10 +1,10 @@
-ghost use Rattle.std.specs.Prelude.{◌≡◌, ℕ, ◌<◌, false, length, vec_len, IfOk};
+ghost use Rattle.std.specs.Prelude.{◌≡◌, ℕ, ◌<◌, ◌≤◌, false, length, vec_len, vec_capacity, IfOk};
 ghost use Rattle.std.specs.List.{All};
 ghost use Rattle.call_lines.specs.Allotments.{allotments_of, allotments_by_turns};
 ghost use Rattle.row_table.specs.Callers.{IsBenchOf};
 ghost use Rattle.reports.specs.ReportLayout.{lines_in};
 ghost use Rattle.bench_clients.specs.Places.{AreDownFrom, AreInOrder};
-ghost use Rattle.bench_clients.specs.Starts.{Course, course_of, AreRowsFor, IsUnused, IsFreshPass, IsStart};
+ghost use Rattle.bench_clients.specs.Starts.{Course, course_of, HaveRoomFor, AreAlikeFrom, IsUnused, IsFreshPass, IsStart};
 ghost use Rattle.bench_clients.specs.Returns.{IsSpent, IsBackOn, AreBack};
 ghost use Rattle.bench_clients.specs.Turns.{IsTurning, HasTurned};
 
@@ -29,10 +29,11 @@ impl<'a, P: Program, T, E: Ending> Worker<'a, P, T, E> {
         shared: &Shared<A, P>,
         steps: &mut Steps<L>,
     )
-        requires { IsTurning P.meaning shared.now.rows.now E.says E.object
-            (A.is_own shared.now.asks.now) A.made A.room A.told self.old }
+        requires serves { A.serves shared.now.asks.now shared.now.rows.now }
+        requires turning { IsTurning P.meaning shared.now.rows.now E.says E.object
+            (A.fits shared.now.asks.now) A.count self.old }
         ensures { HasTurned P.meaning shared.now.rows.now E.says E.object
-            (A.is_own shared.now.asks.now) A.made A.room A.told self.old self.new }
+            (A.fits shared.now.asks.now) A.count self.old self.new }
     {
         if self.allotment == 0 {
             return;
@@ -62,14 +63,13 @@ pub(crate) fn take_turns<'a, P: Program, T, E: Ending, A: Asks<Program = P, Pass
     ghost course: { Course }
     requires course { course ≡ course_of script.now
         (allotments_of script.now.operations script.now.stops) course.object }
+    requires serves { A.serves shared.now.asks.now shared.now.rows.now }
     requires all { length workers.old.items ≡ length script.now.operations }
     requires workers { AreDownFrom (length script.now.operations)
-        (IsStart P.meaning shared.now.rows.now E.says E.object (A.is_own shared.now.asks.now)
-        A.made A.room A.told course) workers.old.items }
+        (IsStart P.meaning shared.now.rows.now E.says E.object (A.fits shared.now.asks.now) A.count course) workers.old.items }
     ensures all { length workers.new.items ≡ length script.now.operations }
     ensures workers { AreDownFrom (length script.now.operations)
-        (IsSpent P.meaning shared.now.rows.now E.says E.object (A.is_own shared.now.asks.now)
-        A.made A.room A.told (course_of script.now
+        (IsSpent P.meaning shared.now.rows.now E.says E.object (A.fits shared.now.asks.now) A.count (course_of script.now
         (allotments_by_turns script.now.operations script.now.stops script.now.turns)
         course.object)) workers.new.items }
 {
@@ -90,14 +90,13 @@ fn take_turns_counted<'a, P: Program, T, E: Ending, A: Asks<Program = P, Pass = 
     requires blank { (blank.name ≡ L.name) × (blank.parts ≡ L.parts) × (0 < blank.parts) }
     requires course { course ≡ course_of script.now
         (allotments_of script.now.operations script.now.stops) course.object }
+    requires serves { A.serves shared.now.asks.now shared.now.rows.now }
     requires all { length workers.old.items ≡ length script.now.operations }
     requires workers { AreDownFrom (length script.now.operations)
-        (IsStart P.meaning shared.now.rows.now E.says E.object (A.is_own shared.now.asks.now)
-        A.made A.room A.told course) workers.old.items }
+        (IsStart P.meaning shared.now.rows.now E.says E.object (A.fits shared.now.asks.now) A.count course) workers.old.items }
     ensures all { length workers.new.items ≡ length script.now.operations }
     ensures workers { AreDownFrom (length script.now.operations)
-        (IsSpent P.meaning shared.now.rows.now E.says E.object (A.is_own shared.now.asks.now)
-        A.made A.room A.told (course_of script.now
+        (IsSpent P.meaning shared.now.rows.now E.says E.object (A.fits shared.now.asks.now) A.count (course_of script.now
         (allotments_by_turns script.now.operations script.now.stops script.now.turns)
         course.object)) workers.new.items }
 {
@@ -114,14 +113,13 @@ fn take_turns_alone<'a, P: Program, T, E: Ending, A: Asks<Program = P, Pass = T>
     ghost course: { Course }
     requires course { course ≡ course_of script.now
         (allotments_of script.now.operations script.now.stops) course.object }
+    requires serves { A.serves shared.now.asks.now shared.now.rows.now }
     requires all { length workers.old.items ≡ length script.now.operations }
     requires workers { AreDownFrom (length script.now.operations)
-        (IsStart P.meaning shared.now.rows.now E.says E.object (A.is_own shared.now.asks.now)
-        A.made A.room A.told course) workers.old.items }
+        (IsStart P.meaning shared.now.rows.now E.says E.object (A.fits shared.now.asks.now) A.count course) workers.old.items }
     ensures all { length workers.new.items ≡ length script.now.operations }
     ensures workers { AreDownFrom (length script.now.operations)
-        (IsSpent P.meaning shared.now.rows.now E.says E.object (A.is_own shared.now.asks.now)
-        A.made A.room A.told (course_of script.now
+        (IsSpent P.meaning shared.now.rows.now E.says E.object (A.fits shared.now.asks.now) A.count (course_of script.now
         (allotments_by_turns script.now.operations script.now.stops script.now.turns)
         course.object)) workers.new.items }
 {
@@ -145,22 +143,27 @@ pub fn replay_all<'a, P: Program, T, E: Ending + Drop, A: Asks<Program = P, Pass
     ghost course: { Course }
     requires course { course ≡ course_of script.now
         (allotments_of script.now.operations script.now.stops) course.object }
-    requires rows { AreRowsFor script.now shared.now.rows.now }
+    requires serves { A.serves shared.now.asks.now shared.now.rows.now }
+    requires rows { HaveRoomFor script.now shared.now.rows.now }
     requires bench { IsBenchOf P.meaning shared.now.rows.now bench.old }
     requires unused { (i : ℕ) → i < length script.now.operations → IsUnused bench.old i }
     requires all_passes { vec_len passes.old ≡ length script.now.operations }
-    requires passes { AreInOrder (IsFreshPass (A.is_own shared.now.asks.now) A.made A.room A.told
+    requires passes { AreInOrder (IsFreshPass shared.now.rows.now (A.fits shared.now.asks.now) A.count
         script.now.operations) passes.old.items }
     requires all_endings { vec_len endings ≡ length script.now.operations }
     requires endings { All (λ e. E.object e ≡ course.object) endings.items }
     ensures bench { IsBenchOf P.meaning shared.now.rows.now bench.new }
+    ensures others { AreAlikeFrom (length script.now.operations) bench.old bench.new }
     ensures all_passes { vec_len passes.new ≡ length script.now.operations }
+    ensures capacity { vec_capacity passes.old ≤ vec_capacity passes.new }
     ensures back { (i : ℕ) → i < length script.now.operations
-        → IsBackOn (A.is_own shared.now.asks.now) A.made A.told (course_of script.now
+        → IsBackOn P.meaning shared.now.rows.now
+        (A.fits shared.now.asks.now) A.count (course_of script.now
         (allotments_by_turns script.now.operations script.now.stops script.now.turns) course.object)
         bench.new passes.new.items i }
     ensures all_lines { IfOk result (λ lines. vec_len lines ≡ length script.now.operations) }
-    ensures lines { IfOk result (λ lines. AreBack E.says (A.is_own shared.now.asks.now) A.made A.told
+    ensures lines { IfOk result (λ lines. AreBack P.meaning shared.now.rows.now E.says
+        (A.fits shared.now.asks.now) A.count
         (length script.now.operations) (length script.now.operations) (course_of script.now
         (allotments_by_turns script.now.operations script.now.stops script.now.turns) course.object)
         bench.new passes.new.items (lines_in lines.items) false) }

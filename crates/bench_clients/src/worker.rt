@@ -25,12 +25,13 @@ fn run_counted<'a, P: Program, T, E: Ending, A: Asks<Program = P, Pass = T>, L: 
     blank: Blank,
 ) -> Client<'a, P, T, E>
     requires blank { (blank.name ≡ L.name) × (blank.parts ≡ L.parts) × (0 < blank.parts) }
+    requires serves { A.serves shared.now.asks.now shared.now.rows.now }
     requires work { IsAtWork P.meaning shared.now.rows.now E.says E.object
-        (A.is_own shared.now.asks.now) A.made A.room A.told client }
+        (A.fits shared.now.asks.now) A.count client }
     requires goes { GoesOnFrom client.stand }
     requires left { phases_by client + count ≤ 5 * length client.sheet.operations.now }
     ensures work { IsAtWork P.meaning shared.now.rows.now E.says E.object
-        (A.is_own shared.now.asks.now) A.made A.room A.told result }
+        (A.fits shared.now.asks.now) A.count result }
     ensures same { IsSameClient client.entry result }
     ensures object { E.object result.sheet.ending ≡ E.object client.entry.sheet.ending }
     ensures spent { HasSpent (phases_by client.entry + count) result }
@@ -45,12 +46,13 @@ fn run_alone<'a, P: Program, T, E: Ending, A: Asks<Program = P, Pass = T>>(
     shared: &Shared<A, P>,
     count: u64,
 ) -> Client<'a, P, T, E>
+    requires serves { A.serves shared.now.asks.now shared.now.rows.now }
     requires work { IsAtWork P.meaning shared.now.rows.now E.says E.object
-        (A.is_own shared.now.asks.now) A.made A.room A.told client }
+        (A.fits shared.now.asks.now) A.count client }
     requires goes { GoesOnFrom client.stand }
     requires left { phases_by client + count ≤ 5 * length client.sheet.operations.now }
     ensures work { IsAtWork P.meaning shared.now.rows.now E.says E.object
-        (A.is_own shared.now.asks.now) A.made A.room A.told result }
+        (A.fits shared.now.asks.now) A.count result }
     ensures same { IsSameClient client.entry result }
     ensures object { E.object result.sheet.ending ≡ E.object client.entry.sheet.ending }
     ensures spent { HasSpent (phases_by client.entry + count) result }
@@ -67,10 +69,10 @@ impl<
     A: Asks<Program = P, Pass = T> + Sync,
 > Work<Shared<'s, A, P>> for Worker<'a, P, T, E> {
     ghost ready = { λ w shared. IsReady P.meaning shared.rows.now E.says E.object
-        (A.is_own shared.asks.now) A.made A.room A.told w };
+        (A.fits shared.asks.now) A.count (A.serves shared.asks.now shared.rows.now) w };
 
     ghost done = { λ w shared d. HasRun P.meaning shared.rows.now E.says E.object
-        (A.is_own shared.asks.now) A.made A.room A.told w d };
+        (A.fits shared.asks.now) A.count w d };
 
     fn work(&mut self, shared: &Shared<'s, A, P>) {
         let Some(client) = self.client.take() else {

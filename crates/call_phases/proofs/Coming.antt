@@ -1,9 +1,11 @@
 -- A client comes on by each phase of its caller.
-use Rattle.std.proofs.Common.{◌≡◌, ◌∙◌, sym, ap, refl, ℕ, ◌+◌, ◌*◌, ◌<◌, List, [], ◌∷◌, ◌++◌, length, slice_index, arith}
-use Rattle.std.proofs.lemmas.List.{append-nil}
+use Rattle.std.proofs.Common.{◌≡◌, ◌∙◌, sym, ap, refl, ℕ, ◌+◌, ◌*◌, ◌<◌, List, [], ◌∷◌, ◌++◌, length, slice_index, slice_index_or, arith}
+use Rattle.std.proofs.lemmas.List.{append-nil, get_or_push}
 use Rattle.book_base.specs.declared.call.Record.{Record}
 use Rattle.world_core.specs.Shape.{Meaning}
-use Rattle.world_core.specs.Local.{Local}
+use Rattle.world_core.specs.Local.{Local, Object_step, Announcing}
+use Rattle.world_core.specs.CallSteps.{steps_now}
+use Rattle.world_core.specs.Agreement.{HasPhase, unpublished_calls}
 use Rattle.world_core.specs.Calls.{Is_announced, Has_record, Has_seen, Made}
 use Rattle.call_lines.specs.declared.line.LineEnd.{LineEnd}
 use Rattle.call_lines.specs.declared.line.Line.{Line}
@@ -22,6 +24,7 @@ use Rattle.enforcer.specs.declared.published_call.Published.{Published}
 use Rattle.enforcer.specs.States.{caller_published, reply_published, view_published}
 use Rattle.call_phases.specs.declared.stand.Stand.{Stand}
 use Rattle.call_phases.specs.declared.stand.Stand.TheVariants as at
+use Rattle.call_phases.specs.Asking.{ComesNoFurther}
 use Rattle.call_phases.specs.Course.{HasCome}
 use Rattle.call_phases.proofs.Phases.{the_last_call_goes_on, announcing_is_a_phase, asking_is_a_phase, publishing_is_a_phase, progress_along}
 use Rattle.call_phases.proofs.Lines.{lines_stay}
@@ -29,6 +32,13 @@ use Rattle.call_phases.proofs.Lines.{lines_stay}
 -- what the ends of lines say stays so while the caller goes on
 abbrev pub Stays : (ℕ → Local → Record → List ℕ → LineEnd → Type 0) → Type 0
 Stays says = (n : ℕ) (l m : Local) (r : Record) (cut : List ℕ) (end : LineEnd) → Grows l m → says n l r cut end → says n m r cut end
+
+-- a call that was announced just now has no object step
+pub none_yet : (l m : Local) → HasPhase l → l.phase ≡ Announcing → m.published ≡ l.published → m.object_steps ≡ l.object_steps ++ [] ∷ [] → steps_now m ≡ []
+none_yet l m has phase published steps =
+    ap (λ (k : ℕ). slice_index_or m.object_steps k []) published
+    ∙ ap (λ (all : List (List Object_step)). slice_index_or all l.published []) steps
+    ∙ get_or_push l.object_steps [] [] l.published (omega (arith, has.object_steps, has.announced, ap unpublished_calls phase))
 
 -- one call more
 announced_calls : (progress progress' : Progress) (op : ℕ) (ended : List Made) → progress' ≡ after_announcing op progress → progress.calls ≡ ended ++ []
@@ -58,8 +68,9 @@ module _ {P : Type 0} (meaning : P → ℕ → ℕ → Meaning) (r : Rows P) (sa
 
   pub announced_come : (c : Caller P) (a : Announced P) (next : ℕ) → next ≡ op → Come (at.Idle c) → length own < length operations
       → IsStill meaning r c (caller_announced a) → op_announced a ≡ next
-      → progress_of (announced_local a) ≡ after_announcing next (progress_of (local_with c)) → Grows (local_with c) (announced_local a) → Come (at.Announced a)
-  announced_come c a next next_is h low still is progress' grows =
+      → progress_of (announced_local a) ≡ after_announcing next (progress_of (local_with c)) → Grows (local_with c) (announced_local a)
+      → steps_now (announced_local a) ≡ [] → Come (at.Announced a)
+  announced_come c a next next_is h low still is progress' grows none =
       let progress : progress_of (announced_local a) ≡ after_announcing op (progress_of (local_with c)) =
       progress' ∙ ap (λ (o : ℕ). after_announcing o (progress_of (local_with c))) next_is in
       record {
@@ -72,23 +83,24 @@ module _ {P : Type 0} (meaning : P → ℕ → ℕ → Meaning) (r : Rows P) (sa
         calls = announced_calls (progress_of (local_with c)) (progress_of (announced_local a)) op h.ended progress h.calls;
         lines = lines_stay _ _ (λ r' cut end. stays r.callers (local_with c) (announced_local a) r' cut end grows) h.ended own h.lines;
         errors = h.errors;
-        may = is ∙ next_is;
+        may = (is ∙ next_is, none);
       }
 
   pub answered_come : (a : Announced P) (b : Answered P) → Come (at.Announced a)
       → IsStill meaning r (caller_announced a) (caller_answered b) → op_answered b ≡ op_announced a → MayGet meaning (caller_answered b) (reply_answered b)
-      → progress_of (answered_local b) ≡ progress_of (announced_local a) → Grows (announced_local a) (answered_local b) → Come (at.Answered b)
+      → ComesNoFurther (announced_local a) (answered_local b) → Grows (announced_local a) (answered_local b) → Come (at.Answered b)
   answered_come a b h still is may progress grows =
+      let made = asking_is_a_phase operations (length own) (progress_of (announced_local a)) h.made in
       record {
         caller = still.0;
         number = still.1 ∙ h.number;
         made = progress_along operations (5 * length own + 2) (5 * length own + 2) _ _ refl (sym progress)
-            (asking_is_a_phase operations (length own) (progress_of (announced_local a)) h.made);
+            (record { in_order = made.in_order; marks = made.marks; published = made.published });
         ended = h.ended;
         calls = ap (λ (x : Progress). x.calls) progress ∙ h.calls;
         lines = lines_stay _ _ (λ r' cut end. stays r.callers (announced_local a) (answered_local b) r' cut end grows) h.ended own h.lines;
         errors = h.errors;
-        may = (is ∙ h.may, may);
+        may = (is ∙ h.may.0, may);
       }
 
   pub viewed_come : (a : Answered P) (v : Viewed P) → Come (at.Answered a)

@@ -10,3 +10,4 @@ pub mod Spending
 pub mod Leaving
 pub mod Worked
 pub mod Kept
+pub mod Asked

@@ -3,11 +3,13 @@ use Rattle.std.proofs.Common.{◌≡◌, ◌∙◌, refl, sym, subst, ap, ℕ, L
 use Rattle.std.specs.Prelude.{Option}
 use Rattle.book_base.specs.declared.call.Record.{Record}
 use Rattle.world_core.specs.Shape.{Meaning}
-use Rattle.world_core.specs.Local.{Local}
+use Rattle.world_core.specs.Local.{Local, Object_step}
+use Rattle.world_core.specs.CallSteps.{all_steps_of}
 use Rattle.call_lines.specs.declared.line.LineEnd.{LineEnd}
 use Rattle.call_lines.specs.declared.line.Line.{Line}
 use Rattle.row_table.specs.declared.rows.Rows.{Rows}
 use Rattle.row_table.specs.declared.caller.Caller.{Caller}
+use Rattle.row_table.specs.Callers.{who_of, local_with, IsCallerOf, IsStill}
 use Rattle.row_gather.specs.Gathered.{IsGatheredBy}
 use Rattle.drv_wrapper.specs.declared.announced.Announced.{Announced}
 use Rattle.drv_wrapper.specs.declared.answered.Answered.{Answered}
@@ -17,15 +19,30 @@ use Rattle.call_phases.specs.declared.stand.Stand.{Stand}
 use Rattle.call_phases.specs.declared.stand.Stand.TheVariants as at
 use Rattle.call_phases.specs.declared.sheet.Sheet.{Sheet}
 use Rattle.call_phases.specs.Ends.{Sequential}
-use Rattle.call_phases.specs.Stands.{local_at_stand, phases_at, GoesOnFrom}
-use Rattle.call_phases.specs.Course.{HasCome, HasAskedFor}
+use Rattle.call_phases.specs.Asking.{Fits, PassCount, FitsCaller}
+use Rattle.call_phases.specs.Stands.{caller_at, local_at_stand, phases_at, GoesOnFrom}
+use Rattle.call_phases.specs.Course.{HasCome, Counts}
 
 pub come_at : {P : Type 0} {meaning : P → ℕ → ℕ → Meaning} {r : Rows P} {says : ℕ → Local → Record → List ℕ → LineEnd → Type 0} {who : ℕ} {operations : List ℕ} {own : List Line} (s t : Stand P)
     → s ≡ t → HasCome meaning r says who operations s own → HasCome meaning r says who operations t own
 come_at {P} {meaning} {r} {says} {who} {operations} {own} s t is h = subst (λ (z : Stand P). HasCome meaning r says who operations z own) is h
 
-pub asked_at : {P : Type 0} {made : ℕ} {told : Option (List (ℕ × ℕ))} {own : List Line} (s t : Stand P) → s ≡ t → HasAskedFor made told s own → HasAskedFor made told t own
-asked_at {P} {made} {told} {own} s t is h = subst (λ (z : Stand P). HasAskedFor made told z own) is h
+pub counted_at : {P : Type 0} (count : Option PassCount) (operations : List ℕ) (own : List Line) (s t : Stand P) → s ≡ t → Counts count operations s own → Counts count operations t own
+counted_at {P} count operations own s t is h = subst (λ (z : Stand P). Counts count operations z own) is h
+
+pub fits_at : {P T : Type 0} (fits : Fits T) (pass : T) (s t : Stand P) → s ≡ t → FitsCaller fits pass (caller_at s) → FitsCaller fits pass (caller_at t)
+fits_at {P} fits pass s t is h = subst (λ (z : Stand P). FitsCaller fits pass (caller_at z)) is h
+
+-- a pass that fits a caller fits it still where it has the same object steps
+pub fits_stays : {P T : Type 0} (meaning : P → ℕ → ℕ → Meaning) (r : Rows P) (fits : Fits T) (pass : T) (c d : Caller P) → IsCallerOf meaning r c → IsStill meaning r c d
+    → all_steps_of (local_with d) ≡ all_steps_of (local_with c) → FitsCaller fits pass c → FitsCaller fits pass d
+fits_stays meaning r fits pass c d was still steps h =
+    let callers : d.callers ≡ c.callers = still.0.callers ∙ sym was.callers in
+    let cap : d.cap ≡ c.cap = still.0.cap ∙ sym was.cap in
+    subst (λ (n : ℕ). fits n d.cap pass (who_of d) (all_steps_of (local_with d))) (sym callers)
+    (subst (λ (n : ℕ). fits c.callers n pass (who_of d) (all_steps_of (local_with d))) (sym cap)
+    (subst (λ (i : ℕ). fits c.callers c.cap pass i (all_steps_of (local_with d))) (sym still.1)
+    (subst (λ (own : List Object_step). fits c.callers c.cap pass (who_of c) own) (sym steps) h)))
 
 -- a caller that goes on stands somewhere before the end of a call
 pub stands_before : {P : Type 0} (s : Stand P) → GoesOnFrom s → ((c : Caller P) → s ≡ at.Idle c → ⊥) → ((a : Announced P) → s ≡ at.Announced a → ⊥) → ((a : Answered P) → s ≡ at.Answered a → ⊥)
@@ -49,12 +66,16 @@ module _ {P E : Type 0} (s t : Stand P) (h k : Sheet E) (stand_is : s ≡ t) (sh
       subst (λ (z : Stand P). HasCome meaning r (says (object h.ending)) h.who h.operations.now z h.lines.items) (sym stand_is)
       (subst (λ (x : Sheet E). HasCome meaning r (says (object x.ending)) x.who x.operations.now t x.lines.items) (sym sheet_is) come)
 
-  pub asked_with : {T : Type 0} (p q : T) → p ≡ q → (made : T → ℕ) (told : T → Option (List (ℕ × ℕ)))
-      → HasAskedFor (made q) (told q) t k.lines.items → HasAskedFor (made p) (told p) s h.lines.items
-  asked_with {T} p q pass_is made told asked =
-      subst (λ (z : Stand P). HasAskedFor (made p) (told p) z h.lines.items) (sym stand_is)
-      (subst (λ (x : Sheet E). HasAskedFor (made p) (told p) t x.lines.items) (sym sheet_is)
-      (subst (λ (x : T). HasAskedFor (made x) (told x) t k.lines.items) (sym pass_is) asked))
+  pub counted_with : {T : Type 0} (p q : T) → p ≡ q → (count : T → Option PassCount)
+      → Counts (count q) k.operations.now t k.lines.items → Counts (count p) h.operations.now s h.lines.items
+  counted_with {T} p q pass_is count counted =
+      subst (λ (z : Stand P). Counts (count p) h.operations.now z h.lines.items) (sym stand_is)
+      (subst (λ (x : Sheet E). Counts (count p) x.operations.now t x.lines.items) (sym sheet_is)
+      (subst (λ (x : T). Counts (count x) k.operations.now t k.lines.items) (sym pass_is) counted))
+
+  pub fits_with : {T : Type 0} (fits : Fits T) (p q : T) → p ≡ q → FitsCaller fits q (caller_at t) → FitsCaller fits p (caller_at s)
+  fits_with {T} fits p q pass_is h =
+      subst (λ (z : Stand P). FitsCaller fits p (caller_at z)) (sym stand_is) (subst (λ (x : T). FitsCaller fits x (caller_at t)) (sym pass_is) h)
 
   pub kept_with : ∥ IsGatheredBy (local_at_stand t) k.gathered ∥₁ → ∥ IsGatheredBy (local_at_stand s) h.gathered ∥₁
   kept_with kept =

@@ -1,9 +1,10 @@
 -- What is told of a client's calls, phase by phase.
-use Rattle.std.proofs.Common.{◌≡◌, ◌∙◌, sym, subst, ap, refl, ℕ, ◌+◌, ◌*◌, List, [], ◌∷◌, ◌++◌, length, slice_index, arith}
+use Rattle.std.proofs.Common.{◌≡◌, ◌∙◌, sym, subst, ap, refl, ℕ, ◌+◌, ◌*◌, ◌<◌, List, [], ◌∷◌, ◌++◌, length, slice_index, arith}
 use Rattle.std.specs.Prelude.{Option, Some, None, IfSome}
 use Rattle.book_base.specs.declared.call.Record.{Record}
 use Rattle.world_core.specs.Shape.{Meaning}
 use Rattle.world_core.specs.Local.{Local}
+use Rattle.world_core.specs.CallSteps.{all_steps_of}
 use Rattle.world_core.specs.Calls.{calls_in}
 use Rattle.call_lines.specs.declared.line.LineEnd.{LineEnd}
 use Rattle.call_lines.specs.declared.line.Line.{Line}
@@ -26,7 +27,8 @@ use Rattle.call_phases.specs.declared.ended.Ended.{Ended}
 use Rattle.call_phases.specs.declared.ended.Ended.TheVariants.{GoesOn, Halts, WantsMemory}
 use Rattle.call_phases.specs.Endings.{local_ended, HasEnded, IsNoted}
 use Rattle.call_phases.specs.Stands.{phases_at}
-use Rattle.call_phases.specs.Course.{HasCome, HasTold, HasAskedFor}
+use Rattle.call_phases.specs.Asking.{PassCount, HasCallLeft, count_after, ComesNoFurther}
+use Rattle.call_phases.specs.Course.{HasCome, HasTold, HasAskedFor, Counts}
 use Rattle.call_phases.proofs.Phases.{progress_along}
 
 pub if_some_as : {X : Type 0} (told : Option X) (A B : X → Type 0) → ((x : X) → A x → B x) → IfSome told A → IfSome told B
@@ -69,7 +71,7 @@ module _ {P : Type 0} (meaning : P → ℕ → ℕ → Meaning) (r : Rows P) (sa
       }
 
   pub answered_asked : (a : Announced P) (b : Answered P) (made' : ℕ) (told' : Option (List (ℕ × ℕ))) → Come (at.Announced a)
-      → progress_of (answered_local b) ≡ progress_of (announced_local a) → op_answered b ≡ op_announced a
+      → ComesNoFurther (announced_local a) (answered_local b) → op_answered b ≡ op_announced a
       → made' ≡ made + 1 → told' ≡ told_after (op_announced a) (reply_answered b) told
       → Asked (at.Announced a) → HasAskedFor made' told' (at.Answered b) own
   answered_asked a b made' told' h progress is one more asked =
@@ -77,8 +79,8 @@ module _ {P : Type 0} (meaning : P → ℕ → ℕ → Meaning) (r : Rows P) (sa
         made_is = omega (arith, asked.made_is, one);
         told_is = if_some_after told told' (op_announced a) (reply_answered b) _ _
             (λ (pairs : List (ℕ × ℕ)) (t : HasTold (at.Announced a) own pairs). record {
-              told = told_along (5 * length own + 2) (5 * length own + 2) (progress_of (announced_local a)) (progress_of (answered_local b)) (pairs ++ (op_announced a, reply_answered b) ∷ []) refl (sym progress)
-                  (subst (λ (o : ℕ). IsTold (5 * length own + 2) (progress_of (announced_local a)).calls (pairs ++ (o, reply_answered b) ∷ [])) (sym h.may)
+              told = told_along (5 * length own + 2) (5 * length own + 2) (record (progress_of (announced_local a)) { steps = all_steps_of (answered_local b) }) (progress_of (answered_local b)) (pairs ++ (op_announced a, reply_answered b) ∷ []) refl (sym progress)
+                  (subst (λ (o : ℕ). IsTold (5 * length own + 2) (progress_of (announced_local a)).calls (pairs ++ (o, reply_answered b) ∷ [])) (sym h.may.0)
                   (told_as_asked operations (length own) (progress_of (announced_local a)) (reply_answered b) pairs h.made t.told));
               last = (pairs, ap (λ (o : ℕ). pairs ++ (o, reply_answered b) ∷ []) (sym is));
             })
@@ -162,3 +164,28 @@ module _ {P : Type 0} (meaning : P → ℕ → ℕ → Meaning) (r : Rows P) (sa
         made_is = omega (arith, asked.made_is, phases);
         told_is = if_some_as told _ _ (ended_told p e s own' end noted phases) asked.told_is;
       }
+
+-- what a pass counts, where it counts, as the client comes on and it isn't asked; and as it is
+module _ {P : Type 0} (operations : List ℕ) where
+  pub counted_as : (count : Option PassCount) (s t : Stand P) (own own' : List Line)
+      → ((made : ℕ) (told : Option (List (ℕ × ℕ))) → HasAskedFor made told s own → HasAskedFor made told t own') → Counts count operations s own → Counts count operations t own'
+  counted_as None s t own own' turns h = h
+  counted_as (Some c) s t own own' turns h = record { asked = turns c.made c.told h.asked; has_room = h.has_room }
+
+  counted_one_more : (count : Option PassCount) (op reply : ℕ) (s t : Stand P) (own : List Line)
+      → ((made : ℕ) (told : Option (List (ℕ × ℕ))) → HasAskedFor made told s own → HasAskedFor (made + 1) (told_after op reply told) t own)
+      → Counts count operations s own → Counts (count_after op reply count) operations t own
+  counted_one_more None op' reply s t own turns h = h
+  counted_one_more (Some c) op' reply s t own turns h = record { asked = turns c.made c.told h.asked; has_room = h.has_room }
+
+  pub counted_after : (count count' : Option PassCount) (op reply : ℕ) (s t : Stand P) (own : List Line)
+      → ((made : ℕ) (told : Option (List (ℕ × ℕ))) → HasAskedFor made told s own → HasAskedFor (made + 1) (told_after op reply told) t own)
+      → count' ≡ count_after op reply count → Counts count operations s own → Counts count' operations t own
+  counted_after count count' op reply s t own turns is h =
+      subst (λ (x : Option PassCount). Counts x operations t own) (sym is) (counted_one_more count op reply s t own turns h)
+
+  -- a call that is announced may be asked
+  pub call_left : (count : Option PassCount) (a : Announced P) (own : List Line) → phases_at (length own) (at.Announced a) < 5 * length operations
+      → Counts count operations (at.Announced a) own → HasCallLeft count
+  call_left None a own low h = h
+  call_left (Some c) a own low h = omega (arith, h.asked.made_is, h.has_room, low)

@@ -1,12 +1,13 @@
 -- Clients before, in and behind their work.
-use Rattle.std.specs.Prelude.{◌≡◌, ℕ, ◌+◌, ◌*◌, ◌≤◌, List, length, vec_capacity}
+use Rattle.std.specs.Prelude.{◌≡◌, ℕ, ◌+◌, ◌*◌, ◌≤◌, List, Option, length, vec_capacity}
 use Rattle.book_base.specs.declared.call.Record.{Record}
 use Rattle.world_core.specs.Shape.{Meaning}
 use Rattle.world_core.specs.Local.{Local}
 use Rattle.call_lines.specs.declared.line.LineEnd.{LineEnd}
 use Rattle.row_table.specs.declared.rows.Rows.{Rows}
-use Rattle.call_phases.specs.Stands.{phases_at}
-use Rattle.call_phases.specs.Course.{HasCome}
+use Rattle.call_phases.specs.Asking.{Fits, PassCount, FitsCaller}
+use Rattle.call_phases.specs.Stands.{caller_at, phases_at}
+use Rattle.call_phases.specs.Course.{HasCome, Counts}
 use Rattle.call_phases.specs.declared.stand.Stand.{Stand}
 use Rattle.call_phases.specs.declared.stand.Stand.TheVariants.{Halted, Unjudged}
 use Rattle.call_phases.specs.declared.client.Client.{Client}
@@ -30,10 +31,14 @@ module _ {P T E : Type 0} where
   abbrev pub IsUnderWay : (P → ℕ → ℕ → Meaning) → Rows P → (ℕ → Local → Record → List ℕ → LineEnd → Type 0) → Client P T E → Type 0
   IsUnderWay meaning r says c = HasCome meaning r says c.sheet.who c.sheet.operations.now c.stand c.sheet.lines.items
 
-  -- There is a row, a call of the pass, of which it may make this many, and a line for each operation.
-  pub record HasRoom (r : Rows P) (room : ℕ) (c : Client P T E) : Type 0 where
+  -- A client's pass fits its caller, and has come along with its calls, where it counts them.
+  pub record HasPass (fits : Fits T) (count : T → Option PassCount) (c : Client P T E) : Type 0 where
+    pub fits_caller : FitsCaller fits c.pass (caller_at c.stand)
+    pub counts : Counts (count c.pass) c.sheet.operations.now c.stand c.sheet.lines.items
+
+  -- There is a row and a line for each operation.
+  pub record HasRoom (r : Rows P) (c : Client P T E) : Type 0 where
     pub rows : length c.sheet.operations.now ≤ r.cap
-    pub passes : length c.sheet.operations.now ≤ room
     pub lines : length c.sheet.operations.now ≤ vec_capacity c.sheet.lines
 
   -- One client is the other, further on: with the same operations, and no less room for lines.

@@ -1,5 +1,5 @@
 -- How far a client has come with its operations: its caller, its lines, and the pass by which it asks.
-use Rattle.std.specs.Prelude.{◌≡◌, ℕ, true, false, List, [], ◌∷◌, ◌++◌, Option, IfSome, length, slice_index}
+use Rattle.std.specs.Prelude.{◌≡◌, ◌≤◌, ℕ, true, false, List, [], ◌∷◌, ◌++◌, Option, IfSome, length, slice_index}
 use Rattle.book_base.specs.declared.call.Record.{Record}
 use Rattle.world_core.specs.Shape.{Meaning}
 use Rattle.world_core.specs.Local.{Local}
@@ -12,6 +12,7 @@ use Rattle.row_table.specs.declared.rows.Rows.{Rows}
 use Rattle.row_table.specs.Callers.{who_of, IsCallerOf}
 use Rattle.drv_wrapper.specs.States.{op_answered, reply_answered}
 use Rattle.call_phases.specs.Ends.{AreLinesOfCalls}
+use Rattle.call_phases.specs.Asking.{PassCount}
 use Rattle.call_phases.specs.Stands.{caller_at, local_at_stand, phases_at, under_way, MayGoOn}
 use Rattle.call_phases.specs.declared.stand.Stand.{Stand}
 use Rattle.call_phases.specs.declared.stand.Stand.TheVariants.{Answered, Halted}
@@ -57,3 +58,12 @@ module _ {P : Type 0} where
   pub record HasAskedFor (made : ℕ) (told : Option (List (ℕ × ℕ))) (s : Stand P) (own : List Line) : Type 0 where
     pub made_is : made ≡ asked (phases_at (length own) s)
     pub told_is : IfSome told (HasTold s own)
+
+  -- A pass that counts has come along, and has a call for each of these operations.
+  pub record HasCounted (operations : List ℕ) (s : Stand P) (own : List Line) (count : PassCount) : Type 0 where
+    pub asked : HasAskedFor count.made count.told s own
+    pub has_room : length operations ≤ count.room
+
+  -- So it is of a pass that counts.
+  abbrev pub Counts : Option PassCount → List ℕ → Stand P → List Line → Type 0
+  Counts count operations s own = IfSome count (HasCounted operations s own)

@@ -1,7 +1,9 @@
 -- What a client leaves that is finished.
-use Rattle.std.specs.Prelude.{◌≡◌, ℕ, true, false, Bool, List, Option, Some, None, length}
+use Rattle.std.specs.Prelude.{◌≡◌, ℕ, ◌%◌, true, false, Bool, IsTrue, List, [], Option, Some, None, length}
 use Rattle.book_base.specs.declared.call.Record.{Record}
+use Rattle.world_core.specs.Shape.{Meaning}
 use Rattle.world_core.specs.Local.{Local}
+use Rattle.world_core.specs.CallSteps.{steps_now}
 use Rattle.call_lines.specs.declared.line.LineEnd.{LineEnd}
 use Rattle.call_lines.specs.declared.line.LineEnd.TheVariants.{Pending, Unchecked}
 use Rattle.call_lines.specs.declared.line.Line.{Line}
@@ -12,6 +14,12 @@ use Rattle.call_phases.specs.Endings.{record_published}
 use Rattle.call_phases.specs.Clients.{Spent}
 use Rattle.call_phases.specs.declared.stand.Stand.{Stand}
 use Rattle.call_phases.specs.declared.stand.Stand.TheVariants.{Idle, Announced, Answered, Viewed, Published, Halted, Unjudged}
+
+-- What is kept of the call under way of a caller i that has made so many phases: one that was announced and not asked has no object
+-- step, and to one that was asked and has no view its program allows a reply.
+pub record KeepsAsked (program : Meaning) (i phases : ℕ) (l : Local) : Type 0 where
+  pub unasked : phases % 5 ≡ 1 → steps_now l ≡ []
+  pub asked : phases % 5 ≡ 2 → (reply : ℕ) × IsTrue (program.may_reply i l reply)
 
 module _ {P : Type 0} where
   -- The end of the line of a call that its caller leaves there: pending without its record, and unchecked with it.

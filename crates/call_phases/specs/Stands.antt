@@ -2,11 +2,12 @@
 use Rattle.std.specs.Prelude.{◌≡◌, ℕ, ◌+◌, ◌*◌, false, List, [], ◌∷◌, length}
 use Rattle.world_core.specs.Shape.{Meaning}
 use Rattle.world_core.specs.Local.{Local}
+use Rattle.world_core.specs.CallSteps.{steps_now}
 use Rattle.world_core.specs.Calls.{Is_announced, Has_record, Has_seen, Made}
 use Rattle.row_table.specs.declared.caller.Caller.{Caller}
 use Rattle.row_table.specs.declared.rows.Rows.{Rows}
 use Rattle.row_table.specs.Callers.{local_with, stance_of, IsFree, MayGet}
-use Rattle.drv_wrapper.specs.States.{caller_announced, op_announced, caller_answered, op_answered, reply_answered, caller_viewed, reply_viewed, view_viewed}
+use Rattle.drv_wrapper.specs.States.{caller_announced, op_announced, announced_local, caller_answered, op_answered, reply_answered, caller_viewed, reply_viewed, view_viewed}
 use Rattle.enforcer.specs.States.{caller_published, reply_published, view_published}
 use Rattle.call_phases.specs.Endings.{record_unjudged}
 use Rattle.call_phases.specs.declared.stand.Stand.{Stand}
@@ -50,10 +51,11 @@ module _ {P : Type 0} where
   under_way op (Halted c) = []
   under_way op (Unjudged u) = record { operation = op; reached = Has_seen (record_unjudged u) u.seen } ∷ []
 
-  -- The next phase can be made, of a call with this operation.
+  -- The next phase can be made, of a call with this operation: one that is announced has no object step yet, and of one that was asked
+  -- the program allows the reply.
   abbrev pub MayGoOn : (P → ℕ → ℕ → Meaning) → Rows P → ℕ → Stand P → Type 0
   MayGoOn meaning r op (Idle c) = IsFree c
-  MayGoOn meaning r op (Announced a) = op_announced a ≡ op
+  MayGoOn meaning r op (Announced a) = (op_announced a ≡ op) × (steps_now (announced_local a) ≡ [])
   MayGoOn meaning r op (Answered a) = (op_answered a ≡ op) × MayGet meaning (caller_answered a) (reply_answered a)
   MayGoOn meaning r op (Viewed v) = length (view_viewed v) ≡ r.callers
   MayGoOn meaning r op (Published p) = Unit {0}

@@ -1,14 +1,17 @@
-ghost use Rattle.std.specs.Prelude.{◌≡◌, ℕ, ◌+◌, ◌<◌, List, Option};
-ghost use Rattle.call_lines.specs.Phases.{progress_of};
-ghost use Rattle.row_table.specs.Callers.{who_of, MayGet, StaysWith};
+ghost use Rattle.std.specs.Prelude.{◌≡◌, ℕ, [], None, List, Option};
+ghost use Rattle.world_core.specs.Local.{Object_step};
+ghost use Rattle.world_core.specs.CallSteps.{steps_now};
+ghost use Rattle.row_table.specs.declared.rows.Rows.{Rows as TheRows};
+ghost use Rattle.row_table.specs.Callers.{who_of, MayGet, IsCallerOf};
 ghost use Rattle.drv_wrapper.specs.Growth.{Grows};
 ghost use Rattle.drv_wrapper.specs.States.{caller_announced, who_announced, op_announced, announced_local, caller_answered, op_answered, reply_answered, answered_local};
-ghost use Rattle.drv_wrapper.specs.Telling.{told_after};
+ghost use Rattle.call_phases.specs.Asking.{Fits, FitsCaller, PassCount, HasCallLeft, count_after, ComesNoFurther};
 
 use drv_wrapper::{Announced, Answered};
 use world_core::Program;
 
-/// How a client asks for the reply to an announced call.
+/// How a client asks for the reply to an announced call: an object outside the world, or one inside it whose
+/// steps its callers make.
 pub trait Asks {
     /// The program of the world.
     type Program: Program;
@@ -16,17 +19,15 @@ pub trait Asks {
     /// What one caller holds to ask.
     type Pass;
 
-    /// The pass is the object's own, and the one of this caller.
-    ghost is_own: { Self → Self.Pass → ℕ → Type 0 };
+    /// The rows whose callers may ask: of an object inside the world those that it makes its steps on.
+    ghost serves: { Self → TheRows Self.Program → Type 0 };
 
-    /// How many calls were made with a pass.
-    ghost made: { Self.Pass → ℕ };
+    /// Whom a pass fits: for how many callers and which cap, the caller's number, and the object steps of all the
+    /// caller's calls in order.
+    ghost fits: { Self → ℕ → ℕ → Self.Pass → ℕ → List Object_step → Type 0 };
 
-    /// How many calls may be made with it in all.
-    ghost room: { Self.Pass → ℕ };
-
-    /// The calls that were made with it, where it tells them: of each its operation and its reply.
-    ghost told: { Self.Pass → Option (List (ℕ × ℕ)) };
+    /// What a pass counts of its calls, where it counts them.
+    ghost count: { Self.Pass → Option PassCount } = { λ pass. None };
 
     /// Asks once, and keeps the reply, which the program allows. The caller comes no further with its calls.
     fn ask(
@@ -34,16 +35,16 @@ pub trait Asks {
         announced: Announced<Self::Program>,
         pass: &mut Self::Pass,
     ) -> Answered<Self::Program>
-        requires own { is_own self.now pass.old (who_announced announced) }
-        requires left { made pass.old < room pass.old }
+        requires table { (r : TheRows Self.Program) × serves self.now r × IsCallerOf Self.Program.meaning r (caller_announced announced) }
+        requires first { steps_now (announced_local announced) ≡ [] }
+        requires fits { FitsCaller (fits self.now) pass.old (caller_announced announced) }
+        requires left { HasCallLeft (count pass.old) }
         ensures who { who_of (caller_answered result) ≡ who_announced announced }
-        ensures rows { StaysWith (caller_announced announced) (caller_answered result) }
+        ensures rows { (r : TheRows Self.Program) → serves self.now r → IsCallerOf Self.Program.meaning r (caller_announced announced) → IsCallerOf Self.Program.meaning r (caller_answered result) }
         ensures operation { op_answered result ≡ op_announced announced }
         ensures allowed { MayGet Self.Program.meaning (caller_answered result) (reply_answered result) }
-        ensures progress { progress_of (answered_local result) ≡ progress_of (announced_local announced) }
+        ensures calls { ComesNoFurther (announced_local announced) (answered_local result) }
         ensures grows { Grows (announced_local announced) (answered_local result) }
-        ensures own { is_own self.now pass.new (who_announced announced) }
-        ensures made { made pass.new ≡ made pass.old + 1 }
-        ensures room { room pass.new ≡ room pass.old }
-        ensures told { told pass.new ≡ told_after (op_announced announced) (reply_answered result) (told pass.old) };
+        ensures fits { FitsCaller (fits self.now) pass.new (caller_answered result) }
+        ensures count { count pass.new ≡ count_after (op_announced announced) (reply_answered result) (count pass.old) };
 }

@@ -26,12 +26,11 @@ pub struct Client<'a, P, T, E> {
 
 impl<'a, P: Program, T, E: Ending> Client<'a, P, T, E> {
     ghost use Rattle.call_lines.specs.Phases.{HasMade};
-    ghost use Rattle.row_table.specs.Callers.{local_with};
+    ghost use Rattle.row_table.specs.Callers.{shape_of, local_with};
     ghost use Rattle.drv_wrapper.specs.Stands.{IsSame};
     ghost use Rattle.call_phases.specs.Stands.{caller_at, GoesOnFrom};
-    ghost use Rattle.call_phases.specs.Finishing.{is_unjudged, Leaves};
-    ghost use Rattle.call_phases.specs.Course.{HasAskedFor};
-    ghost use Rattle.call_phases.specs.Clients.{phases_by, HasSpent, IsUnderWay, HasRoom, IsSameClient};
+    ghost use Rattle.call_phases.specs.Finishing.{is_unjudged, KeepsAsked, Leaves};
+    ghost use Rattle.call_phases.specs.Clients.{phases_by, HasSpent, IsUnderWay, HasPass, HasRoom, IsSameClient};
 
     /// Makes the next phase of the caller: announces its next operation, asks, takes the view, publishes, or ends
     /// the call.
@@ -43,16 +42,15 @@ impl<'a, P: Program, T, E: Ending> Client<'a, P, T, E> {
         steps: &mut Steps<L>,
     ) -> Client<'a, P, T, E>
         requires course { IsUnderWay P.meaning shared.now.rows.now (E.says (E.object self.sheet.ending)) self }
-        requires asked { HasAskedFor (A.made self.pass) (A.told self.pass) self.stand self.sheet.lines.items }
-        requires own { A.is_own shared.now.asks.now self.pass self.sheet.who }
-        requires room { HasRoom shared.now.rows.now (A.room self.pass) self }
+        requires serves { A.serves shared.now.asks.now shared.now.rows.now }
+        requires pass { HasPass (A.fits shared.now.asks.now) A.count self }
+        requires room { HasRoom shared.now.rows.now self }
         requires goes { GoesOnFrom self.stand }
         requires left { phases_by self < 5 * length self.sheet.operations.now }
         ensures phase { phases_by result ≡ phases_by self.entry + 1 }
         ensures course { IsUnderWay P.meaning shared.now.rows.now (E.says (E.object result.sheet.ending)) result }
-        ensures asked { HasAskedFor (A.made result.pass) (A.told result.pass) result.stand result.sheet.lines.items }
-        ensures own { A.is_own shared.now.asks.now result.pass result.sheet.who }
-        ensures room { HasRoom shared.now.rows.now (A.room result.pass) result }
+        ensures pass { HasPass (A.fits shared.now.asks.now) A.count result }
+        ensures room { HasRoom shared.now.rows.now result }
         ensures same { IsSameClient self.entry result }
         ensures object { E.object result.sheet.ending ≡ E.object self.entry.sheet.ending }
     {
@@ -84,16 +82,15 @@ impl<'a, P: Program, T, E: Ending> Client<'a, P, T, E> {
         steps: &mut Steps<L>,
     ) -> Client<'a, P, T, E>
         requires course { IsUnderWay P.meaning shared.now.rows.now (E.says (E.object self.sheet.ending)) self }
-        requires asked { HasAskedFor (A.made self.pass) (A.told self.pass) self.stand self.sheet.lines.items }
-        requires own { A.is_own shared.now.asks.now self.pass self.sheet.who }
-        requires room { HasRoom shared.now.rows.now (A.room self.pass) self }
+        requires serves { A.serves shared.now.asks.now shared.now.rows.now }
+        requires pass { HasPass (A.fits shared.now.asks.now) A.count self }
+        requires room { HasRoom shared.now.rows.now self }
         requires goes { GoesOnFrom self.stand }
         requires left { phases_by self + count ≤ 5 * length self.sheet.operations.now }
         ensures spent { HasSpent (phases_by self.entry + count) result }
         ensures course { IsUnderWay P.meaning shared.now.rows.now (E.says (E.object result.sheet.ending)) result }
-        ensures asked { HasAskedFor (A.made result.pass) (A.told result.pass) result.stand result.sheet.lines.items }
-        ensures own { A.is_own shared.now.asks.now result.pass result.sheet.who }
-        ensures room { HasRoom shared.now.rows.now (A.room result.pass) result }
+        ensures pass { HasPass (A.fits shared.now.asks.now) A.count result }
+        ensures room { HasRoom shared.now.rows.now result }
         ensures same { IsSameClient self.entry result }
         ensures object { E.object result.sheet.ending ≡ E.object self.entry.sheet.ending }
     {
@@ -119,6 +116,7 @@ impl<'a, P: Program, T, E: Ending> Client<'a, P, T, E> {
         ensures ending { result.ending ≡ self.entry.sheet.ending }
         ensures wants_memory { result.wants_memory ≡ is_unjudged self.entry.stand }
         ensures made { HasMade self.entry.sheet.operations.now (phases_by self.entry) (local_with result.caller) }
+        ensures asked { KeepsAsked (shape_of P.meaning _rows.now).program self.entry.sheet.who (phases_by self.entry) (local_with result.caller) }
         ensures leaves { Leaves (E.says (E.object result.ending)) _rows.now.callers self.entry.sheet.operations.now self.entry.stand self.entry.sheet.lines.items (local_with result.caller) result.lines.items }
     {
         let Client {

@@ -16,23 +16,24 @@ use Rattle.row_table.specs.declared.bench.Bench.{Bench}
 use Rattle.row_table.specs.Callers.{shape_of, locals_on, IsBenchOf}
 use Rattle.row_table.proofs.Parting.{whole_is_together}
 use Rattle.client_scripts.specs.Plans.{Plan, IsPlan}
+use Rattle.call_phases.specs.Asking.{Fits, PassCount}
 use Rattle.call_phases.specs.Ends.{Sequential, SaysJudged}
 use Rattle.bench_clients.specs.Places.{AreInOrder}
 use Rattle.bench_clients.specs.Starts.{course_of, AreRowsFor}
 use Rattle.bench_clients.specs.Returns.{AreBack}
 use Rattle.reports.specs.Findings.{Findings, IsReport}
 use Rattle.run_report.specs.Replies.{HasWord}
-use Rattle.run_report.specs.Reporting.{IsReportOf, IsToldIn}
+use Rattle.run_report.specs.Reporting.{IsReportOf, IsCountedIn}
 use Rattle.run_report.proofs.Workers.{have_worked, told_in}
 use Rattle.run_report.proofs.Reports.{is_report}
 
-module _ {P T : Type 0} (meaning : P → ℕ → ℕ → Meaning) (r : Rows P) (b : Bench P) (plan : Plan) (allotments : List ℕ) (object : Sequential) (is_own : T → ℕ → Type 0) (made : T → ℕ) (told : T → Option (List (ℕ × ℕ))) (passes : List T) (lines : List (List Line))
-    (valid : IsPlan Second plan) (rows : AreRowsFor plan r) (bench : IsBenchOf meaning r b) (back : AreBack SaysJudged is_own made told (length plan.operations) (length plan.operations) (course_of plan allotments object) b passes lines false) (long : length lines ≡ length plan.operations) where
+module _ {P T : Type 0} (meaning : P → ℕ → ℕ → Meaning) (r : Rows P) (b : Bench P) (plan : Plan) (allotments : List ℕ) (object : Sequential) (fit : Fits T) (count : T → Option PassCount) (passes : List T) (lines : List (List Line))
+    (valid : IsPlan Second plan) (rows : AreRowsFor plan r) (bench : IsBenchOf meaning r b) (back : AreBack meaning r SaysJudged fit count (length plan.operations) (length plan.operations) (course_of plan allotments object) b passes lines false) (long : length lines ≡ length plan.operations) where
   together : AreTogether (shape_of meaning r) (locals_on b)
   together = whole_is_together (shape_of meaning r) b.seat.me.0 bench.wide (λ i low. let h = back.back i (omega (arith, low, rows.callers)) in (h.local, h.here)) bench.together
 
   have : HaveWorked object.init object.next (shape_of meaning r) plan.operations allotments (locals_on b) lines
-  have = have_worked object is_own made told (length plan.operations) (course_of plan allotments object) b passes lines refl (shape_of meaning r) rows.callers long back
+  have = have_worked object meaning r fit count (course_of plan allotments object) b passes lines refl (length plan.operations) rows.callers long back
 
   of : AreLinesOf object.init object.next (locals_on b) lines
   of = workers_leave_the_lines object.init object.next (shape_of meaning r) plan.operations allotments (locals_on b) lines together have
@@ -46,7 +47,6 @@ module _ {P T : Type 0} (meaning : P → ℕ → ℕ → Meaning) (r : Rows P) (
   pub fits : AllByRecursion (AllByRecursion (λ (line : Line). HasWord line.end)) lines → IsReport (record { kind = plan.kind; lines = lines })
   fits words = is_report object.init object.next (shape_of meaning r) (locals_on b) plan allotments lines valid rows.callers together of lawful words
 
-  pub told_of : length passes ≡ length plan.operations → AreInOrder (IsToldIn made told allotments (record { kind = plan.kind; lines = lines })) passes
+  pub told_of : length passes ≡ length plan.operations → AreInOrder (IsCountedIn count allotments (record { kind = plan.kind; lines = lines })) passes
   told_of all i pass there =
-      let h = told_in object is_own made told (length plan.operations) (course_of plan allotments object) b passes lines refl i pass there (back.back i (omega (arith, all, slice_get_within passes i pass there))) in
-      record { asked_for = h.0; told_is = h.1 }
+      told_in object meaning r fit count (course_of plan allotments object) b passes lines refl plan.kind i pass there (back.back i (omega (arith, all, slice_get_within passes i pass there)))

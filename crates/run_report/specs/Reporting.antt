@@ -8,6 +8,7 @@ use Rattle.call_lines.specs.Phases.{HasMade, IsTold, asked}
 use Rattle.call_lines.specs.Allotments.{operations_at, phases_of}
 use Rattle.call_lines.specs.Lawful.{IsLawful}
 use Rattle.client_scripts.specs.Plans.{Plan}
+use Rattle.call_phases.specs.Asking.{PassCount}
 use Rattle.call_phases.specs.Ends.{Sequential, silent}
 use Rattle.reports.specs.Findings.{Findings}
 
@@ -30,3 +31,12 @@ first_object object (ending ∷ endings) = object ending
 pub record IsToldIn {T : Type 0} (made : T → ℕ) (told : T → Option (List (ℕ × ℕ))) (allotments : List ℕ) (findings : Findings) (i : ℕ) (pass : T) : Type 0 where
   pub asked_for : made pass ≡ asked (phases_of (slice_index allotments i) (lines_at findings.lines i))
   pub told_is : IfSome (told pass) (IsTold (phases_of (slice_index allotments i) (lines_at findings.lines i)) (map made_of (lines_at findings.lines i)))
+
+-- What the pass of caller i counts, where it counts: it was asked for exactly the calls that the caller's lines tell of, and tells,
+-- where it tells anything, an operation and a reply for each of them.
+pub record IsCountIn (allotments : List ℕ) (findings : Findings) (i : ℕ) (count : PassCount) : Type 0 where
+  pub asked_for : count.made ≡ asked (phases_of (slice_index allotments i) (lines_at findings.lines i))
+  pub told_is : IfSome count.told (IsTold (phases_of (slice_index allotments i) (lines_at findings.lines i)) (map made_of (lines_at findings.lines i)))
+
+abbrev pub IsCountedIn : {T : Type 0} → (T → Option PassCount) → List ℕ → Findings → ℕ → T → Type 0
+IsCountedIn count allotments findings i pass = IfSome (count pass) (IsCountIn allotments findings i)

@@ -1,5 +1,6 @@
 ghost use Rattle.std.specs.Prelude.{◌≡◌, vec_len, IfOk};
 ghost use Rattle.std.specs.List.{All};
+ghost use Rattle.call_phases.specs.Asking.{fits_own, own_count};
 ghost use Rattle.call_phases.specs.Ends.{Sequential};
 ghost use Rattle.bench_clients.specs.Places.{AreInOrder};
 ghost use Rattle.bench_clients.specs.Starts.{IsFreshPass};
@@ -10,6 +11,7 @@ use call_phases::Judging;
 use client_scripts::Script;
 use drv_wrapper::{BlackBox, ObjectPass};
 use frontier_check::Guide;
+use row_table::Rows;
 use std::alloc::Global;
 
 // For each of so many callers a judgement of its calls by this object.
@@ -35,10 +37,14 @@ pub(crate) fn make_judgements<'a, S: SeqObject>(
 }
 
 // Passes with which no call was made tell of none.
-pub(crate) fn passes_are_fresh<B: BlackBox>(_object: &B, _passes: &Vec<B::Pass>, _script: &Script)
+pub(crate) fn passes_are_fresh<B: BlackBox>(
+    _rows: &Rows,
+    _object: &B,
+    _passes: &Vec<B::Pass>,
+    _script: &Script,
+)
     requires { AreInOrder (IsUnusedPass (B.is_own _object.now) B.Pass.caller B.Pass.made B.Pass.cap
         _script.now.operations) _passes.now.items }
-    ensures { AreInOrder (IsFreshPass
-        (λ pass who. B.is_own _object.now pass × (B.Pass.caller pass ≡ who)) B.Pass.made B.Pass.cap
-        B.Pass.told _script.now.operations) _passes.now.items }
+    ensures { AreInOrder (IsFreshPass _rows.now (fits_own (B.is_own _object.now) B.Pass.caller)
+        (own_count B.Pass.made B.Pass.cap B.Pass.told) _script.now.operations) _passes.now.items }
 {}

@@ -1,11 +1,13 @@
 //! Whole runs: all callers of a script call an object, and their report is lawful.
 #![tactic(auto)]
 
+mod asked;
 pub mod cases;
 mod judgements;
 mod replay;
 mod report;
 mod run;
 
+pub use asked::run_asked;
 pub use replay::replay_over;
 pub use run::run_over;

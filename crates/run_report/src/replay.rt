@@ -5,6 +5,7 @@ ghost use Rattle.reports.specs.ReportLayout.{lines_in};
 ghost use Rattle.bench_clients.specs.Places.{AreInOrder};
 ghost use Rattle.bench_clients.specs.Starts.{Course, course_of, AreRowsFor, IsUnused};
 ghost use Rattle.bench_clients.specs.Returns.{IsBackOn, AreBack};
+ghost use Rattle.call_phases.specs.Asking.{fits_own, own_count};
 ghost use Rattle.call_phases.specs.Ends.{SaysJudged};
 ghost use Rattle.run_report.specs.Passes.{IsOwnPass, IsUnusedPass};
 ghost use Rattle.run_report.specs.Reporting.{IsReportOf, IsToldIn};
@@ -45,19 +46,18 @@ fn replay_judged<S: SeqObject, B: BlackBox>(
     ensures bench { IsBenchOf ⟦<Outside as Program>⟧.meaning rows.now bench.new }
     ensures all_passes { vec_len passes.new ≡ length script.now.operations }
     ensures back { (i : ℕ) → i < length script.now.operations → IsBackOn
-        (λ pass who. B.is_own object.now pass × (B.Pass.caller pass ≡ who))
-        B.Pass.made B.Pass.told (course_of script.now
+        ⟦<Outside as Program>⟧.meaning rows.now (fits_own (B.is_own object.now) B.Pass.caller)
+        (own_count B.Pass.made B.Pass.cap B.Pass.told) (course_of script.now
         (allotments_by_turns script.now.operations script.now.stops script.now.turns)
         course.object) bench.new passes.new.items i }
     ensures all_lines { IfOk result (λ lines. vec_len lines ≡ length script.now.operations) }
-    ensures lines { IfOk result (λ lines. AreBack SaysJudged
-        (λ pass who. B.is_own object.now pass × (B.Pass.caller pass ≡ who))
-        B.Pass.made B.Pass.told (length script.now.operations) (length script.now.operations)
+    ensures lines { IfOk result (λ lines. AreBack ⟦<Outside as Program>⟧.meaning rows.now SaysJudged
+        (fits_own (B.is_own object.now) B.Pass.caller) (own_count B.Pass.made B.Pass.cap B.Pass.told) (length script.now.operations) (length script.now.operations)
         (course_of script.now
         (allotments_by_turns script.now.operations script.now.stops script.now.turns) course.object)
         bench.new passes.new.items (lines_in lines.items) false) }
 {
-    passes_are_fresh(object, passes, script);
+    passes_are_fresh(rows, object, passes, script);
     let endings = make_judgements(alloc, sequential, script.callers())?;
     let asks = OutsideObject { object };
     let shared = Shared { rows, asks: &asks };
@@ -91,7 +91,8 @@ pub fn replay_over<S: SeqObject, B: BlackBox>(
     ensures bench { IsBenchOf ⟦<Outside as Program>⟧.meaning rows.now bench.new × HoldsAll bench.new }
     ensures all_passes { vec_len passes.new ≡ length script.now.operations }
     ensures back { (i : ℕ) → i < length script.now.operations → IsBackOn
-        (λ pass who. B.is_own object.now pass × (B.Pass.caller pass ≡ who)) B.Pass.made B.Pass.told
+        ⟦<Outside as Program>⟧.meaning rows.now (fits_own (B.is_own object.now) B.Pass.caller)
+        (own_count B.Pass.made B.Pass.cap B.Pass.told)
         (course_of script.now (allotments_by_turns script.now.operations script.now.stops script.now.turns)
         (record { init = S.init sequential.now; next = S.next sequential.now }))
         bench.new passes.new.items i }

@@ -1,15 +1,15 @@
 ghost use Rattle.std.specs.Prelude.{◌≡◌, ℕ, ◌<◌, length, vec_len, IfOk};
 ghost use Rattle.call_lines.specs.Allotments.{allotments_of};
 ghost use Rattle.row_table.specs.Callers.{shape_of, locals_on, IsBenchOf, HoldsAll};
+ghost use Rattle.call_phases.specs.Asking.{fits_own, own_count};
 ghost use Rattle.bench_clients.specs.Places.{AreInOrder};
 ghost use Rattle.bench_clients.specs.Starts.{course_of, AreRowsFor, IsUnused};
 ghost use Rattle.bench_clients.specs.Returns.{IsBackOn};
 ghost use Rattle.run_report.specs.Passes.{IsOwnPass, IsUnusedPass};
 ghost use Rattle.run_report.specs.Reporting.{IsReportOf, IsToldIn};
 
-use crate::judgements::{make_judgements, passes_are_fresh};
-use crate::report::read_replies;
-use bench_clients::run_all;
+use crate::asked::run_asked;
+use crate::judgements::passes_are_fresh;
 use book_base::{NoMemory, SeqObject};
 use call_phases::{OutsideObject, Shared};
 use client_scripts::Script;
@@ -50,8 +50,8 @@ where
     ensures bench { IsBenchOf ⟦<Outside as Program>⟧.meaning rows.now bench.new × HoldsAll bench.new }
     ensures all_passes { vec_len passes.new ≡ length script.now.operations }
     ensures back { (i : ℕ) → i < length script.now.operations → IsBackOn
-        (λ pass who. B.is_own object.now pass × (B.Pass.caller pass ≡ who)) B.Pass.made B.Pass.told
-        (course_of script.now (allotments_of script.now.operations script.now.stops)
+        ⟦<Outside as Program>⟧.meaning rows.now (fits_own (B.is_own object.now) B.Pass.caller)
+        (own_count B.Pass.made B.Pass.cap B.Pass.told) (course_of script.now (allotments_of script.now.operations script.now.stops)
         (record { init = S.init sequential.now; next = S.next sequential.now }))
         bench.new passes.new.items i }
     ensures passes { AreInOrder (IsOwnPass (B.is_own object.now) B.Pass.caller) passes.new.items }
@@ -62,11 +62,8 @@ where
     ensures told { IfOk result (λ report. AreInOrder (IsToldIn B.Pass.made B.Pass.told
         (allotments_of script.now.operations script.now.stops) report) passes.new.items) }
 {
-    passes_are_fresh(object, passes, script);
-    let endings = make_judgements(alloc, sequential, script.callers())?;
+    passes_are_fresh(rows, object, passes, script);
     let asks = OutsideObject { object };
     let shared = Shared { rows, asks: &asks };
-    let lines = run_all(rt, alloc, &shared, bench, passes, script, endings)?;
-    read_replies(&lines);
-    Ok(Report::of_lines(script.kind(), lines))
+    run_asked(rt, alloc, &shared, bench, sequential, passes, script)
 }

@@ -21,6 +21,6 @@ returns-clause-back g c =
     c.push-2.ensures.items ∙ ap (λ (b : Bool). if b then old ++ own ∷ [] else old) (ap is_ok c.unwrap-2.ensures) in
     let lines_put : lines_in c.push-2.new.self.items ≡ lines_in old ++ f.lines.items ∷ [] =
     ap (λ (all : List Own). lines_in all) own_put ∙ map-append (λ (o : Own). o.lines.items) old (own ∷ []) in
-    client_back _ _ _ _ _ _ _ _ _ c.args.client f c.back.new.bench _ _ _ _ c.requires.1.1.1.1.0 c.requires.1.1.1.1.1.0
+    client_back _ _ _ _ _ _ _ c.args.client f c.back.new.bench _ _ _ _ c.requires.1.1.1.1.0 c.requires.1.1.1.1.1.0
     c.finish-caller.ensures.caller c.finish-caller.ensures.pass c.finish-caller.ensures.ending c.finish-caller.ensures.wants_memory
-    c.finish-caller.ensures.made c.finish-caller.ensures.leaves c.back.ensures.here.0 pass_put lines_put
+    c.finish-caller.ensures.made c.finish-caller.ensures.asked c.finish-caller.ensures.leaves c.back.ensures.here.0 pass_put lines_put

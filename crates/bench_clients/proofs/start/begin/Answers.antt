@@ -1,5 +1,5 @@
-use Rattle.std.proofs.Common.{◌≡◌, ◌∙◌, sym, subst, ap, ℕ, ◌*◌, length, arith}
-use Rattle.std.specs.Prelude.{Some, None, slice_index_or}
+use Rattle.std.proofs.Common.{◌≡◌, ◌∙◌, sym, ap, ℕ, ◌*◌, length}
+use Rattle.std.specs.Prelude.{None, slice_index_or}
 use Rattle.row_table.specs.Callers.{who_of}
 use Rattle.call_lines.specs.Allotments.{phases_for, stop_at, operations_at}
 use Rattle.bench_clients.proofs.Starts.{fresh_start, phases_to_stop, phases_of_all}
@@ -20,5 +20,5 @@ returns g c =
           let calls : w.calls.result ≡ length (operations_at plan.operations who) = w.calls.ensures ∙ ap (λ (i : ℕ). length (operations_at plan.operations i)) c.who-who.ensures in
           w.allotment-is ∙ ap (λ (n : ℕ). 5 * n) calls ∙ sym (phases_of_all plan.stops who (length (operations_at plan.operations who)) (sym stop ∙ w.in-None.is))
     ] in
-    fresh_start _ _ _ _ _ _ _ _ _ plan c.args.caller c.args.pass _ _ c.match-stop.allotment asked.0 asked.1.1.0 asked.1.0 asked.1.1.1.0 asked.1.1.1.1.0 asked.1.1.1.1.1.0
-    c.who-who.ensures operations asked.1.1.1.1.1.1.0 asked.1.1.1.1.1.1.1 allotment
+    fresh_start _ _ _ _ _ _ _ plan c.args.caller c.args.pass _ _ c.match-stop.allotment asked.0 asked.1.1.0 asked.1.0 asked.1.1.1.0 asked.1.1.1.1.0 asked.1.1.1.1.1.0
+    asked.1.1.1.1.1.1.1.1 c.who-who.ensures operations asked.1.1.1.1.1.1.0 asked.1.1.1.1.1.1.1.0 allotment

@@ -1,8 +1,8 @@
-use Rattle.std.proofs.Common.{rules, ◌≡◌, ◌∙◌, sym, subst, ap, ℕ, ◌+◌, ◌-◌, ◌<◌, Bool, List, [], ◌∷◌, ◌++◌, length, arith}
+use Rattle.std.proofs.Common.{◌≡◌, ◌∙◌, sym, subst, ap, ℕ, ◌+◌, ◌-◌, Bool, [], ◌∷◌, ◌++◌, length, arith}
 use Rattle.std.specs.Prelude.{Some, Option, option_to_list, if◌then◌else◌}
 use Rattle.std.specs.Result.{is_ok}
 use Rattle.std.proofs.lemmas.List.Elements.{All-pop}
-use Rattle.row_table.specs.Callers.{on_bench, who_of}
+use Rattle.row_table.specs.Callers.{who_of}
 use Rattle.bench_clients.specs.Starts.{IsUnused, HoldsBelow, IsRoomFor, IsFreshPass, IsStart}
 use Rattle.bench_clients.proofs.Places.{one_more_down, one_less_in_order, last_in_order, one_longer}
 use Rattle.bench_clients.proofs.Starts.{fresh_from_bench, one_less_held}
@@ -48,10 +48,13 @@ begin-worker-requires g c κs within =
                     (
                       fresh_from_bench c.args.bench.now i c.part-caller.result unused (sym below.0 ∙ c.part-caller.ensures.local) (sym below.1 ∙ c.part-caller.ensures.stance),
                       (
-                        subst (λ (k : ℕ). IsFreshPass (g.A.Asks.is_own c.args.shared.now.asks.now) g.A.Asks.made g.A.Asks.room g.A.Asks.told c.args.script.now.operations k c.unwrap-pass.result) (sym who) free,
+                        subst (λ (k : ℕ). IsFreshPass c.args.shared.now.rows.now (g.A.Asks.fits c.args.shared.now.asks.now) g.A.Asks.count c.args.script.now.operations k c.unwrap-pass.result) (sym who) free,
                         (
                           subst (λ (k : ℕ). IsRoomFor c.args.script.now.operations k c.unwrap-own.result) (sym who) room,
-                          (All-pop (λ e. g.E.Ending.object e ≡ g.course.object) _ _ (Some c.unwrap-ending.result) ending_items inv.endings).1,
+                          (
+                            (All-pop (λ e. g.E.Ending.object e ≡ g.course.object) _ _ (Some c.unwrap-ending.result) ending_items inv.endings).1,
+                            omega (arith, who, inv.few, c.loop-left-test.true),
+                          ),
                         ),
                       ),
                     ),
@@ -82,7 +85,7 @@ loop-left-preserved g c =
     record {
       few = omega (arith, inv.few);
       bench = c.part-caller.ensures.bench;
-      held = one_less_held n i c.args.bench.now c.loop-left.bench c.part-caller.new.bench (subst (λ (m : ℕ). HoldsBelow n m c.args.bench.now c.loop-left.bench) left inv.held)
+      held = one_less_held n i c.args.bench.now c.loop-left.bench c.part-caller.new.bench (omega (arith, inv.few, left)) (subst (λ (m : ℕ). HoldsBelow n m c.args.bench.now c.loop-left.bench) left inv.held)
           c.part-caller.ensures.gone c.part-caller.ensures.others;
       all_passes = omega (arith, inv.all_passes, one_longer _ _ _ pass_items);
       passes_capacity = c.pop.ensures.capacity ∙ inv.passes_capacity;
@@ -94,6 +97,6 @@ loop-left-preserved g c =
       workers_count = omega (arith, inv.workers_count, one_longer _ _ _ put, left);
       workers_capacity = omega (arith, inv.workers_capacity, c.push.ensures.lower_bound);
       workers = one_more_down n _ _ _ i c.begin-worker.result put (omega (arith, inv.workers_count, left))
-          (subst (λ (k : ℕ). IsStart g.P.Program.meaning c.args.shared.now.rows.now g.E.Ending.says g.E.Ending.object (g.A.Asks.is_own c.args.shared.now.asks.now) g.A.Asks.made g.A.Asks.room g.A.Asks.told g.course k c.begin-worker.result) who c.begin-worker.ensures)
+          (subst (λ (k : ℕ). IsStart g.P.Program.meaning c.args.shared.now.rows.now g.E.Ending.says g.E.Ending.object (g.A.Asks.fits c.args.shared.now.asks.now) g.A.Asks.count g.course k c.begin-worker.result) who c.begin-worker.ensures)
           inv.workers;
     }

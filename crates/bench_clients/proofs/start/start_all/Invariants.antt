@@ -16,14 +16,14 @@ invariant-loop-left g l =
       held : HoldsBelow (length l.script.operations) l.left l.initial.bench l.bench;
       all_passes : vec_len l.passes ≡ l.left;
       passes_capacity : vec_capacity l.passes ≡ vec_capacity l.initial.passes;
-      passes : AreInOrder (IsFreshPass (g.A.Asks.is_own l.shared.asks.now) g.A.Asks.made g.A.Asks.room g.A.Asks.told l.script.operations) l.passes.items;
+      passes : AreInOrder (IsFreshPass l.shared.rows.now (g.A.Asks.fits l.shared.asks.now) g.A.Asks.count l.script.operations) l.passes.items;
       all_rooms : vec_len l.room ≡ l.left;
       rooms : AreInOrder (IsRoomFor l.script.operations) l.room.items;
       all_endings : vec_len l.endings ≡ l.left;
       endings : All (λ e. g.E.Ending.object e ≡ g.course.object) l.endings.items;
       workers_count : vec_len l.workers + l.left ≡ length l.script.operations;
       workers_capacity : length l.script.operations ≤ vec_capacity l.workers;
-      workers : AreDownFrom (length l.script.operations) (IsStart g.P.Program.meaning l.shared.rows.now g.E.Ending.says g.E.Ending.object (g.A.Asks.is_own l.shared.asks.now) g.A.Asks.made g.A.Asks.room g.A.Asks.told g.course) l.workers.items;
+      workers : AreDownFrom (length l.script.operations) (IsStart g.P.Program.meaning l.shared.rows.now g.E.Ending.says g.E.Ending.object (g.A.Asks.fits l.shared.asks.now) g.A.Asks.count g.course) l.workers.items;
     }
 
 abbrev pub decreases-loop-left : goal.decreases-loop-left

@@ -1,15 +1,22 @@
-use Rattle.std.proofs.Common.{◌≡◌, sym, subst, ap, ℕ, ◌+◌, ◌*◌, ◌<◌, List, length, arith}
+use Rattle.std.proofs.Common.{◌≡◌, refl, sym, subst, ap, ℕ, ◌+◌, ◌*◌, ◌<◌, List, length, arith}
+use Rattle.call_lines.specs.Phases.{Progress}
+use Rattle.row_table.specs.declared.caller.Caller.{Caller}
+use Rattle.row_table.specs.Callers.{shape_of, who_of, local_with}
+use Rattle.drv_wrapper.specs.States.{caller_announced, announced_local, caller_answered, caller_viewed}
+use Rattle.drv_wrapper.proofs.Locals.{local_has_phase}
+use Rattle.enforcer.specs.States.{caller_published}
+use Rattle.call_phases.specs.Asking.{FitsCaller}
 use Rattle.call_phases.specs.Ends.{Sequential}
-use Rattle.call_phases.specs.Endings.{HasEnded, IsNoted}
+use Rattle.call_phases.specs.Endings.{caller_ended, HasEnded, IsNoted}
 use Rattle.call_phases.specs.declared.stand.Stand.{Stand}
 use Rattle.call_phases.specs.declared.stand.Stand.TheVariants as at
-use Rattle.call_phases.specs.Stands.{phases_at}
-use Rattle.call_phases.specs.Course.{HasCome}
-use Rattle.call_phases.proofs.Standing.{come_at, asked_at, stands_before, phases_with, come_with, asked_with, kept_with}
-use Rattle.call_phases.proofs.Kept.{gathered_by_is, stays_kept, kept_at}
-use Rattle.call_phases.proofs.Coming.{announced_come, answered_come, viewed_come, published_come}
+use Rattle.call_phases.specs.Stands.{caller_at, phases_at}
+use Rattle.call_phases.specs.Course.{HasCome, Counts}
+use Rattle.call_phases.proofs.Standing.{come_at, counted_at, fits_at, fits_stays, stands_before, phases_with, come_with, counted_with, fits_with, kept_with}
+use Rattle.call_phases.proofs.Kept.{gathered_by_is, stays_kept, stand_noted, kept_at}
+use Rattle.call_phases.proofs.Coming.{none_yet, announced_come, answered_come, viewed_come, published_come}
 use Rattle.call_phases.proofs.Ends.{idle_announced, ended_come, phases_noted}
-use Rattle.call_phases.proofs.Told.{announced_asked, answered_asked, viewed_asked, published_asked, ended_asked}
+use Rattle.call_phases.proofs.Told.{announced_asked, answered_asked, viewed_asked, published_asked, ended_asked, counted_as, counted_after, call_left}
 use Rattle.call_phases.proofs.client.Client.advance.Goals as goal
 use Rattle.call_phases.proofs.client.Client.advance.Goals.{in-Idle, in-Announced, in-Answered, in-Viewed, in-Published, in_default}
 
@@ -81,12 +88,15 @@ returns-clause-course g c =
           subst (λ (z : Stand _). phases_at (length old.lines.items) z < 5 * length old.operations.now) w.in-Idle.is c.requires.left in
           come_with s _ h old w.stand-is w.sheet-is meaning rows says object
           (announced_come meaning rows (says (object old.ending)) stays old.who old.operations.now old.lines.items w.in-Idle.caller w.announce.result _ c.next_op-op.ensures
-          (come_at _ _ w.in-Idle.is c.requires.course) (omega (arith, left)) w.announce.ensures.caller w.announce.ensures.operation w.announce.ensures.progress w.announce.ensures.grows)
+          (come_at _ _ w.in-Idle.is c.requires.course) (omega (arith, left)) w.announce.ensures.caller w.announce.ensures.operation w.announce.ensures.progress w.announce.ensures.grows
+          (none_yet (local_with w.in-Idle.caller) (announced_local w.announce.result)
+          (local_has_phase (shape_of meaning rows) (who_of w.in-Idle.caller) (local_with w.in-Idle.caller) (come_at _ _ w.in-Idle.is c.requires.course).caller.seat.local)
+          (come_at _ _ w.in-Idle.is c.requires.course).may.idle.announcing (ap (λ (x : Progress). x.published) w.announce.ensures.progress) w.announce.ensures.announced.object_steps))
       | in-Announced w ↦
           let come = come_at _ _ w.in-Announced.is c.requires.course in
           come_with s _ h old w.stand-is w.sheet-is meaning rows says object
           (answered_come meaning rows (says (object old.ending)) stays old.who old.operations.now old.lines.items w.in-Announced.announced w.ask.result come
-          (w.ask.ensures.rows _ rows come.caller, w.ask.ensures.who) w.ask.ensures.operation w.ask.ensures.allowed w.ask.ensures.progress w.ask.ensures.grows)
+          (w.ask.ensures.rows rows c.requires.serves come.caller, w.ask.ensures.who) w.ask.ensures.operation w.ask.ensures.allowed w.ask.ensures.calls w.ask.ensures.grows)
       | in-Answered w ↦
           come_with s _ h old w.stand-is w.sheet-is meaning rows says object
           (viewed_come meaning rows (says (object old.ending)) stays old.who old.operations.now old.lines.items w.in-Answered.answered w.view.result (come_at _ _ w.in-Answered.is c.requires.course)
@@ -109,39 +119,93 @@ returns-clause-course g c =
       | in_default w ↦ come_with s self.stand h old w.stand-is w.sheet-is meaning rows says object c.requires.course
     ]
 
-pub returns-clause-asked : goal.returns-clause-asked
-returns-clause-asked g c =
+pub returns-clause-pass : goal.returns-clause-pass
+returns-clause-pass g c =
     let self = c.args.self in
     let old = self.sheet in
-    let made = g.A.Asks.made in
-    let told = g.A.Asks.told in
+    let meaning = g.P.Program.meaning in
+    let rows = c.args.shared.now.rows.now in
+    let fits = g.A.Asks.fits c.args.shared.now.asks.now in
+    let count = g.A.Asks.count in
     let s = c.match-stand.stand in
     let h = c.match-stand.sheet in
     let p = c.match-stand.pass in
-    elim c.match-stand.branch [
-      | in-Idle w ↦
-          asked_with s _ h old w.stand-is w.sheet-is p _ w.pass-is made told
-          (announced_asked _ _ _ _ _ _ _ _ w.in-Idle.caller w.announce.result _ (come_at _ _ w.in-Idle.is c.requires.course) w.announce.ensures.progress (asked_at _ _ w.in-Idle.is c.requires.asked))
-      | in-Announced w ↦
-          asked_with s _ h old w.stand-is w.sheet-is p _ w.pass-is made told
-          (answered_asked _ _ _ _ _ _ _ _ w.in-Announced.announced w.ask.result _ _ (come_at _ _ w.in-Announced.is c.requires.course)
-          w.ask.ensures.progress w.ask.ensures.operation w.ask.ensures.made w.ask.ensures.told (asked_at _ _ w.in-Announced.is c.requires.asked))
-      | in-Answered w ↦
-          asked_with s _ h old w.stand-is w.sheet-is p _ w.pass-is made told
-          (viewed_asked _ _ _ _ _ _ _ _ w.in-Answered.answered w.view.result (come_at _ _ w.in-Answered.is c.requires.course)
-          w.view.ensures.call.1 w.view.ensures.progress (asked_at _ _ w.in-Answered.is c.requires.asked))
-      | in-Viewed w ↦
-          asked_with s _ h old w.stand-is w.sheet-is p _ w.pass-is made told
-          (published_asked g.P.Program.meaning c.args.shared.now.rows.now (g.E.Ending.says (g.E.Ending.object old.ending)) old.who old.operations.now _ _ _ w.in-Viewed.viewed w.publish.result
-          w.publish.ensures.progress (asked_at _ _ w.in-Viewed.is c.requires.asked))
-      | in-Published w ↦
-          let sheet = w.end_call-stand.new.self in
-          let ends = w.end_call-stand.ensures.ends in
-          asked_with s _ h sheet w.stand-is w.sheet-is p _ w.pass-is made told
-          (ended_asked g.P.Program.meaning c.args.shared.now.rows.now _ old.who old.operations.now old.lines.items (made self.pass) (told self.pass)
-          w.in-Published.published ends.0 w.end_call-stand.result sheet.lines.items ends.1
-          (subst (λ (o : ℕ). IsNoted o old.lines.items ends.0 sheet.lines.items w.end_call-stand.result) c.next_op-op.ensures ends.2)
-          (phases_noted c.next_op-op.result old.lines.items w.in-Published.published ends.0 w.end_call-stand.result sheet.lines.items ends.2)
-          (asked_at _ _ w.in-Published.is c.requires.asked))
-      | in_default w ↦ asked_with s self.stand h old w.stand-is w.sheet-is p _ w.pass-is made told c.requires.asked
-    ]
+    record {
+      fits_caller = elim c.match-stand.branch [
+        | in-Idle w ↦
+            fits_with s _ h old w.stand-is w.sheet-is fits p _ w.pass-is
+            (fits_stays meaning rows fits _ w.in-Idle.caller (caller_announced w.announce.result) (come_at _ _ w.in-Idle.is c.requires.course).caller w.announce.ensures.caller
+            (ap (λ (x : Progress). x.steps) w.announce.ensures.progress) (fits_at fits _ _ _ w.in-Idle.is c.requires.pass.fits_caller))
+        | in-Announced w ↦ fits_with s _ h old w.stand-is w.sheet-is fits p _ w.pass-is w.ask.ensures.fits
+        | in-Answered w ↦
+            fits_with s _ h old w.stand-is w.sheet-is fits p _ w.pass-is
+            (fits_stays meaning rows fits _ (caller_answered w.in-Answered.answered) (caller_viewed w.view.result) (come_at _ _ w.in-Answered.is c.requires.course).caller w.view.ensures.caller
+            (ap (λ (x : Progress). x.steps) w.view.ensures.progress) (fits_at fits _ _ _ w.in-Answered.is c.requires.pass.fits_caller))
+        | in-Viewed w ↦
+            fits_with s _ h old w.stand-is w.sheet-is fits p _ w.pass-is
+            (fits_stays meaning rows fits _ (caller_viewed w.in-Viewed.viewed) (caller_published w.publish.result) (come_at _ _ w.in-Viewed.is c.requires.course).caller w.publish.ensures.caller
+            (ap (λ (x : Progress). x.steps) w.publish.ensures.progress) (fits_at fits _ _ _ w.in-Viewed.is c.requires.pass.fits_caller))
+        | in-Published w ↦
+            let sheet = w.end_call-stand.new.self in
+            let ends = w.end_call-stand.ensures.ends in
+            let at_end : caller_ended ends.0 ≡ caller_at w.end_call-stand.result = stand_noted c.next_op-op.result old.lines.items ends.0 sheet.lines.items w.end_call-stand.result ends.2 in
+            fits_with s _ h sheet w.stand-is w.sheet-is fits p _ w.pass-is
+            (subst (λ (d : Caller _). FitsCaller fits self.pass d) at_end
+            (fits_stays meaning rows fits self.pass (caller_published w.in-Published.published) (caller_ended ends.0) (come_at _ _ w.in-Published.is c.requires.course).caller ends.1.still
+            (ap (λ (x : Progress). x.steps) ends.1.progress) (fits_at fits self.pass _ _ w.in-Published.is c.requires.pass.fits_caller)))
+        | in_default w ↦ fits_with s self.stand h old w.stand-is w.sheet-is fits p _ w.pass-is c.requires.pass.fits_caller
+      ];
+      counts = elim c.match-stand.branch [
+        | in-Idle w ↦
+            counted_with s _ h old w.stand-is w.sheet-is p _ w.pass-is count
+            (counted_as old.operations.now (count self.pass) _ (at.Announced w.announce.result) _ _
+            (λ made told asked. announced_asked _ _ _ _ _ _ made told w.in-Idle.caller w.announce.result _ (come_at _ _ w.in-Idle.is c.requires.course) w.announce.ensures.progress asked)
+            (counted_at (count self.pass) old.operations.now old.lines.items _ _ w.in-Idle.is c.requires.pass.counts))
+        | in-Announced w ↦
+            counted_with s _ h old w.stand-is w.sheet-is p _ w.pass-is count
+            (counted_after old.operations.now (count self.pass) _ _ _ _ (at.Answered w.ask.result) _
+            (λ made told asked. answered_asked _ _ _ _ _ _ made told w.in-Announced.announced w.ask.result _ _ (come_at _ _ w.in-Announced.is c.requires.course)
+            w.ask.ensures.calls w.ask.ensures.operation refl refl asked)
+            w.ask.ensures.count (counted_at (count self.pass) old.operations.now old.lines.items _ _ w.in-Announced.is c.requires.pass.counts))
+        | in-Answered w ↦
+            counted_with s _ h old w.stand-is w.sheet-is p _ w.pass-is count
+            (counted_as old.operations.now (count self.pass) _ (at.Viewed w.view.result) _ _
+            (λ made told asked. viewed_asked _ _ _ _ _ _ made told w.in-Answered.answered w.view.result (come_at _ _ w.in-Answered.is c.requires.course)
+            w.view.ensures.call.1 w.view.ensures.progress asked)
+            (counted_at (count self.pass) old.operations.now old.lines.items _ _ w.in-Answered.is c.requires.pass.counts))
+        | in-Viewed w ↦
+            counted_with s _ h old w.stand-is w.sheet-is p _ w.pass-is count
+            (counted_as old.operations.now (count self.pass) _ (at.Published w.publish.result) _ _
+            (λ made told asked. published_asked meaning rows (g.E.Ending.says (g.E.Ending.object old.ending)) old.who old.operations.now _ made told w.in-Viewed.viewed w.publish.result
+            w.publish.ensures.progress asked)
+            (counted_at (count self.pass) old.operations.now old.lines.items _ _ w.in-Viewed.is c.requires.pass.counts))
+        | in-Published w ↦
+            let sheet = w.end_call-stand.new.self in
+            let ends = w.end_call-stand.ensures.ends in
+            counted_with s _ h sheet w.stand-is w.sheet-is p _ w.pass-is count
+            (subst (λ (ops : List ℕ). Counts (count self.pass) ops w.end_call-stand.result sheet.lines.items) (sym w.end_call-stand.ensures.same.1)
+            (counted_as old.operations.now (count self.pass) _ w.end_call-stand.result _ _
+            (λ made told asked. ended_asked meaning rows _ old.who old.operations.now old.lines.items made told
+            w.in-Published.published ends.0 w.end_call-stand.result sheet.lines.items ends.1
+            (subst (λ (o : ℕ). IsNoted o old.lines.items ends.0 sheet.lines.items w.end_call-stand.result) c.next_op-op.ensures ends.2)
+            (phases_noted c.next_op-op.result old.lines.items w.in-Published.published ends.0 w.end_call-stand.result sheet.lines.items ends.2)
+            asked)
+            (counted_at (count self.pass) old.operations.now old.lines.items _ _ w.in-Published.is c.requires.pass.counts)))
+        | in_default w ↦ counted_with s self.stand h old w.stand-is w.sheet-is p _ w.pass-is count c.requires.pass.counts
+      ];
+    }
+
+pub ask-requires-clause-table : goal.ask-requires-clause-table
+ask-requires-clause-table g c = (c.args.shared.now.rows.now, c.requires.serves, (come_at _ _ c.in-Announced.is c.requires.course).caller)
+
+pub ask-requires-clause-first : goal.ask-requires-clause-first
+ask-requires-clause-first g c = (come_at _ _ c.in-Announced.is c.requires.course).may.1
+
+pub ask-requires-clause-fits : goal.ask-requires-clause-fits
+ask-requires-clause-fits g c = fits_at (g.A.Asks.fits c.args.shared.now.asks.now) c.args.self.pass _ _ c.in-Announced.is c.requires.pass.fits_caller
+
+pub ask-requires-clause-left : goal.ask-requires-clause-left
+ask-requires-clause-left g c =
+    call_left c.args.self.sheet.operations.now _ c.in-Announced.announced c.args.self.sheet.lines.items
+    (subst (λ (s : Stand _). phases_at (length c.args.self.sheet.lines.items) s < 5 * length c.args.self.sheet.operations.now) c.in-Announced.is c.requires.left)
+    (counted_at _ c.args.self.sheet.operations.now c.args.self.sheet.lines.items _ _ c.in-Announced.is c.requires.pass.counts)

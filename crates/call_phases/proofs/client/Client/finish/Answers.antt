@@ -2,11 +2,12 @@ use Rattle.std.proofs.Common.{◌≡◌, ◌∙◌, sym, subst, ap, ℕ, Bool, �
 use Rattle.std.specs.Result.{is_ok}
 use Rattle.world_core.specs.Local.{Local}
 use Rattle.call_lines.specs.declared.line.Line.{Line}
-use Rattle.row_table.specs.Callers.{local_with}
+use Rattle.row_table.specs.Callers.{shape_of, local_with}
 use Rattle.call_phases.specs.declared.sheet.Sheet.{Sheet}
 use Rattle.call_phases.specs.Ends.{HasLeftAt}
 use Rattle.call_phases.specs.Stands.{phases_at}
-use Rattle.call_phases.specs.Finishing.{end_at}
+use Rattle.call_phases.specs.Finishing.{end_at, KeepsAsked}
+use Rattle.call_phases.proofs.Asked.{keeps_asked}
 use Rattle.call_phases.proofs.Leaving.{operation_left, noted_left, unnoted_left}
 use Rattle.call_phases.proofs.client.Client.finish.Goals as goal
 use Rattle.call_phases.proofs.client.Client.finish.Goals.{in-Some, in_default}
@@ -22,6 +23,12 @@ unwrap-requires g c =
     let left : length c.args.self.sheet.lines.items < length c.args.self.sheet.operations.now =
     operation_left _ _ _ _ _ _ c.args.self.stand c.in-Some.end c.requires.course (sym c.stop-caller.ensures.end ∙ c.in-Some.is) in
     c.push.ensures.succeeds (omega (arith, left, c.requires.room))
+
+pub returns-clause-asked : goal.returns-clause-asked
+returns-clause-asked g c =
+    let sheet = c.args.self.sheet in
+    subst (λ (l : Local). KeepsAsked (shape_of g.P.Program.meaning c.args._rows.now).program sheet.who (phases_at (length sheet.lines.items) c.args.self.stand) l) (sym c.stop-caller.ensures.caller.local)
+    (keeps_asked _ _ _ _ _ c.args.self.stand sheet.lines.items c.requires.course)
 
 pub returns-clause-leaves : goal.returns-clause-leaves
 returns-clause-leaves g c judged allotment spent =

@@ -1,7 +1,7 @@
 use Rattle.call_lines.specs.Allotments.{allotments_of}
 use Rattle.bench_clients.specs.Starts.{course_of}
 use Rattle.run_report.specs.Reporting.{first_object}
-use Rattle.run_report.proofs.run.run_over.Given as goal
+use Rattle.run_report.proofs.asked.run_asked.Given as goal
 
 abbrev pub ghost-make_judgements : goal.ghost-make_judgements
 ghost-make_judgements g a = record { init = g.S.SeqObject.init a.sequential.now; next = g.S.SeqObject.next a.sequential.now }

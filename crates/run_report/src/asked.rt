@@ -1,0 +1,69 @@
+ghost use Rattle.std.specs.Prelude.{◌≡◌, ℕ, ◌<◌, length, vec_len, IfOk};
+ghost use Rattle.call_lines.specs.Allotments.{allotments_of};
+ghost use Rattle.row_table.specs.Callers.{shape_of, locals_on, IsBenchOf, HoldsAll};
+ghost use Rattle.bench_clients.specs.Places.{AreInOrder};
+ghost use Rattle.bench_clients.specs.Starts.{course_of, AreRowsFor, IsUnused, IsFreshPass};
+ghost use Rattle.bench_clients.specs.Returns.{IsBackOn};
+ghost use Rattle.run_report.specs.Reporting.{IsReportOf, IsCountedIn};
+
+use crate::judgements::make_judgements;
+use crate::report::read_replies;
+use bench_clients::run_all;
+use book_base::{NoMemory, SeqObject};
+use call_phases::{Asks, Shared};
+use client_scripts::Script;
+use reports::Report;
+use row_table::Bench;
+use std::alloc::Global;
+use std::thread::Threads;
+use world_core::Program;
+
+/// Runs all callers of a script, each in a thread of its own where one can be had, whatever object they ask and
+/// wherever it is: each judges each of its calls by the sequential object. The answer is their report, which is
+/// lawful.
+///
+/// Whatever the answer, the bench holds all callers again, the passes are in their order, and each caller has made
+/// some first part of its phases: all of them where a report is answered, but for those behind an error. Want of
+/// memory is answered before the first call, or where a judgement wanted it.
+pub fn run_asked<
+    R: Threads + Sync,
+    P: Program + Send + Sync,
+    T: Send,
+    S: SeqObject + Sync,
+    A: Asks<Program = P, Pass = T> + Sync,
+>(
+    rt: &R,
+    alloc: Global,
+    shared: &Shared<A, P>,
+    bench: &mut Bench<P>,
+    sequential: &S,
+    passes: &mut Vec<T>,
+    script: &Script,
+) -> Result<Report, NoMemory>
+    requires serves { A.serves shared.now.asks.now shared.now.rows.now }
+    requires rows { AreRowsFor script.now shared.now.rows.now }
+    requires bench { IsBenchOf P.meaning shared.now.rows.now bench.old }
+    requires unused { (i : ℕ) → i < length script.now.operations → IsUnused bench.old i }
+    requires all_passes { vec_len passes.old ≡ length script.now.operations }
+    requires passes { AreInOrder (IsFreshPass shared.now.rows.now (A.fits shared.now.asks.now) A.count
+        script.now.operations) passes.old.items }
+    // For every answer.
+    ensures bench { IsBenchOf P.meaning shared.now.rows.now bench.new × HoldsAll bench.new }
+    ensures all_passes { vec_len passes.new ≡ length script.now.operations }
+    ensures back { (i : ℕ) → i < length script.now.operations → IsBackOn P.meaning shared.now.rows.now
+        (A.fits shared.now.asks.now) A.count
+        (course_of script.now (allotments_of script.now.operations script.now.stops)
+        (record { init = S.init sequential.now; next = S.next sequential.now }))
+        bench.new passes.new.items i }
+    // Where a report is answered.
+    ensures report { IfOk result (λ report. IsReportOf (S.init sequential.now) (S.next sequential.now)
+        (shape_of P.meaning shared.now.rows.now) (locals_on bench.new) script.now
+        (allotments_of script.now.operations script.now.stops) report) }
+    ensures counted { IfOk result (λ report. AreInOrder (IsCountedIn A.count
+        (allotments_of script.now.operations script.now.stops) report) passes.new.items) }
+{
+    let endings = make_judgements(alloc, sequential, script.callers())?;
+    let lines = run_all(rt, alloc, shared, bench, passes, script, endings)?;
+    read_replies(&lines);
+    Ok(Report::of_lines(script.kind(), lines))
+}
