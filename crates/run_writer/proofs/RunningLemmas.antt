@@ -1,7 +1,7 @@
 -- A bench has one report, and that has each form.
 use Rattle.std.proofs.Common.{◌≡◌, sym, ap, subst, List, Option, ℕ}
 use Rattle.std.specs.List.{list_any}
-use Rattle.world_core.specs.Shape.{Shape}
+use Rattle.world_core.specs.Shape.{Meaning, Shape}
 use Rattle.world_core.specs.Local.{Local}
 use Rattle.call_lines.specs.declared.line.Line.{Line}
 use Rattle.call_lines.specs.Lines.{any_error}
@@ -10,7 +10,9 @@ use Rattle.seq_objects.specs.declared.kind.Kind.{Kind}
 use Rattle.seq_objects.specs.Objects.{kind_init, kind_next}
 use Rattle.client_scripts.specs.Plans.{Plan}
 use Rattle.reports.specs.Findings.{Findings}
+use Rattle.row_table.specs.declared.rows.Rows.{Rows}
 use Rattle.row_table.specs.declared.bench.Bench.{Bench}
+use Rattle.call_phases.specs.Asking.{fits_own, own_count}
 use Rattle.bench_clients.specs.Returns.{IsBackOn}
 use Rattle.bench_clients.specs.Starts.{course_of}
 use Rattle.run_report.specs.Reporting.{IsReportOf}
@@ -42,9 +44,9 @@ module _ (s : Shape) (locals : List Local) (plan : Plan) (allotments : List ℕ)
       (lawful_reports_have_an_order (kind_init plan.kind) (kind_next plan.kind) s plan.operations allotments f.lines is.lawful)
 
 -- a caller is back on the bench whatever object judges
-pub back_by_kind : {P T : Type 0} (is_own : T → Type 0) (caller made : T → ℕ) (told : T → Option (List (ℕ × ℕ))) (plan : Plan) (allotments : List ℕ) (bench : Bench P) (passes : List T) (i : ℕ)
-    (kind : Kind) → kind ≡ plan.kind
-    → IsBackOn (λ pass who. is_own pass × (caller pass ≡ who)) made told (course_of plan allotments (record { init = kind_init kind; next = kind_next kind })) bench passes i
-    → IsBackOf is_own caller made told plan allotments bench passes i
-back_by_kind is_own caller made told plan allotments bench passes i kind same back =
-    subst (λ (k : Kind). IsBackOn (λ pass who. is_own pass × (caller pass ≡ who)) made told (course_of plan allotments (record { init = kind_init k; next = kind_next k })) bench passes i) same back
+pub back_by_kind : {P T : Type 0} (meaning : P → ℕ → ℕ → Meaning) (rows : Rows P) (is_own : T → Type 0) (caller made cap : T → ℕ) (told : T → Option (List (ℕ × ℕ))) (plan : Plan) (allotments : List ℕ) (bench : Bench P)
+    (passes : List T) (i : ℕ) (kind : Kind) → kind ≡ plan.kind
+    → IsBackOn meaning rows (fits_own is_own caller) (own_count made cap told) (course_of plan allotments (record { init = kind_init kind; next = kind_next kind })) bench passes i
+    → IsBackOf meaning rows is_own caller made cap told plan allotments bench passes i
+back_by_kind meaning rows is_own caller made cap told plan allotments bench passes i kind same back =
+    subst (λ (k : Kind). IsBackOn meaning rows (fits_own is_own caller) (own_count made cap told) (course_of plan allotments (record { init = kind_init k; next = kind_next k })) bench passes i) same back

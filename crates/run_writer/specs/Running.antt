@@ -9,6 +9,7 @@ use Rattle.row_table.specs.Callers.{shape_of, locals_on}
 use Rattle.client_scripts.specs.Plans.{Plan}
 use Rattle.reports.specs.Findings.{Findings}
 use Rattle.bench_clients.specs.Places.{AreInOrder}
+use Rattle.call_phases.specs.Asking.{fits_own, own_count}
 use Rattle.bench_clients.specs.Returns.{IsBackOn}
 use Rattle.bench_clients.specs.Starts.{course_of}
 use Rattle.run_report.specs.Reporting.{IsReportOf, IsToldIn}
@@ -35,6 +36,7 @@ pub record IsToldBenchReport {P T : Type 0} (meaning : P → ℕ → ℕ → Mea
 
 -- Caller i of a plan is back on the bench with its own pass, in its place among these: it has made so many first phases of its
 -- allotment, and the object was asked for just the calls of these, and tells of them where it tells any.
-abbrev pub IsBackOf : {P T : Type 0} → (T → Type 0) → (T → ℕ) → (T → ℕ) → (T → Option (List (ℕ × ℕ))) → Plan → List ℕ → Bench P → List T → ℕ → Type 0
-IsBackOf is_own caller made told plan allotments bench passes i =
-    IsBackOn (λ pass who. is_own pass × (caller pass ≡ who)) made told (course_of plan allotments (record { init = kind_init plan.kind; next = kind_next plan.kind })) bench passes i
+abbrev pub IsBackOf : {P T : Type 0} → (P → ℕ → ℕ → Meaning) → Rows P → (T → Type 0) → (T → ℕ) → (T → ℕ) → (T → ℕ) → (T → Option (List (ℕ × ℕ))) → Plan → List ℕ → Bench P → List T → ℕ → Type 0
+IsBackOf meaning rows is_own caller made cap told plan allotments bench passes i =
+    IsBackOn meaning rows (fits_own is_own caller) (own_count made cap told)
+    (course_of plan allotments (record { init = kind_init plan.kind; next = kind_next plan.kind })) bench passes i

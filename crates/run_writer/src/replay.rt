@@ -50,7 +50,8 @@ pub fn replay_and_write<B: BlackBox, K: Sink>(
     ensures all_passes { vec_len passes.new ≡ length script.now.operations }
     ensures passes { AreInOrder (IsOwnPass (B.is_own object.now) B.Pass.caller) passes.new.items }
     ensures back { (i : ℕ) → i < length script.now.operations
-        → IsBackOf (B.is_own object.now) B.Pass.caller B.Pass.made B.Pass.told script.now
+        → IsBackOf ⟦<Outside as Program>⟧.meaning rows.now (B.is_own object.now)
+        B.Pass.caller B.Pass.made B.Pass.cap B.Pass.told script.now
         (replay_allotments script.now) bench.new passes.new.items i }
 
     // The headline: what was written, by the status, is of a lawful report of the locals on the bench.

@@ -19,61 +19,8 @@ use Rattle.run_report.proofs.Reported.{reported, fits, told_of}
 use Rattle.run_report.proofs.asked.run_asked.Goals as goal
 
 pub run_all-requires : goal.run_all-requires
-run_all-requires g c κs within = (
-  search rules,
-  (
-    search rules,
-    (
-      search rules,
-      (
-        search rules,
-        (
-          search rules,
-          (
-            search rules,
-            (
-              search (sendable, c.type_bounds.send-B-Pass),
-              (
-                search (sendable, judging_send, c.type_bounds.sync-S),
-                (
-                  search rules,
-                  (
-                    search rules,
-                    (
-                      search (rules, c.type_bounds),
-                      (
-                        refl,
-                        (
-                          c.requires.rows,
-                          (
-                            c.requires.bench,
-                            (
-                              c.requires.unused,
-                              (
-                                c.requires.all_passes,
-                                (
-                                  c.requires.passes,
-                                  (
-                                    omega (arith, c.in_ok-endings.ensures.all, c.callers.ensures.count),
-                                    all_by_first _ _ _ c.in_ok-endings.ensures.each,
-                                  ),
-                                ),
-                              ),
-                            ),
-                          ),
-                        ),
-                      ),
-                    ),
-                  ),
-                ),
-              ),
-            ),
-          ),
-        ),
-      ),
-    ),
-  ),
-)
+run_all-requires g c κs within =
+    (search rules, (search rules, (search rules, (search rules, (search rules, (search (rules, c.type_bounds), (search (sendable, c.type_bounds.send-T), (search (sendable, judging_send, c.type_bounds.sync-S), (search (rules, c.type_bounds), (search (rules, c.type_bounds), (search (rules, c.type_bounds), (refl, (c.requires.serves, (record { callers = omega (arith, c.requires.rows.callers); cap = c.requires.rows.cap }, (c.requires.bench, (c.requires.unused, (c.requires.all_passes, (c.requires.passes, (omega (arith, c.in_ok-endings.ensures.all, c.callers.ensures.count), all_by_first _ _ _ c.in_ok-endings.ensures.each)))))))))))))))))))
 
 pub returns-in_err-endings-clause-bench : goal.returns-in_err-endings-clause-bench
 returns-in_err-endings-clause-bench g c =

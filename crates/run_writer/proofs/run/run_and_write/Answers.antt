@@ -21,7 +21,7 @@ returns-in-Ok-clause-fine g c report is none =
     c.write_report.ensures.fine (one_report _ _ _ _ _ _ _ _ (by_its_kind _ _ _ _ _ _ c.kind-kind.ensures c.in-Ok.ensures.report) is ∙ none)
 
 pub returns-in-Ok-clause-back : goal.returns-in-Ok-clause-back
-returns-in-Ok-clause-back g c i low = back_by_kind _ _ _ _ c.args.script.now _ _ _ _ _ c.kind-kind.ensures (c.in-Ok.ensures.back i low)
+returns-in-Ok-clause-back g c i low = back_by_kind _ _ _ _ _ _ _ c.args.script.now _ _ _ _ _ c.kind-kind.ensures (c.in-Ok.ensures.back i low)
 
 pub returns-in-Err-clause-back : goal.returns-in-Err-clause-back
-returns-in-Err-clause-back g c i low = back_by_kind _ _ _ _ c.args.script.now _ _ _ _ _ c.kind-kind.ensures (c.in-Err.ensures.back i low)
+returns-in-Err-clause-back g c i low = back_by_kind _ _ _ _ _ _ _ c.args.script.now _ _ _ _ _ c.kind-kind.ensures (c.in-Err.ensures.back i low)
