@@ -24,7 +24,7 @@ pub record IsAsked (s : Shape) (l : Local) : Type 0 where
   pub has_steps : l.published < length l.object_steps
   pub replies : length l.replies ≡ l.published
 
-asked : (s : Shape) (w : World) (i : ℕ) → Kept s w → i < s.callers → is_asking (local_of w i).phase ≡ true → IsAsked s (local_of w i)
+pub asked : (s : Shape) (w : World) (i : ℕ) → Kept s w → i < s.callers → is_asking (local_of w i).phase ≡ true → IsAsked s (local_of w i)
 asked s w i kept low asking =
     let l : Local = local_of w i in
     let h = (kept.agree i low).phase in

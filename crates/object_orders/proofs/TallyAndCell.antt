@@ -7,8 +7,11 @@ use Rattle.seq_objects.specs.Objects.{kind_init, kind_next}
 use Rattle.seq_objects.specs.Words.{is_operation_of, argument_of}
 use Rattle.seq_objects.specs.Words as words
 use Rattle.seq_objects.specs.Replies.{reply_done, reply_value}
-use Rattle.seq_objects.specs.CounterSteps.{counter_after-inc, counter_after-other}
-use Rattle.seq_objects.specs.RegisterSteps.{register_after-write, register_after-read, register_after-other}
+use Rattle.seq_objects.specs.CounterSteps.{counter_operation, counter_after, counter_after-inc, counter_after-other}
+use Rattle.seq_objects.specs.RegisterSteps.{register_operation, register_after, register_after-write, register_after-read, register_after-other}
+use Rattle.world_core.specs.World.{Step, IsRun}
+use Rattle.world_core.specs.History.{IsLinearizable, history_of}
+use Rattle.object_orders.specs.OneWord.{one_word_shape}
 use Rattle.object_orders.specs.TallyAndCell.{tally, count_in, cell, value_in, TallyServesCounter, CellServesRegister, TalliesLinearize, CellsLinearize}
 use Rattle.object_orders.proofs.OneWords.{one_words_linearize}
 
@@ -35,6 +38,12 @@ tally_serves_counter = record { first = refl; step = counts; no_step = counts_no
 pub tallies_linearize : TalliesLinearize
 tallies_linearize n cap steps run =
     one_words_linearize tally count_in (kind_init Counter) (kind_next Counter) tally_serves_counter n cap steps run
+
+-- the law by what the counter does, as its sequential object has it
+pub tallies_linearize_counters : (n cap : ℕ) (steps : List Step) → IsRun (one_word_shape n cap tally) steps
+    → IsLinearizable (0 ∷ []) (λ list op. counter_after list (counter_operation op)) (history_of (one_word_shape n cap tally) steps)
+unfolding kind_next
+tallies_linearize_counters n cap steps run = tallies_linearize n cap steps run
 
 -- an operation that makes a step and is no write is a read
 holds_value : (operation x : ℕ) → cell.makes_step operation ≡ true → kind_next Register (value_in x) operation ≡ (value_in (cell.leaves operation x), cell.replies operation x)
@@ -66,3 +75,9 @@ cell_serves_register = record { first = refl; step = holds_value; no_step = hold
 pub cells_linearize : CellsLinearize
 cells_linearize n cap steps run =
     one_words_linearize cell value_in (kind_init Register) (kind_next Register) cell_serves_register n cap steps run
+
+-- the law by what the register does, as its sequential object has it
+pub cells_linearize_registers : (n cap : ℕ) (steps : List Step) → IsRun (one_word_shape n cap cell) steps
+    → IsLinearizable (0 ∷ []) (λ list op. register_after list (register_operation op)) (history_of (one_word_shape n cap cell) steps)
+unfolding kind_next
+cells_linearize_registers n cap steps run = cells_linearize n cap steps run

@@ -1,0 +1,3 @@
+pub mod OneWordCalls
+pub mod RegisterWords
+pub mod Passes

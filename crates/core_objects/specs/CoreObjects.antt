@@ -1,0 +1,35 @@
+-- Objects inside the world: the worlds of their programs, and what asking one of them leaves.
+use Rattle.std.specs.Prelude.{◌≡◌, ℕ, List, [], Some, length, slice_get, slice_set}
+use Rattle.world_core.specs.Shape.{Shape, Meaning}
+use Rattle.world_core.specs.Local.{Local, Object_step}
+use Rattle.row_table.specs.declared.rows.Rows.{Rows}
+use Rattle.row_table.specs.Callers.{IsStill, MayGet}
+use Rattle.drv_wrapper.specs.declared.announced.Announced.{Announced}
+use Rattle.drv_wrapper.specs.States.{caller_announced, announced_local, op_announced}
+
+-- The shape of a world of n callers and a cap, by what its program means.
+abbrev pub shape_with : (ℕ → ℕ → Meaning) → ℕ → ℕ → Shape
+shape_with meaning n cap = record { callers = n; cap = cap; program = meaning n cap }
+
+-- A local in which the call under way has these object steps.
+abbrev pub with_steps : Local → List Object_step → Local
+with_steps l steps = record l { object_steps = slice_set l.object_steps l.published steps }
+
+-- There is one pass for each of n callers, in order, and each fits its caller, this n and this cap, and no object steps.
+pub record ArePassesFor {A : Type 0} (fits : A → ℕ → ℕ → ℕ → List Object_step → Type 0) (n cap : ℕ) (passes : List A) : Type 0 where
+  pub count : length passes ≡ n
+  pub fit : (i : ℕ) (pass : A) → slice_get passes i ≡ Some pass → fits pass i n cap []
+
+module _ {P : Type 0} where
+  -- The rows were opened with this program.
+  pub record AreOpenedWith (meaning : P → ℕ → ℕ → Meaning) (program : P) (r : Rows P) : Type 0 where
+    pub program_is : r.program ≡ program
+    pub objects : r.objects ≡ (meaning program r.callers r.cap).objects
+
+  -- The announced call b is a after some object steps of its caller, and no other event, and its program now allows it this reply.
+  pub record HasReplied (meaning : P → ℕ → ℕ → Meaning) (r : Rows P) (a b : Announced P) (reply : ℕ) : Type 0 where
+    pub steps : List Object_step
+    pub still : IsStill meaning r (caller_announced a) (caller_announced b)
+    pub operation : op_announced b ≡ op_announced a
+    pub local : announced_local b ≡ with_steps (announced_local a) steps
+    pub allowed : MayGet meaning (caller_announced b) reply

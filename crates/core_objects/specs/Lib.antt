@@ -1,0 +1,2 @@
+pub mod CoreObjects
+pub mod OneWordPasses

@@ -1,0 +1,125 @@
+ghost use Rattle.std.specs.Prelude.{◌≡◌, ◌≤◌, [], ◌++◌, IfOk};
+ghost use Rattle.book_base.specs.declared.TheConstants.{MAX_CALLERS, MAX_CALLS};
+ghost use Rattle.world_core.specs.CallSteps.{steps_now, all_steps_of};
+ghost use Rattle.row_table.specs.Callers.{IsCallerOf};
+ghost use Rattle.drv_wrapper.specs.States.{who_announced, caller_announced, announced_local};
+ghost use Rattle.core_objects.specs.CoreObjects.{AreOpenedWith, HasReplied, ArePassesFor};
+ghost use Rattle.core_objects.specs.OneWordPasses.{FitsOneWord};
+
+use crate::core_object::CoreObject;
+use crate::one_word_pass::{OneWordPass, passes_for};
+use book_base::{BAD, MAX_CALLERS, MAX_CALLS, NoMemory, OpWord, SeqObject};
+use drv_wrapper::Announced;
+use row_table::Rows;
+use seq_objects::{DONE, Register, value_reply};
+use std::alloc::Global;
+use world_core::{InWorld, Program};
+
+/// The operation word of the write of 0, and that of the read.
+const WRITE_0: OpWord = 1 << 32;
+
+const READ: OpWord = 2 << 32;
+
+/// The program of the cell: a write makes one store of its value into the one object word, a read makes one load,
+/// and nothing else makes a step.
+#[derive(Clone, Copy, Debug, PartialEq, Eq)]
+pub struct CellProgram;
+
+impl Program for CellProgram {
+    ghost use Rattle.object_orders.specs.OneWord.{one_word_program};
+    ghost use Rattle.object_orders.specs.TallyAndCell.{cell};
+
+    ghost meaning = { λ program n cap. one_word_program cell };
+
+    fn object_words(&self, _n: u32, _cap: u64) -> u64 {
+        1
+    }
+}
+
+impl InWorld for CellProgram {}
+
+/// What one caller holds to ask the cell.
+pub type CoreCellPass = OneWordPass;
+
+/// A register inside the world.
+#[derive(Drop)]
+pub struct CoreCell {
+    register: Register,
+}
+
+impl CoreCell {
+    /// The cell, and a pass for each of `n` callers with `cap` calls each, in order.
+    pub fn open(alloc: Global, n: u32, cap: u64) -> Result<(CoreCell, Vec<CoreCellPass>), NoMemory>
+        requires some_callers { 1 ≤ n }
+        requires few_callers { n ≤ MAX_CALLERS }
+        requires some_calls { 1 ≤ cap }
+        requires few_calls { cap ≤ MAX_CALLS }
+        ensures passes { IfOk result (λ r. ArePassesFor FitsOneWord n cap r.1.items) }
+    {
+        let passes = passes_for(alloc, n, cap)?;
+        Ok((CoreCell { register: Register }, passes))
+    }
+
+    // The reply to a call, by the step that it makes.
+    fn keep(&self, rows: &Rows<CellProgram>, announced: &mut Announced<CellProgram>) -> u64
+        requires program { AreOpenedWith ⟦<CellProgram as Program>⟧.meaning (record {}) rows.now }
+        requires caller { IsCallerOf ⟦<CellProgram as Program>⟧.meaning rows.now (caller_announced announced.old) }
+        requires first { steps_now (announced_local announced.old) ≡ [] }
+        ensures { HasReplied ⟦<CellProgram as Program>⟧.meaning rows.now announced.old announced.new result }
+    {
+        let op = announced.op();
+        if op == READ {
+            let found = announced.object_load(rows, 0);
+            return value_reply(found);
+        }
+        if !self.register.known(op) {
+            return BAD;
+        }
+        announced.object_store(rows, 0, (op - WRITE_0) as u64);
+        DONE
+    }
+}
+
+impl CoreObject for CoreCell {
+    ghost use Rattle.object_orders.proofs.TallyAndCell.{cells_linearize_registers};
+    ghost use Rattle.core_objects.specs.OneWordPasses.{FitsOneWord};
+
+    type S = Register;
+
+    type P = CellProgram;
+
+    type Pass = CoreCellPass;
+
+    ghost sequential_of = { λ object. object.register };
+
+    ghost program_of = { λ object. record {} };
+
+    ghost fits = { FitsOneWord };
+
+    ghost linearizes = { λ object n cap steps run. cells_linearize_registers n cap steps run };
+
+    fn sequential(&self) -> &Register {
+        &self.register
+    }
+
+    fn program(&self) -> CellProgram {
+        CellProgram
+    }
+
+    fn reply(
+        &self,
+        rows: &Rows<CellProgram>,
+        announced: &mut Announced<CellProgram>,
+        pass: &mut CoreCellPass,
+    ) -> u64
+        requires program { AreOpenedWith ⟦<CellProgram as Program>⟧.meaning (record {}) rows.now }
+        requires caller { IsCallerOf ⟦<CellProgram as Program>⟧.meaning rows.now (caller_announced announced.old) }
+        requires first { steps_now (announced_local announced.old) ≡ [] }
+        requires fits { FitsOneWord pass.old (who_announced announced.old) rows.now.callers rows.now.cap (all_steps_of (announced_local announced.old)) }
+        ensures made { (made : HasReplied ⟦<CellProgram as Program>⟧.meaning rows.now announced.old announced.new result)
+            × FitsOneWord pass.new (who_announced announced.old) rows.now.callers rows.now.cap (all_steps_of (announced_local announced.old) ++ made.steps) }
+    {
+        let _pass = &*pass;
+        self.keep(rows, announced)
+    }
+}

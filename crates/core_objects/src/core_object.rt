@@ -1,0 +1,94 @@
+ghost use Rattle.std.specs.Prelude.{◌≡◌, ℕ, List, [], ◌++◌};
+ghost use Rattle.world_core.specs.Local.{Object_step};
+ghost use Rattle.world_core.specs.CallSteps.{steps_now, all_steps_of};
+ghost use Rattle.world_core.specs.World.{Step, IsRun};
+ghost use Rattle.world_core.specs.History.{IsLinearizable, history_of};
+ghost use Rattle.row_table.specs.Callers.{IsCallerOf, IsStill, MayGet};
+ghost use Rattle.drv_wrapper.specs.States.{who_announced, caller_announced, announced_local, op_announced, op_answered, reply_answered, caller_answered, answered_local};
+ghost use Rattle.core_objects.specs.CoreObjects.{shape_with, with_steps, AreOpenedWith, HasReplied};
+
+use book_base::SeqObject;
+use drv_wrapper::{Announced, Answered};
+use row_table::Rows;
+use world_core::InWorld;
+
+/// An object inside the world: its callers make its steps on object words of the table, as its program allows,
+/// each in the midst of an announced call of its own.
+///
+/// The object history of every run of its program is linearizable for its sequential object, whatever the
+/// callers and the cap (Herlihy and Wing 1990).
+pub trait CoreObject {
+    /// The sequential object whose replies it gives.
+    type S: SeqObject;
+
+    /// The program that says which steps its callers make.
+    type P: InWorld;
+
+    /// What one caller holds to ask it.
+    type Pass;
+
+    /// The sequential object of this one.
+    ghost sequential_of: { Self → Self.S };
+
+    /// The program of this one, with which the rows are opened.
+    ghost program_of: { Self → Self.P };
+
+    /// The pass is that of a caller, for `n` callers and a cap, and knows what these object steps of all its
+    /// calls tell.
+    ghost fits: { Self.Pass → ℕ → ℕ → ℕ → List Object_step → Type 0 };
+
+    /// The sequential object.
+    fn sequential(&self) -> &Self::S
+        ensures { result.now ≡ sequential_of self.now };
+
+    /// The program.
+    fn program(&self) -> Self::P
+        ensures { result ≡ program_of self.now };
+
+    /// Makes the announced call, by object steps of its caller, and answers the reply that the program then
+    /// allows. It takes no memory.
+    fn reply(
+        &self,
+        rows: &Rows<Self::P>,
+        announced: &mut Announced<Self::P>,
+        pass: &mut Self::Pass,
+    ) -> u64
+        requires program { AreOpenedWith Self.P.meaning (program_of self.now) rows.now }
+        requires caller { IsCallerOf Self.P.meaning rows.now (caller_announced announced.old) }
+        requires first { steps_now (announced_local announced.old) ≡ [] }
+        requires fits { fits pass.old (who_announced announced.old) rows.now.callers rows.now.cap (all_steps_of (announced_local announced.old)) }
+        ensures made { (made : HasReplied Self.P.meaning rows.now announced.old announced.new result)
+            × fits pass.new (who_announced announced.old) rows.now.callers rows.now.cap (all_steps_of (announced_local announced.old) ++ made.steps) };
+
+    /// Makes the announced call, which has no object step yet, and keeps its reply. It takes no memory.
+    final fn ask(
+        &self,
+        rows: &Rows<Self::P>,
+        announced: Announced<Self::P>,
+        pass: &mut Self::Pass,
+    ) -> Answered<Self::P>
+        requires program { AreOpenedWith Self.P.meaning (program_of self.now) rows.now }
+        requires caller { IsCallerOf Self.P.meaning rows.now (caller_announced announced) }
+        requires first { steps_now (announced_local announced) ≡ [] }
+        requires fits { fits pass.old (who_announced announced) rows.now.callers rows.now.cap (all_steps_of (announced_local announced)) }
+        ensures caller { IsStill Self.P.meaning rows.now (caller_announced announced) (caller_answered result) }
+        ensures operation { op_answered result ≡ op_announced announced }
+        ensures allowed { MayGet Self.P.meaning (caller_answered result) (reply_answered result) }
+        ensures made { (steps : List Object_step) × (answered_local result ≡ with_steps (announced_local announced) steps)
+            × fits pass.new (who_announced announced) rows.now.callers rows.now.cap (all_steps_of (announced_local announced) ++ steps) }
+    {
+        let mut announced = announced;
+        let reply = self.reply(rows, &mut announced, pass);
+        announced.answer(reply)
+    }
+
+    /// The object history of every run of its program is linearizable for its sequential object.
+    ghost linearizes: { (object : Self) (n cap : ℕ) (steps : List Step) → IsRun (shape_with (Self.P.meaning (program_of object)) n cap) steps
+        → IsLinearizable (Self.S.init (sequential_of object)) (Self.S.next (sequential_of object)) (history_of (shape_with (Self.P.meaning (program_of object)) n cap) steps) };
+}
+
+/// The object history of every run of a core object's program is linearizable for its sequential object.
+pub fn runs_of<O: CoreObject>(_object: &O)
+    ensures { (n cap : ℕ) (steps : List Step) → IsRun (shape_with (O.P.meaning (O.program_of _object.now)) n cap) steps
+        → IsLinearizable (O.S.init (O.sequential_of _object.now)) (O.S.next (O.sequential_of _object.now)) (history_of (shape_with (O.P.meaning (O.program_of _object.now)) n cap) steps) }
+{}

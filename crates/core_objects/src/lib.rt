@@ -1,0 +1,12 @@
+//! Objects inside the world: their steps are events on object words of the table, and every run of them is linearizable.
+#![tactic(auto)]
+
+mod cell;
+mod core_object;
+mod one_word_pass;
+mod tally;
+
+pub use cell::{CellProgram, CoreCell, CoreCellPass};
+pub use core_object::{CoreObject, runs_of};
+pub use one_word_pass::OneWordPass;
+pub use tally::{CoreTally, CoreTallyPass, TallyProgram};

@@ -1,0 +1,128 @@
+ghost use Rattle.std.specs.Prelude.{◌≡◌, ◌≤◌, [], ◌++◌, IfOk};
+ghost use Rattle.book_base.specs.declared.TheConstants.{MAX_CALLERS, MAX_CALLS};
+ghost use Rattle.seq_objects.specs.Words.{is_operation_of};
+ghost use Rattle.seq_objects.specs.Words as words;
+ghost use Rattle.world_core.specs.CallSteps.{steps_now, all_steps_of};
+ghost use Rattle.row_table.specs.Callers.{IsCallerOf};
+ghost use Rattle.drv_wrapper.specs.States.{who_announced, caller_announced, announced_local};
+ghost use Rattle.core_objects.specs.CoreObjects.{AreOpenedWith, HasReplied, ArePassesFor};
+ghost use Rattle.core_objects.specs.OneWordPasses.{FitsOneWord};
+
+use crate::core_object::CoreObject;
+use crate::one_word_pass::{OneWordPass, passes_for};
+use book_base::{BAD, MAX_CALLERS, MAX_CALLS, NoMemory, OpWord, SeqObject};
+use drv_wrapper::Announced;
+use row_table::Rows;
+use seq_objects::{Counter, value_reply};
+use std::alloc::Global;
+use world_core::{InWorld, Program};
+
+/// The program of the tally: an increment makes one addition of 1 on the one object word, and nothing else makes
+/// a step.
+#[derive(Clone, Copy, Debug, PartialEq, Eq)]
+pub struct TallyProgram;
+
+impl Program for TallyProgram {
+    ghost use Rattle.object_orders.specs.OneWord.{one_word_program};
+    ghost use Rattle.object_orders.specs.TallyAndCell.{tally};
+
+    ghost meaning = { λ program n cap. one_word_program tally };
+
+    fn object_words(&self, _n: u32, _cap: u64) -> u64 {
+        1
+    }
+}
+
+impl InWorld for TallyProgram {}
+
+/// What one caller holds to ask the tally.
+pub type CoreTallyPass = OneWordPass;
+
+/// A counter inside the world.
+#[derive(Drop)]
+pub struct CoreTally {
+    counter: Counter,
+}
+
+impl CoreTally {
+    /// The tally, and a pass for each of `n` callers with `cap` calls each, in order.
+    pub fn open(
+        alloc: Global,
+        n: u32,
+        cap: u64,
+    ) -> Result<(CoreTally, Vec<CoreTallyPass>), NoMemory>
+        requires some_callers { 1 ≤ n }
+        requires few_callers { n ≤ MAX_CALLERS }
+        requires some_calls { 1 ≤ cap }
+        requires few_calls { cap ≤ MAX_CALLS }
+        ensures passes { IfOk result (λ r. ArePassesFor FitsOneWord n cap r.1.items) }
+    {
+        let passes = passes_for(alloc, n, cap)?;
+        Ok((CoreTally { counter: Counter }, passes))
+    }
+
+    // Whether a call of this operation makes a step.
+    fn makes_step(&self, op: OpWord) -> bool
+        ensures { result ≡ is_operation_of op words.inc }
+    {
+        self.counter.known(op)
+    }
+
+    // The reply to a call, by the step that it makes.
+    fn count(&self, rows: &Rows<TallyProgram>, announced: &mut Announced<TallyProgram>) -> u64
+        requires program { AreOpenedWith ⟦<TallyProgram as Program>⟧.meaning (record {}) rows.now }
+        requires caller { IsCallerOf ⟦<TallyProgram as Program>⟧.meaning rows.now (caller_announced announced.old) }
+        requires first { steps_now (announced_local announced.old) ≡ [] }
+        ensures { HasReplied ⟦<TallyProgram as Program>⟧.meaning rows.now announced.old announced.new result }
+    {
+        if !self.makes_step(announced.op()) {
+            return BAD;
+        }
+        let found = announced.object_add(rows, 0, 1);
+        value_reply(found)
+    }
+}
+
+impl CoreObject for CoreTally {
+    ghost use Rattle.object_orders.proofs.TallyAndCell.{tallies_linearize_counters};
+    ghost use Rattle.core_objects.specs.OneWordPasses.{FitsOneWord};
+
+    type S = Counter;
+
+    type P = TallyProgram;
+
+    type Pass = CoreTallyPass;
+
+    ghost sequential_of = { λ object. object.counter };
+
+    ghost program_of = { λ object. record {} };
+
+    ghost fits = { FitsOneWord };
+
+    ghost linearizes = { λ object n cap steps run. tallies_linearize_counters n cap steps run };
+
+    fn sequential(&self) -> &Counter {
+        &self.counter
+    }
+
+    fn program(&self) -> TallyProgram {
+        TallyProgram
+    }
+
+    fn reply(
+        &self,
+        rows: &Rows<TallyProgram>,
+        announced: &mut Announced<TallyProgram>,
+        pass: &mut CoreTallyPass,
+    ) -> u64
+        requires program { AreOpenedWith ⟦<TallyProgram as Program>⟧.meaning (record {}) rows.now }
+        requires caller { IsCallerOf ⟦<TallyProgram as Program>⟧.meaning rows.now (caller_announced announced.old) }
+        requires first { steps_now (announced_local announced.old) ≡ [] }
+        requires fits { FitsOneWord pass.old (who_announced announced.old) rows.now.callers rows.now.cap (all_steps_of (announced_local announced.old)) }
+        ensures made { (made : HasReplied ⟦<TallyProgram as Program>⟧.meaning rows.now announced.old announced.new result)
+            × FitsOneWord pass.new (who_announced announced.old) rows.now.callers rows.now.cap (all_steps_of (announced_local announced.old) ++ made.steps) }
+    {
+        let _pass = &*pass;
+        self.count(rows, announced)
+    }
+}
