@@ -16,25 +16,29 @@ pub enum Behaviour {
     Onepass,
 }
 
+/// All behaviours.
+const BEHAVIOURS: &[Behaviour] = &[
+    Behaviour::Lawful,
+    Behaviour::Tally,
+    Behaviour::Cell,
+    Behaviour::Lossy,
+    Behaviour::Twice,
+    Behaviour::Late,
+    Behaviour::Invent,
+    Behaviour::Split,
+    Behaviour::Onepass,
+];
+
 impl Behaviour {
     /// The behaviour with this name.
-    #[tactic(auto, unfolding(crate::specs::Names::behaviour_name))]
     pub fn from_name(name: &[u8]) -> Option<Behaviour>
         ensures found { IfSome result (λ b. behaviour_name b ≡ name.now) }
         ensures none { IfNone result ((b : Behaviour) → behaviour_name b ≢ name.now) }
     {
-        match name {
-            b"lawful" => Some(Behaviour::Lawful),
-            b"tally" => Some(Behaviour::Tally),
-            b"cell" => Some(Behaviour::Cell),
-            b"lossy" => Some(Behaviour::Lossy),
-            b"twice" => Some(Behaviour::Twice),
-            b"late" => Some(Behaviour::Late),
-            b"invent" => Some(Behaviour::Invent),
-            b"split" => Some(Behaviour::Split),
-            b"onepass" => Some(Behaviour::Onepass),
-            _ => None,
-        }
+        BEHAVIOURS
+            .iter()
+            .find(|behaviour| behaviour.name().as_bytes() == name)
+            .copied()
     }
 
     /// The name.
