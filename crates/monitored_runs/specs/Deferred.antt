@@ -1,0 +1,33 @@
+-- What clients leave that judge no call, and the book of all their lines.
+use Rattle.std.specs.Prelude.{◌≡◌, ℕ, ◌<◌, List, length, map}
+use Rattle.world_core.specs.Local.{Local}
+use Rattle.world_core.specs.Calls.{page_with, calls_in, book_in, local_at}
+use Rattle.call_lines.specs.declared.line.Line.{Line}
+use Rattle.call_lines.specs.Lines.{made_of, book_of_lines, lines_at}
+use Rattle.call_lines.specs.Phases.{HasMade}
+use Rattle.call_phases.specs.Ends.{Sequential, SaysDeferred, HasLeftAt}
+
+-- A caller's lines have the operation of each of its calls, and the record where the call has one.
+abbrev pub HavePage : List Line → Local → Type 0
+HavePage own l = page_with (map made_of own) ≡ page_with (calls_in l)
+
+-- A client made all phases of its allotment, whatever it met, and its lines have its page.
+pub record HasDeferred (operations : List ℕ) (allotment p : ℕ) (l : Local) (own : List Line) : Type 0 where
+  pub page : HavePage own l
+  pub all : p ≡ allotment
+  pub made : HasMade operations allotment l
+
+-- So does each client whose calls end without a judgement.
+abbrev pub DeferringClientsMakeAll : Type 0
+DeferringClientsMakeAll =
+    (object : Sequential) (n : ℕ) (operations : List ℕ) (allotment p : ℕ) (l : Local) (own : List Line)
+    → HasLeftAt (SaysDeferred object) n operations allotment p l own → HasDeferred operations allotment p l own
+
+-- The lines of each caller have its page. A monitor has no line and no call.
+pub record HavePages (locals : List Local) (lines : List (List Line)) : Type 0 where
+  pub as_many : length lines ≡ length locals
+  pub pages : (i : ℕ) → i < length lines → HavePage (lines_at lines i) (local_at locals i)
+
+-- The book of such lines is that of the callers.
+abbrev pub LinesAreTheBook : Type 0
+LinesAreTheBook = (locals : List Local) (lines : List (List Line)) → HavePages locals lines → book_of_lines lines ≡ book_in locals

@@ -1,0 +1,25 @@
+//! Laws of runs whose callers judge nothing. Each is the contract of a function with nothing in it.
+
+ghost use Rattle.monitored_runs.specs.Deferred.{DeferringClientsMakeAll, LinesAreTheBook};
+ghost use Rattle.monitored_runs.specs.Published.{PublishedRecordsAreInTheBook, AnswersAreExact};
+
+/// A client that judges no call makes all phases of its allotment, and its lines have all its calls and
+/// records.
+pub fn deferring_clients_make_all()
+    ensures { DeferringClientsMakeAll }
+{}
+
+/// Lines that have the calls and the records of all callers have their book.
+pub fn lines_are_the_book()
+    ensures { LinesAreTheBook }
+{}
+
+/// The counts of published records are a cut of the book of all calls.
+pub fn published_records_are_in_the_book()
+    ensures { PublishedRecordsAreInTheBook }
+{}
+
+/// A judgement of all published records answers no witness exactly where their book has a legal order.
+pub fn answers_are_exact()
+    ensures { AnswersAreExact }
+{}

@@ -1,0 +1,30 @@
+ghost use Rattle.std.specs.Prelude.{◌≡◌, length, IfOk};
+ghost use Rattle.book_base.specs.Cut.{IsWithin};
+ghost use Rattle.book_base.specs.Book.{answered};
+ghost use Rattle.monitored_runs.specs.Published.{IsJudgedAt};
+
+use book_base::{Book, Cut, NoMemory, SeqObject};
+use frontier_check::{Verdict, check};
+use monitor::Witness;
+use std::alloc::Global;
+
+/// Judges the book at a cut: the witness, where it has no legal order.
+pub fn judge_at<S: SeqObject>(
+    alloc: Global,
+    object: &S,
+    book: &Book,
+    cut: &Cut,
+) -> Result<Option<Witness>, NoMemory>
+    requires wide { length cut.now ≡ length book.now }
+    requires within { IsWithin cut.now (answered book.now) }
+    ensures { IfOk result (IsJudgedAt (S.init object.now) (S.next object.now) book.now cut.now) }
+{
+    let part = book.at(alloc, cut)?;
+    match check(alloc, object, &part)? {
+        Verdict::Legal(_) => Ok(None),
+        Verdict::Illegal => Ok(Some(Witness {
+            cut: *cut,
+            book: part,
+        })),
+    }
+}
