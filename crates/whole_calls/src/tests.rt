@@ -1,69 +1,71 @@
-use super::*;
-use book_base::Place;
-use seq_objects::DONE;
+use crate::two_calls::calls_on;
+use crate::{End, Found, Turns};
+use book_base::NoMemory;
+use drv_wrapper::{Announced, Answered, Viewed};
+use row_table::Rows;
+use seq_objects::Kind;
+use std::alloc::Global;
 use std::marker::Brand;
 use std::sync::ledger::Blank;
 use std::test::Fail;
+use std::thread::Threads;
+use world_core::{Program, Scrap};
 
-const ENQUEUE_5: u128 = 4294967301;
-
-const DEQUEUE: u128 = 8589934592;
-
-const VALUE_5: u64 = 8589934597;
-
-// The place of the first call of a caller.
-fn place(caller: u32, reply: u64) -> Place {
-    Place {
-        caller,
-        number: 0,
-        reply,
-    }
+// What two callers found who enqueue and dequeue at the log object of a kind. Each call checks itself against a queue.
+fn found_on<R: Threads>(
+    rt: &R,
+    alloc: Global,
+    object: Kind,
+    turns: Turns,
+) -> Result<(Found, Found), NoMemory> {
+    let (first, second) = (Blank::new(1), Blank::new(1));
+    let (found, _, _) = calls_on::<Brand, Brand, R>(rt, alloc, object, first, second, turns)?;
+    Ok(found)
 }
 
-#[test]
-fn calls_on_a_queue_are_delivered(rt: HostRuntime) -> Result<(), Fail> {
-    let ((first, second), made, log) = queue_calls::<Brand, Brand, _>(
-        &rt,
-        rt.alloc(),
-        Blank::new(1),
-        Blank::new(1),
-        Turns::EnqueueFirst,
-    )?;
-    assert!(rt; first.is_delivered());
-    assert!(rt; second.is_delivered());
-    assert_eq!(rt;
-        (first.reply, first.view, first.seen),
-        (DONE, (1, 0), (1, 0))
-    );
-    assert_eq!(rt;
-        (second.reply, second.view, second.seen),
-        (VALUE_5, (1, 1), (1, 1))
-    );
-    if let End::Delivered(order) = second.end {
-        assert_eq!(rt;
-            order.as_slice(),
-            [place(0, DONE), place(1, VALUE_5)].as_slice()
-        );
-    }
-    assert_eq!(rt; made, (1, 1));
-    assert_eq!(rt; log.len(), 2);
-    assert_eq!(rt; (log[0].caller, log[0].op), (0, ENQUEUE_5));
-    assert_eq!(rt; (log[1].caller, log[1].op), (1, DEQUEUE));
-    Ok(())
+// Whether the call was found wrong, and its caller is halted.
+fn is_illegal(found: &Found) -> bool {
+    !found.live && matches!(found.end, End::Illegal)
 }
 
 #[test]
 fn calls_in_two_threads_are_delivered(rt: HostRuntime) -> Result<(), Fail> {
-    let ((first, second), made, log) = queue_calls::<Brand, Brand, _>(
-        &rt,
-        rt.alloc(),
-        Blank::new(1),
-        Blank::new(1),
-        Turns::Beside,
-    )?;
+    let (first, second) = found_on(&rt, rt.alloc(), Kind::Queue, Turns::Beside)?;
     assert!(rt; first.is_delivered() && second.is_delivered());
-    assert_eq!(rt; (first.seen.0, second.seen.1), (1, 1));
-    assert_eq!(rt; made, (1, 1));
-    assert_eq!(rt; log.len(), 2);
     Ok(())
+}
+
+// A counter knows neither operation, and replies that it doesn't.
+#[test]
+fn calls_of_what_is_no_queue_are_illegal(rt: HostRuntime) -> Result<(), Fail> {
+    let (first, second) = found_on(&rt, rt.alloc(), Kind::Counter, Turns::EnqueueFirst)?;
+    assert!(rt; is_illegal(&first) && is_illegal(&second));
+    Ok(())
+}
+
+// The object word of the largest table that has one, when it is closed. The largest table without one is opened by each run.
+fn object_word(alloc: Global) -> Result<u64, NoMemory> {
+    let (rows, bench) = Rows::open(alloc, Scrap, 16, 256)?;
+    let world = rows.close(alloc, bench)?;
+    Ok(world.word(208_928))
+}
+
+#[test]
+fn the_largest_table_with_an_object_word(rt: HostRuntime) -> Result<(), Fail> {
+    assert_eq!(rt; object_word(rt.alloc())?, 0);
+    Ok(())
+}
+
+// What is handed to another thread.
+fn send<T: Send>(_value: &T) {}
+
+// A caller may go on with its call on another thread, in whichever state the call is.
+fn _send_each<P: Program + Send>(
+    announced: &Announced<P>,
+    answered: &Answered<P>,
+    viewed: &Viewed<P>,
+) {
+    send(announced);
+    send(answered);
+    send(viewed);
 }

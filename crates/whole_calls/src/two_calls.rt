@@ -306,12 +306,25 @@ pub fn queue_calls<K: Ledger + Send, L: Ledger + Send, R: Threads>(
     requires first { (first.name ≡ K.name) × (first.parts ≡ K.parts) × (0 < first.parts) }
     requires second { (second.name ≡ L.name) × (second.parts ≡ L.parts) × (0 < second.parts) }
 {
-    let queue = Plain {
-        object: Kind::Queue,
-    };
+    calls_on::<K, L, R>(rt, alloc, Kind::Queue, first, second, turns)
+}
+
+// The same over the log object of any kind, whose replies may be none that a queue gives.
+pub(crate) fn calls_on<K: Ledger + Send, L: Ledger + Send, R: Threads>(
+    rt: &R,
+    alloc: Global,
+    object: Kind,
+    first: Blank,
+    second: Blank,
+    turns: Turns,
+) -> Result<Calls, NoMemory>
+    requires first { (first.name ≡ K.name) × (first.parts ≡ K.parts) × (0 < first.parts) }
+    requires second { (second.name ≡ L.name) × (second.parts ≡ L.parts) × (0 < second.parts) }
+{
+    let machine = Plain { object };
     let (guide_a, guide_b) = (Guide::new(alloc)?, Guide::new(alloc)?);
     let (rows, bench, a, b) = open_rows(alloc)?;
-    let (object, passes) = match LogBox::open(alloc, queue, 2, 4) {
+    let (object, passes) = match LogBox::open(alloc, machine, 2, 4) {
         Ok(opened) => opened,
         Err(failed) => {
             close_rows(alloc, rows, bench, a, b)?;

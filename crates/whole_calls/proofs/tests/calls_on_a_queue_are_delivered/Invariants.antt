@@ -1,7 +1,0 @@
-use Rattle.whole_calls.proofs.tests.calls_on_a_queue_are_delivered.Given as goal
-
-abbrev pub ghosts-queue_calls-K-Ledger : goal.ghosts-queue_calls-K-Ledger
-ghosts-queue_calls-K-Ledger g a = record { name = a.first.name; parts = a.first.parts }
-
-abbrev pub ghosts-queue_calls-L-Ledger : goal.ghosts-queue_calls-L-Ledger
-ghosts-queue_calls-L-Ledger g a = record { name = a.second.name; parts = a.second.parts }
