@@ -1,9 +1,5 @@
-//! Whole runs of scripts, over lawful and faulty objects: tests across the crates.
+//! Tests of whole runs over a meeting of two callers, which tells whether their calls overlapped.
 #![tactic(auto)]
 
 #[cfg(test)]
 mod meetings;
-#[cfg(test)]
-mod tests;
-#[cfg(test)]
-mod written;

@@ -1,18 +1,20 @@
-//! Runs over a meeting of two callers, which tells whether their calls overlapped.
-ghost use Rattle.std.specs.Prelude.{◌≡◌, length, vec_len, IfOk};
+//! Runs and replays over a meeting of two callers.
+ghost use Rattle.std.specs.Prelude.{◌≡◌, length, vec_len};
+ghost use Rattle.bench_clients.specs.Places.{AreInOrder};
+ghost use Rattle.run_report.specs.Passes.{IsUnusedPass};
 
-use crate::tests::{Course, run};
-use crate::written::written;
 use book_base::{MAX_CALLS, NoMemory};
 use byte_streams::{MemorySink, Status};
 use client_scripts::{Script, read_script};
+use drv_wrapper::{BlackBox, ObjectPass};
 use faulty_objects::Meeting;
-use report_writer::report_text;
-use reports::Report;
-use run_writer::Form;
+use named_runs::{replay_fresh, run_fresh};
+use row_table::Rows;
+use run_writer::{Form, run_and_write};
 use std::alloc::Global;
 use std::test::Fail;
 use std::thread::Threads;
+use world_core::Outside;
 
 // Each of two callers enqueues 1. By turns, the first one is through before the second one begins.
 const TWO_CALLS: &[u8] =
@@ -25,55 +27,85 @@ const MET: [&[u8]; 3] = [
     b"report 2\nobject queue\ncallers 2\ncalls 1 1\n0 0 enq 1 done view 0:1 1:1 ok seen 0:1 1:1\n1 0 enq 1 done view 0:1 1:1 ok seen 1:1\nend\n",
 ];
 
-// Runs a script of two callers over a meeting of them.
+// The report and its witness where the first caller was through before the second one began.
+const MISSED: &str =
+    "report 2\nobject queue\ncallers 2\ncalls 1 1\n0 0 enq 1 bad view 0:1 error seen 0:1\n1 0 enq 1 done view 0:1 1:1 error seen 0:1 1:1\nend\nbook 2\nobject queue\ncallers 2\ncalls 1 0\n0 0 enq 1 bad view 0:1\nend\n";
+
+// What is written of two callers of a script who go on side by side.
 fn run_meeting<R: Threads + Sync>(
     rt: &R,
     alloc: Global,
     script: &Script,
-    course: Course,
-) -> Result<Report, NoMemory>
+    sink: &mut MemorySink,
+) -> Result<Status, NoMemory>
     requires { length script.now.operations ≡ 2 }
 {
     let (object, mut passes) = Meeting::open(alloc, script.callers(), MAX_CALLS)?;
-    run(rt, alloc, script, &object, &mut passes, course)
+    let status = run_fresh(rt, alloc, script, &object, &mut passes, Form::Report, sink);
+    Ok(status)
 }
 
-// What is written of a run of a script of two callers over a meeting of them.
-fn written_meeting<R: Threads + Sync>(
+// What is written of two callers of a script who take turns.
+fn replay_meeting(alloc: Global, script: &Script, sink: &mut MemorySink) -> Result<Status, NoMemory>
+    requires { length script.now.operations ≡ 2 }
+{
+    let (object, mut passes) = Meeting::open(alloc, script.callers(), MAX_CALLS)?;
+    let status = replay_fresh(alloc, script, &object, &mut passes, Form::Report, sink);
+    Ok(status)
+}
+
+// The count words of a table of two callers: both of N, and both of M.
+type CountWords = (u64, u64, u64, u64);
+
+// Runs a script of two callers over an object in a table of its own: the table's count words afterwards.
+fn run_in_rows<R: Threads + Sync, B: BlackBox + Sync>(
     rt: &R,
     alloc: Global,
     script: &Script,
-    form: Form,
-) -> Result<(Status, MemorySink), NoMemory>
+    object: &B,
+    passes: &mut Vec<B::Pass>,
+    sink: &mut MemorySink,
+) -> Result<(Status, CountWords), NoMemory>
+where
+    B::Pass: Send,
+    requires two { length script.now.operations ≡ 2 }
+    requires all_passes { vec_len passes.old ≡ length script.now.operations }
+    requires passes { AreInOrder (IsUnusedPass (B.is_own object.now) B.Pass.caller B.Pass.made
+        B.Pass.cap script.now.operations) passes.old.items }
+{
+    let (rows, mut bench) = Rows::open(alloc, Outside, script.callers(), MAX_CALLS)?;
+    let form = Form::Report;
+    let status = run_and_write(
+        rt, alloc, &rows, &mut bench, object, passes, script, form, sink,
+    );
+    let world = rows.close(alloc, bench)?;
+    Ok((
+        status,
+        (world.word(0), world.word(1), world.word(2), world.word(3)),
+    ))
+}
+
+// The same for two callers who meet.
+fn meet_in_rows<R: Threads + Sync>(
+    rt: &R,
+    alloc: Global,
+    script: &Script,
+    sink: &mut MemorySink,
+) -> Result<(Status, CountWords), NoMemory>
     requires { length script.now.operations ≡ 2 }
 {
     let (object, mut passes) = Meeting::open(alloc, script.callers(), MAX_CALLS)?;
-    written(rt, alloc, script, &object, &mut passes, form)
+    run_in_rows(rt, alloc, script, &object, &mut passes, sink)
 }
 
 #[test]
 fn callers_in_threads_meet(rt: HostRuntime) -> Result<(), Fail> {
     let script = read_script(rt.alloc(), TWO_CALLS)?;
     assert_eq!(rt; script.callers(), 2);
-    let report = run_meeting(&rt, rt.alloc(), &script, Course::Beside)?;
-    let text = report_text(rt.alloc(), &report)?;
-    assert!(rt; MET.contains(&text.as_slice()));
-    Ok(())
-}
-
-#[test]
-fn callers_in_threads_meet_where_their_run_is_written(rt: HostRuntime) -> Result<(), Fail> {
-    let script = read_script(rt.alloc(), TWO_CALLS)?;
-    assert_eq!(rt; script.callers(), 2);
-    let (status, sink) = written_meeting(&rt, rt.alloc(), &script, Form::Report)?;
+    let mut sink = MemorySink::new(rt.alloc(), 1_000, Vec::new(rt.alloc()), 1_000)?;
+    let status = run_meeting(&rt, rt.alloc(), &script, &mut sink)?;
     assert_eq!(rt; status, Status::Fine);
     assert!(rt; MET.contains(&sink.bytes()));
-    let (status, sink) = written_meeting(&rt, rt.alloc(), &script, Form::Counts)?;
-    assert_eq!(rt; status, Status::Fine);
-    assert_eq!(rt;
-        str::from_utf8(sink.bytes()),
-        Ok("calls 2 delivered 2 errors 0\n")
-    );
     Ok(())
 }
 
@@ -81,13 +113,21 @@ fn callers_in_threads_meet_where_their_run_is_written(rt: HostRuntime) -> Result
 fn callers_one_after_the_other_do_not_meet(rt: HostRuntime) -> Result<(), Fail> {
     let script = read_script(rt.alloc(), TWO_CALLS)?;
     assert_eq!(rt; script.callers(), 2);
-    let report = run_meeting(&rt, rt.alloc(), &script, Course::ByTurns)?;
-    let text = report_text(rt.alloc(), &report)?;
-    assert_eq!(rt;
-        str::from_utf8(&text),
-        Ok(
-            "report 2\nobject queue\ncallers 2\ncalls 1 1\n0 0 enq 1 bad view 0:1 error seen 0:1\n1 0 enq 1 done view 0:1 1:1 error seen 0:1 1:1\nend\n"
-        )
-    );
+    let mut sink = MemorySink::new(rt.alloc(), 1_000, Vec::new(rt.alloc()), 1_000)?;
+    let status = replay_meeting(rt.alloc(), &script, &mut sink)?;
+    assert_eq!(rt; status, Status::Found);
+    assert_eq!(rt; str::from_utf8(sink.bytes()), Ok(MISSED));
+    Ok(())
+}
+
+#[test]
+fn callers_who_met_have_counted_both_rows_of_each(rt: HostRuntime) -> Result<(), Fail> {
+    let script = read_script(rt.alloc(), TWO_CALLS)?;
+    assert_eq!(rt; script.callers(), 2);
+    let mut sink = MemorySink::new(rt.alloc(), 1_000, Vec::new(rt.alloc()), 1_000)?;
+    let (status, counts) = meet_in_rows(&rt, rt.alloc(), &script, &mut sink)?;
+    assert_eq!(rt; status, Status::Fine);
+    assert!(rt; MET.contains(&sink.bytes()));
+    assert_eq!(rt; counts, (1, 1, 1, 1));
     Ok(())
 }

@@ -1,13 +1,11 @@
-use Rattle.std.proofs.Common.{◌≡◌, arith}
-use Rattle.faulty_objects.specs.Passes.{IsMeetingPass, IsFreshPass}
-use Rattle.whole_runs.proofs.Passes.{few_operations, unused, as_many}
+use Rattle.std.proofs.Common.{arith}
+use Rattle.named_runs.proofs.OpenedPasses.{passes_count, opened_passes}
 use Rattle.whole_runs.proofs.meetings.run_meeting.Goals as goal
 
-pub run-requires-clause-all_passes : goal.run-requires-clause-all_passes
-run-requires-clause-all_passes g c κs within = omega (arith, as_many (IsMeetingPass c.in_ok-object.object) _ _ _ c.in_ok-object.ensures.callers, c.callers.ensures.count)
+pub run_fresh-status-requires-clause-all_passes : goal.run_fresh-status-requires-clause-all_passes
+run_fresh-status-requires-clause-all_passes g c κs within = omega (arith, passes_count _ _ _ c.in_ok-object.ensures.callers, c.callers.ensures.count)
 
-pub run-requires-clause-passes : goal.run-requires-clause-passes
-run-requires-clause-passes g c κs within =
-    unused (IsMeetingPass c.in_ok-object.object) _ _ _ (IsFreshPass 256) 256 _ c.args.script.now.operations _ (λ pass new. (new.made, new.cap))
-    (few_operations 256 c.args.script.now.operations c.callers.ensures.plan.calls)
-    c.in_ok-object.ensures.callers c.in_ok-object.ensures.own c.in_ok-object.ensures.fresh
+pub run_fresh-status-requires-clause-passes : goal.run_fresh-status-requires-clause-passes
+run_fresh-status-requires-clause-passes g c κs within =
+    opened_passes _ _ _ _ _ _ c.args.script.now c.in_ok-object.ensures.callers c.in_ok-object.ensures.own
+    (λ k d low. let new = c.in_ok-object.ensures.fresh k d low in (new.made, new.cap)) c.callers.ensures.plan
