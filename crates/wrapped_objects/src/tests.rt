@@ -3,17 +3,20 @@ ghost use Rattle.std.specs.Prelude.{ℕ};
 use crate::bounded_queue::BoundedQueue;
 use crate::twin_queues::TwinQueues;
 use crate::{CellCounter, CellRegister, CountingPass, TornCounter};
-use book_base::NoMemory;
+use book_base::{NoMemory, OpWord};
 use byte_streams::{MemorySink, Status};
 use client_scripts::{Script, make_script, read_script};
-use drv_wrapper::BlackBox;
+use drv_wrapper::{BlackBox, ObjectPass};
 use named_runs::{replay_fresh, run_fresh};
 use run_writer::Form;
-use seq_objects::Kind;
+use seq_objects::{Kind, value_reply};
 use std::alloc::Global;
 use std::sync::Wait;
 use std::test::Fail;
-use std::thread::Threads;
+use std::thread::{Threads, join_mut};
+
+const TWO_CALLS: &[u8] =
+    b"script 2\nobject queue\ncallers 2\ncalls 1 1\n0 0 enq 5\n1 0 deq\nturns 0 0 0 0 0 1 1 1 1 1\nend\n";
 
 // How a run of a script over an object ends, with each caller in a thread of its own.
 fn run<R: Threads + Sync, B: BlackBox<Pass = CountingPass> + Sync>(
@@ -38,82 +41,48 @@ fn run<R: Threads + Sync, B: BlackBox<Pass = CountingPass> + Sync>(
     Ok(status)
 }
 
-// How a replay of a script's turns over an object ends, and what it writes.
-fn replay<B: BlackBox<Pass = CountingPass>>(
-    alloc: Global,
-    script: &Script,
-    object: &B,
-) -> Result<(Status, MemorySink), NoMemory>
-    requires { (pass : CountingPass) → B.is_own object.now pass }
-{
-    let mut passes = CountingPass::for_script(alloc, script)?;
-    let mut sink = MemorySink::new(alloc, 1_000, Vec::new(alloc), 1_000)?;
-    let status = replay_fresh(alloc, script, object, &mut passes, Form::Report, &mut sink);
-    Ok((status, sink))
+fn run_register<R: Threads + Sync>(rt: &R, alloc: Global) -> Result<Status, NoMemory> {
+    let script = make_script(alloc, 7, 4, 16, Kind::Register)?;
+    run(rt, alloc, &script, &CellRegister::default())
 }
 
-// How many of so many runs over a torn counter are caught.
-fn torn_runs_caught<R: Threads + Sync>(
-    rt: &R,
-    alloc: Global,
-    script: &Script,
-    runs: u32,
-) -> Result<u32, NoMemory> {
-    let mut caught = 0;
-    for _ in 0..runs {
-        if run(rt, alloc, script, &TornCounter::default())? == Status::Found {
-            caught += 1;
-        }
-    }
-    Ok(caught)
+fn run_counter<R: Threads + Sync>(rt: &R, alloc: Global) -> Result<Status, NoMemory> {
+    let script = make_script(alloc, 7, 4, 16, Kind::Counter)?;
+    run(rt, alloc, &script, &CellCounter::default())
 }
 
-fn run_queue<R: Threads + Wait + Sync + Copy>(
-    rt: &R,
-    alloc: Global,
-    script: &Script,
-) -> Result<Status, NoMemory> {
-    run(rt, alloc, script, &BoundedQueue::new(*rt, alloc, 64)?)
-}
-
-fn replay_twins<R: Wait + Copy>(
-    rt: &R,
-    alloc: Global,
-    script: &Script,
-) -> Result<(Status, MemorySink), NoMemory> {
-    replay(alloc, script, &TwinQueues::new(*rt, alloc, 64)?)
+fn run_queue<R: Threads + Wait + Sync + Copy>(rt: &R, alloc: Global) -> Result<Status, NoMemory> {
+    let script = make_script(alloc, 7, 4, 16, Kind::Queue)?;
+    run(rt, alloc, &script, &BoundedQueue::new(*rt, alloc, 64)?)
 }
 
 // Whatever the schedule, a cell and a queue that are used as they are meant to be have no error.
 #[test]
 fn right_uses_are_not_caught(rt: HostRuntime) -> Result<(), Fail> {
-    let alloc = rt.alloc();
-    for number in 0..3 {
-        let writes = make_script(alloc, number, 4, 16, Kind::Register)?;
-        assert_eq!(rt;
-            run(&rt, alloc, &writes, &CellRegister::default())?,
-            Status::Fine
-        );
-        let increments = make_script(alloc, number, 4, 16, Kind::Counter)?;
-        assert_eq!(rt;
-            run(&rt, alloc, &increments, &CellCounter::default())?,
-            Status::Fine
-        );
-        let items = make_script(alloc, number, 4, 16, Kind::Queue)?;
-        assert_eq!(rt; run_queue(&rt, alloc, &items)?, Status::Fine);
-    }
+    assert_eq!(rt; run_register(&rt, rt.alloc())?, Status::Fine);
+    assert_eq!(rt; run_counter(&rt, rt.alloc())?, Status::Fine);
+    assert_eq!(rt; run_queue(&rt, rt.alloc())?, Status::Fine);
     Ok(())
+}
+
+// How a replay of a script's turns over two queues in place of one ends, and what it writes.
+fn replay_twins<R: Wait + Copy>(
+    rt: &R,
+    alloc: Global,
+    script: &Script,
+) -> Result<(Status, MemorySink), NoMemory> {
+    let object = TwinQueues::new(*rt, alloc, 64)?;
+    let mut passes = CountingPass::for_script(alloc, script)?;
+    let mut sink = MemorySink::new(alloc, 1_000, Vec::new(alloc), 1_000)?;
+    let status = replay_fresh(alloc, script, &object, &mut passes, Form::Report, &mut sink);
+    Ok((status, sink))
 }
 
 // Caller 0 has enqueued 5 before caller 1 dequeues from the other queue.
 #[test]
 fn twin_queues_are_caught_by_turns(rt: HostRuntime) -> Result<(), Fail> {
-    let alloc = rt.alloc();
-    let script = read_script(
-        alloc,
-        b"script 2\nobject queue\ncallers 2\ncalls 1 1\n0 0 enq 5\n1 0 deq\nturns 0 0 0 0 0 1 1 1 1 1\nend\n",
-    )?;
-    let (status, sink) = replay_twins(&rt, alloc, &script)?;
+    let script = read_script(rt.alloc(), TWO_CALLS)?;
+    let (status, sink) = replay_twins(&rt, rt.alloc(), &script)?;
     assert_eq!(rt; status, Status::Found);
     assert_eq!(rt;
         str::from_utf8(sink.bytes()),
@@ -124,28 +93,62 @@ fn twin_queues_are_caught_by_turns(rt: HostRuntime) -> Result<(), Fail> {
     Ok(())
 }
 
-// An object answers within one turn, so turns never tear its steps apart.
-#[test]
-fn a_torn_counter_passes_by_turns(rt: HostRuntime) -> Result<(), Fail> {
-    let alloc = rt.alloc();
-    let script = read_script(
-        alloc,
-        b"script 2\nobject counter\ncallers 2\ncalls 1 1\n0 0 inc\n1 0 inc\nturns 0 1 0 1 0 1 0 1 0 1\nend\n",
-    )?;
-    let (status, sink) = replay(alloc, &script, &TornCounter::default())?;
-    assert_eq!(rt; status, Status::Fine);
-    assert_eq!(rt;
-        str::from_utf8(sink.bytes()),
-        Ok(
-            "report 2\nobject counter\ncallers 2\ncalls 1 1\n0 0 inc =0 view 0:1 1:1 ok seen 0:1 1:1\n1 0 inc =1 view 0:1 1:1 ok seen 0:1 1:1\nend\n"
-        )
+// What two counters have in common: an increment.
+trait Increments {
+    fn increment(&self) -> u64;
+}
+
+const INCREMENT: OpWord = 1 << 32;
+
+impl Increments for CellCounter {
+    fn increment(&self) -> u64 {
+        self.answer(INCREMENT)
+    }
+}
+
+impl Increments for TornCounter {
+    fn increment(&self) -> u64 {
+        self.answer(INCREMENT)
+    }
+}
+
+fn increment_often<C: Increments>(counter: &C) {
+    for _ in 0..20_000 {
+        counter.increment();
+    }
+}
+
+// What a counter says behind two threads that increment it 20,000 times each, side by side.
+fn counted<R: Threads, C: Increments + Sync>(rt: &R, counter: &C) -> u64 {
+    join_mut(
+        rt,
+        &mut || increment_often(counter),
+        &mut || increment_often(counter),
     );
-    Ok(())
+    counter.increment()
+}
+
+// Whether some increments of a torn counter are lost, at one of many trials.
+fn loses_some<R: Threads>(rt: &R) -> bool {
+    for _ in 0..100 {
+        if counted(rt, &TornCounter::default()) != value_reply(40_000) {
+            return true;
+        }
+    }
+    false
 }
 
 #[test]
-fn a_torn_counter_is_caught_at_times(rt: HostRuntime) -> Result<(), Fail> {
-    let script = make_script(rt.alloc(), 7, 4, 16, Kind::Counter)?;
-    assert!(rt; torn_runs_caught(&rt, rt.alloc(), &script, 3)? <= 3);
+fn a_torn_counter_loses_what_a_whole_one_counts(rt: HostRuntime) {
+    assert_eq!(rt; counted(&rt, &CellCounter::default()), value_reply(40_000));
+    assert!(rt; loses_some(&rt));
+}
+
+#[test]
+fn passes_have_a_call_for_each_operation_and_no_more(rt: HostRuntime) -> Result<(), Fail> {
+    let script = make_script(rt.alloc(), 7, 3, 5, Kind::Queue)?;
+    for pass in &CountingPass::for_script(rt.alloc(), &script)? {
+        assert_eq!(rt; (pass.made(), pass.cap()), (0, 5));
+    }
     Ok(())
 }
