@@ -1,6 +1,7 @@
 use crate::alone::agrees;
 use crate::cuts::try_cuts;
-use crate::trial::{Attempt, Trial};
+use crate::schedules::try_told;
+use crate::trial::{Attempt, Told, Trial};
 use anyhow::{Result, anyhow};
 use selfcheck::{MemorySink, MemorySource, Sink, Source, SteadySource, read_all};
 use std::alloc::Global;
@@ -46,6 +47,17 @@ impl Outcome {
         })
     }
 
+    // The outcome of a case that is known by its name, with the fault that was found.
+    fn of(alloc: Global, name: &str, found: Result<()>) -> Result<Outcome> {
+        match found {
+            Ok(()) => Outcome::good(alloc),
+            Err(fault) => Ok(Outcome {
+                passed: false,
+                report: format!(in alloc; "{name}: {fault}")?,
+            }),
+        }
+    }
+
     // The outcome of a trial, with the number of the call that failed in the attempt that didn't pass.
     fn at(self, alloc: Global, call: &str, number: u64) -> Result<Outcome> {
         let report = format!(in alloc; "{}, where {call} {number} fails", self.report)?;
@@ -86,16 +98,11 @@ impl Case {
         let Some(is_legal) = self.wanted_verdict() else {
             return Ok(outcome);
         };
-        match self.try_further(rt.alloc(), is_legal) {
-            Ok(()) => Ok(outcome),
-            Err(fault) => {
-                let report = format!(in rt.alloc(); "{}: {fault}", self.name)?;
-                Ok(Outcome {
-                    passed: false,
-                    report,
-                })
-            }
-        }
+        Outcome::of(
+            rt.alloc(),
+            &self.name,
+            self.try_further(rt.alloc(), is_legal),
+        )
     }
 
     // Tries the book by sets, and at its smaller cuts.
@@ -133,7 +140,23 @@ impl Case {
             Trial::Fronts => self.run_fronts(rt),
             Trial::Reads => self.run_failing_reads(rt),
             Trial::Writes => self.run_failing_writes(rt),
+            Trial::AnySchedule(told) => Outcome::of(
+                rt.alloc(),
+                &self.name,
+                self.run_any_schedule(rt, told),
+            ),
         }
+    }
+
+    // The output is looked at in place of being compared.
+    fn run_any_schedule<R: AllocGlobal + Threads + Sync>(&self, rt: &R, told: Told) -> Result<()> {
+        let mut sink = self.sink(rt.alloc(), &self.sink_fails, self.sink_most)?;
+        let mut source = SteadySource::new(self.input.to_vec(rt.alloc())?);
+        let (status, _) = self.answer(rt, &mut source, &mut sink)?;
+        if status != self.status {
+            return Err(anyhow!("status {status} for {}", self.status));
+        }
+        try_told(rt, told, sink.bytes())
     }
 
     fn run_once<R: AllocGlobal + Threads + Sync>(&self, rt: &R) -> Result<Outcome> {
@@ -220,6 +243,14 @@ impl Case {
         Outcome::good(rt.alloc())
     }
 
+    // A sink with the case's room, in which these writes fail.
+    fn sink(&self, alloc: Global, fails: &[u64], most: usize) -> Result<MemorySink> {
+        let fails = fails.to_vec(alloc)?;
+        MemorySink::new(alloc, self.sink_room, fails, most.max(1)).map_err(|_| anyhow!(
+            "no memory for a sink"
+        ))
+    }
+
     fn run_on<R: AllocGlobal + Threads + Sync>(
         &self,
         rt: &R,
@@ -227,13 +258,7 @@ impl Case {
     ) -> Result<Outcome> {
         let alloc = rt.alloc();
         let input = attempt.input.to_vec(alloc)?;
-        let fails = attempt.sink_fails.to_vec(alloc)?;
-        let mut sink = MemorySink::new(
-            alloc,
-            self.sink_room,
-            fails,
-            attempt.sink_most.max(1),
-        ).map_err(|_| anyhow!("no memory for a sink"))?;
+        let mut sink = self.sink(alloc, attempt.sink_fails, attempt.sink_most)?;
         let (status, left) = if self.is_steady {
             self.answer(rt, &mut SteadySource::new(input), &mut sink)?
         } else {

@@ -11,10 +11,15 @@
 //! | `in-fill COUNT` | so many bytes `x` of the input |
 //! | `in-calls CALLER COUNT OP` | so many lines of the input: the caller, a number that counts from 0, and the operation |
 //! | `in-turns CALLER COUNT` | the line of a script's turns, with so many turns of the caller |
+//! | `in-each CALLERS COUNT OP, ..` | the lines of a script from `callers` to its last call: each caller has COUNT calls, which take the operations in turn; a `*` in an operation is a number that no other call has |
+//! | `in-rounds CALLERS COUNT TURNS` | the line of a script's turns: COUNT rounds, in each of which each caller has TURNS turns in a row |
 //! | `in-answered CALLER COUNT OP REPLY` | so many such lines, each with the reply, and a view of the caller's calls up to this one |
 //! | `fronts` | each front of the input that isn't whole is tried in its place: it is refused as a text that is cut |
 //! | `each-read-fails` | the source gives one byte a read; each read fails in turn, up to the one that finds the end: status 4 and nothing written; and then none fails |
 //! | `each-write-fails` | the sink takes one byte a write; each write fails in turn, up to the last: status 5 and the bytes before it; and then none fails |
+//! | `delivered COUNT` | the output, which the schedule decides, is the text of a report of COUNT calls, all of them delivered |
+//! | `overlapping COUNT` | as for `delivered`; and some call was made amid those of another caller: its view holds some of them, and not all |
+//! | `certified` | the output, which the schedule decides, is a certificate: `order` calls it legal, `verify` calls its book legal, and `sketch` writes the history of that book |
 //! | `source-fails K ..` | the reads that fail, counted from 1 |
 //! | `source-most N` | the most bytes that a read gives |
 //! | `source-steady` | the input comes from the source that never fails |
@@ -23,6 +28,8 @@
 //! | `sink-room N` | the room of the sink |
 //! | `out LINE` | a line of the wanted output, with its line feed |
 //! | `out-cut TEXT` | a piece of the wanted output without a line feed |
+//! | `out-each CALLERS COUNT OP, ..` | lines of the wanted output, as those of `in-each` |
+//! | `out-rounds CALLERS COUNT TURNS` | a line of the wanted output, as that of `in-rounds` |
 //! | `left N` | how many bytes the source is to have left |
 //! | `status N` | the wanted status |
 //!
@@ -37,6 +44,7 @@
 mod alone;
 mod case;
 mod cuts;
+mod schedules;
 mod table;
 mod trial;
 

@@ -1,5 +1,5 @@
 use crate::case::Case;
-use crate::trial::Trial;
+use crate::trial::{Told, Trial};
 use anyhow::{Context, Result, anyhow};
 use std::alloc::Global;
 use std::io::Write;
@@ -22,9 +22,20 @@ pub fn take_line(alloc: Global, case: &mut Case, line: &str) -> Result<()> {
         "in-calls" => take_calls(&mut case.input, value),
         "in-answered" => take_answered(&mut case.input, value),
         "in-turns" => take_turns(&mut case.input, value),
+        "in-each" => take_each(&mut case.input, value),
+        "in-rounds" => take_rounds(&mut case.input, value),
         "fronts" => set_trial(case, Trial::Fronts),
         "each-read-fails" => set_trial(case, Trial::Reads),
         "each-write-fails" => set_trial(case, Trial::Writes),
+        "delivered" => {
+            let calls = value.parse::<u64>().context("a number of calls")?;
+            set_trial(case, Trial::AnySchedule(Told::Delivered(calls)))
+        }
+        "overlapping" => {
+            let calls = value.parse::<u64>().context("a number of calls")?;
+            set_trial(case, Trial::AnySchedule(Told::Overlapping(calls)))
+        }
+        "certified" => set_trial(case, Trial::AnySchedule(Told::Certified)),
         "source-fails" => take_numbers(&mut case.source_fails, value),
         "source-most" => set_size(&mut case.source_most, value),
         "source-steady" => {
@@ -36,6 +47,8 @@ pub fn take_line(alloc: Global, case: &mut Case, line: &str) -> Result<()> {
         "sink-room" => set_size(&mut case.sink_room, value),
         "out" => take_bytes(&mut case.wanted, value, "\n"),
         "out-cut" => take_bytes(&mut case.wanted, value, ""),
+        "out-each" => take_each(&mut case.wanted, value),
+        "out-rounds" => take_rounds(&mut case.wanted, value),
         "left" => {
             case.left = Some(value.parse::<usize>().context("a number of bytes")?);
             Ok(())
@@ -95,6 +108,66 @@ fn take_turns(bytes: &mut Vec<u8>, value: &str) -> Result<()> {
         bytes.extend_from_slice(caller.as_bytes())?;
     }
     bytes.push(b'\n')?;
+    Ok(())
+}
+
+fn take_each(bytes: &mut Vec<u8>, value: &str) -> Result<()> {
+    let (callers, rest) = value.split_once(' ').context("a number of callers")?;
+    let (count, operations) = rest.split_once(' ').context("a count")?;
+    let callers = callers.parse::<u64>().context("a number of callers")?;
+    let count = count.parse::<u64>().context("a count")?;
+    write!(bytes, "callers {callers}\ncalls")?;
+    for _ in 0..callers {
+        write!(bytes, " {count}")?;
+    }
+    bytes.push(b'\n')?;
+    for caller in 0..callers {
+        take_operations(bytes, caller, count, operations)?;
+    }
+    Ok(())
+}
+
+// The lines of a caller's calls, which take the operations in turn.
+fn take_operations(bytes: &mut Vec<u8>, caller: u64, count: u64, operations: &str) -> Result<()> {
+    let mut rest = operations;
+    for number in 0..count {
+        let (operation, next) = rest.split_once(", ").unwrap_or((rest, operations));
+        take_operation(bytes, caller, number, operation)?;
+        rest = next;
+    }
+    Ok(())
+}
+
+// The line of a call.
+fn take_operation(bytes: &mut Vec<u8>, caller: u64, number: u64, operation: &str) -> Result<()> {
+    let own = caller.saturating_mul(256).saturating_add(number);
+    match operation.split_once('*') {
+        Some((before, behind)) => writeln!(bytes, "{caller} {number} {before}{own}{behind}")?,
+        None => writeln!(bytes, "{caller} {number} {operation}")?,
+    }
+    Ok(())
+}
+
+fn take_rounds(bytes: &mut Vec<u8>, value: &str) -> Result<()> {
+    let (callers, rest) = value.split_once(' ').context("a number of callers")?;
+    let (count, turns) = rest.split_once(' ').context("a count")?;
+    let callers = callers.parse::<u64>().context("a number of callers")?;
+    let turns = turns.parse::<u64>().context("a number of turns")?;
+    bytes.extend_from_slice(b"turns")?;
+    for _ in 0..count.parse::<u64>().context("a count")? {
+        take_round(bytes, callers, turns)?;
+    }
+    bytes.push(b'\n')?;
+    Ok(())
+}
+
+// So many turns of each caller, one caller behind the other.
+fn take_round(bytes: &mut Vec<u8>, callers: u64, turns: u64) -> Result<()> {
+    for caller in 0..callers {
+        for _ in 0..turns {
+            write!(bytes, " {caller}")?;
+        }
+    }
     Ok(())
 }
 

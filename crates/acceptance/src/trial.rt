@@ -9,6 +9,19 @@ pub enum Trial {
     Reads,
     /// Each write of bytes that go one at a time fails.
     Writes,
+    /// The case as it stands, whose output the schedule decides.
+    AnySchedule(Told),
+}
+
+/// What an output tells, whatever the schedule.
+#[derive(Clone, Copy, Debug, PartialEq, Eq)]
+pub enum Told {
+    /// The output is a report of this number of calls, all of them delivered.
+    Delivered(u64),
+    /// The output is such a report, and some call was made amid those of another caller.
+    Overlapping(u64),
+    /// The output is a certificate of a legal order.
+    Certified,
 }
 
 /// What the top call is given in one attempt, and what it is to answer.

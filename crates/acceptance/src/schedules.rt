@@ -1,0 +1,100 @@
+//! What is so of the output of a run whatever the schedule of its callers, where no output can be wanted byte by byte.
+
+use crate::trial::Told;
+use anyhow::{Context, Result, anyhow};
+use book_base::{Call, Cut};
+use call_lines::LineEnd;
+use report_text::{Report, read_report};
+use selfcheck::{MemorySink, SteadySource, selfcheck};
+use std::alloc::Global;
+use std::thread::Threads;
+
+/// The room of a sink for the answer to a certificate or its book.
+const ROOM: usize = 1 << 20;
+
+/// What an output doesn't tell, though it should, is an error.
+pub fn try_told<R: AllocGlobal + Threads + Sync>(rt: &R, told: Told, output: &[u8]) -> Result<()> {
+    match told {
+        Told::Delivered(calls) => {
+            read_delivered(rt.alloc(), output, calls)?;
+            Ok(())
+        }
+        Told::Overlapping(calls) => try_overlap(&read_delivered(rt.alloc(), output, calls)?),
+        Told::Certified => try_certificate(rt, output),
+    }
+}
+
+// The report with this text, of so many calls that were all delivered.
+fn read_delivered(alloc: Global, text: &[u8], calls: u64) -> Result<Report> {
+    let report = read_report(alloc, text).map_err(|_| anyhow!("the report can't be read"))?;
+    let counts = report.counts();
+    if counts.calls != calls || counts.delivered != calls {
+        return Err(anyhow!(
+            "{} calls for {calls}, {} of them delivered",
+            counts.calls,
+            counts.delivered
+        ));
+    }
+    Ok(report)
+}
+
+// A report in which no call was made amid those of another caller is an error.
+fn try_overlap(report: &Report) -> Result<()> {
+    for caller in 0..report.callers() {
+        if has_call_amid_others(report, caller) {
+            return Ok(());
+        }
+    }
+    Err(anyhow!("no call was made amid those of another caller"))
+}
+
+// Whether some view of a caller is amid the calls of another.
+fn has_call_amid_others(report: &Report, caller: u32) -> bool {
+    if caller >= report.callers() {
+        return false;
+    }
+    for number in 0..report.lines(caller) {
+        if let LineEnd::Delivered(record, _) = report.line(Call { caller, number }).end {
+            if is_amid_others(report, caller, &record.view) {
+                return true;
+            }
+        }
+    }
+    false
+}
+
+// Whether a view of a caller holds some of another one's calls, and not all.
+fn is_amid_others(report: &Report, caller: u32, view: &Cut) -> bool {
+    for other in 0..report.callers() {
+        if other != caller && other < view.n() {
+            let held = view.get(other);
+            if 0 < held && held < report.lines(other) {
+                return true;
+            }
+        }
+    }
+    false
+}
+
+// A certificate whose order or whose book isn't called legal is an error.
+fn try_certificate<R: AllocGlobal + Threads + Sync>(rt: &R, certificate: &[u8]) -> Result<()> {
+    let text = str::from_utf8(certificate).context("a text")?;
+    let (book, _) = text.split_once("order 2\n").context("an order")?;
+    try_command(rt, "order", certificate)?;
+    try_command(rt, "verify", book.as_bytes())?;
+    try_command(rt, "sketch", book.as_bytes())
+}
+
+// A command that doesn't answer an input with status 0 is an error.
+fn try_command<R: AllocGlobal + Threads + Sync>(rt: &R, command: &str, input: &[u8]) -> Result<()> {
+    let alloc = rt.alloc();
+    let words = vec![in alloc; String::from_str(alloc, command)?]?;
+    let mut source = SteadySource::new(input.to_vec(alloc)?);
+    let sink = MemorySink::new(alloc, ROOM, Vec::new(alloc), usize::MAX);
+    let mut sink = sink.map_err(|_| anyhow!("no memory for a sink"))?;
+    let status = selfcheck(rt, alloc, &words, &mut source, &mut sink).code();
+    if status != 0 {
+        return Err(anyhow!("status {status} of {command}"));
+    }
+    Ok(())
+}
