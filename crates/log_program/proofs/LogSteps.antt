@@ -71,7 +71,7 @@ module _ (init : List ℕ) (next : List ℕ → ℕ → List ℕ × ℕ) (n cap 
   ticket w p = object_word s w (ticket_place total p)
 
   -- the words of different calls lie apart, and before the tickets
-  number_low : (i k : ℕ) → i < n → k < cap → number_of cap i k < total
+  pub number_low : (i k : ℕ) → i < n → k < cap → number_of cap i k < total
   number_low i k low few = omega (arith, mul-add-lt i cap k n low few)
 
   same_place : (a b half other : ℕ) → half < 2 → other < 2 → 2 * a + half ≡ 2 * b + other → (a ≡ b) × (half ≡ other)
@@ -88,6 +88,20 @@ module _ (init : List ℕ) (next : List ℕ → ℕ → List ℕ × ℕ) (n cap 
 
   held_at : (w : World) (place at : ℕ) → place ≡ at → HoldsOperation s w at → HoldsOperation s w place
   held_at w place at same h = subst (HoldsOperation s w) (sym same) h
+
+  -- a ticket stands nowhere while no step of its call has placed it
+  pub unplaced_nowhere : (w : World) (who k : ℕ) → IsLog s w → k < cap
+      → placed_at total (ticket_of (number_of cap who k)) (slice_index_or (local_of w who).object_steps k []) ≡ None
+      → (q : ℕ) → q < total → ticket w q ≡ ticket_of (number_of cap who k) → ⊥
+  unplaced_nowhere w who k log few none q low is =
+      let t = log.named q low (λ free. omega (arith, sym is ∙ free)) in
+      let same : number_of cap t.i t.k ≡ number_of cap who k = omega (arith, sym t.ticket ∙ is) in
+      let parts = same_from_place t.i t.k who k cap t.call.few few same in
+      let placed =
+      subst (λ (i : ℕ). slice_get (slice_index_or (local_of w i).object_steps k []) t.placed.j ≡ Some t.placed.step) parts.0
+      (subst (λ (j : ℕ). slice_get (slice_index_or (local_of w t.i).object_steps j []) t.placed.j ≡ Some t.placed.step) parts.1 t.placed.made) in
+      unplaced_step total (ticket_of (number_of cap who k)) t.placed.j (slice_index_or (local_of w who).object_steps k []) t.placed.step none placed t.placed.high
+      (t.placed.left ∙ ap ticket_of same)
 
   -- From one world to another, what stands for ever stays: the words of operations, the tickets, and what locals have.
   pub record Keeps (w v : World) : Type 0 where
@@ -372,17 +386,8 @@ module _ (init : List ℕ) (next : List ℕ → ℕ → List ℕ × ℕ) (n cap 
             | inr t ↦ absurd (omega (arith, t.0, f.at, low, number_is_low))
           ]
 
-      -- the own ticket stands nowhere while no step of this call has placed it
       pub nowhere : placed_at total (ticket_of number) (steps_now me) ≡ None → (q : ℕ) → q < total → ticket w q ≡ ticket_of number → ⊥
-      nowhere none q low is =
-          let filled : ticket w q ≢ 0 = λ free. omega (arith, sym is ∙ free) in
-          let t = log.named q low filled in
-          let same : number_of cap t.i t.k ≡ number = omega (arith, sym t.ticket ∙ is) in
-          let parts = same_from_place t.i t.k who k cap t.call.few call.few same in
-          let placed =
-          subst (λ (i : ℕ). slice_get (slice_index_or (local_of w i).object_steps k []) t.placed.j ≡ Some t.placed.step) parts.0
-          (subst (λ (j : ℕ). slice_get (slice_index_or (local_of w t.i).object_steps j []) t.placed.j ≡ Some t.placed.step) parts.1 t.placed.made) in
-          unplaced_step total (ticket_of number) t.placed.j (steps_now me) t.placed.step none placed t.placed.high (t.placed.left ∙ ap ticket_of same)
+      nowhere none = unplaced_nowhere w who k log call.few none
 
       -- An exchange that places the own ticket.
       module _ (free : step.old ≡ 0) (is : step.new ≡ ticket_of number) (below : IsTrue (are_filled_below total (all_steps_of me) p))

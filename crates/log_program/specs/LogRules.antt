@@ -1,11 +1,13 @@
 -- The rules that hold in every reachable world of a log.
-use Rattle.std.specs.Prelude.{◌≡◌, ◌≢◌, ℕ, zero, suc, ◌+◌, ◌*◌, ◌<◌, ◌≤◌, ◌⊎◌, List, [], ◌++◌, Some, slice_get, slice_index_or}
+use Rattle.std.specs.Prelude.{◌≡◌, ◌≢◌, ℕ, zero, suc, ◌+◌, ◌*◌, ◌<◌, ◌≤◌, ◌⊎◌, List, [], ◌++◌, Some, slice_get, slice_index_or, true, None}
 use Rattle.book_base.specs.OperationWord.{low_of, high_of}
 use Rattle.world_core.specs.Shape.{Shape}
 use Rattle.world_core.specs.Local.{Object_step}
+use Rattle.world_core.specs.CallSteps.{steps_now}
+use Rattle.world_core.specs.Event.{is_asking}
 use Rattle.world_core.specs.World.{World, Step, IsRun, IsReachable, end_of, local_of, object_word}
 use Rattle.world_laws.proofs.Each.{Each}
-use Rattle.log_program.specs.LogWords.{number_of, low_place, high_place, ticket_place, ticket_of}
+use Rattle.log_program.specs.LogWords.{number_of, low_place, high_place, ticket_place, ticket_of, placed_at}
 use Rattle.log_program.specs.LogProgram.{log_shape}
 
 -- How many calls the callers of a world may make, which is how many places its log has.
@@ -82,3 +84,11 @@ TicketsStay =
     → ticket_at (log_shape init next n cap) (end_of (log_shape init next n cap) before) p ≢ 0
     → ticket_at (log_shape init next n cap) (end_of (log_shape init next n cap) (before ++ later)) p
     ≡ ticket_at (log_shape init next n cap) (end_of (log_shape init next n cap) before) p
+
+-- While the call under way of a caller has no place in the log, some place of the log is free.
+abbrev pub SomePlaceIsFree : Type 0
+SomePlaceIsFree =
+    (init : List ℕ) (next : List ℕ → ℕ → List ℕ × ℕ) (n cap : ℕ) (w : World) (i : ℕ) → IsReachable (log_shape init next n cap) w → i < n
+    → is_asking (local_of w i).phase ≡ true
+    → placed_at (n * cap) (ticket_of (number_of cap i (local_of w i).published)) (steps_now (local_of w i)) ≡ None
+    → (p : ℕ) × (p < n * cap) × (ticket_at (log_shape init next n cap) w p ≡ 0)

@@ -2,13 +2,18 @@
 //! contract of a function with nothing in it.
 
 ghost use Rattle.log_program.specs.LogEffects.{LogsLinearize, LogOrdersAreOfTickets};
-ghost use Rattle.log_program.specs.LogRules.{LogRulesHold, TicketsStay};
+ghost use Rattle.log_program.specs.LogRules.{LogRulesHold, TicketsStay, SomePlaceIsFree};
 
 /// In every reachable world the filled places of the log are a prefix, each ticket names a call whose words are
 /// stored, no ticket stands twice, and what an object step left stands; and a ticket never changes.
 pub fn log_rules_hold()
     ensures rules { LogRulesHold }
     ensures tickets { TicketsStay }
+{}
+
+/// A call finds a place in the log: while it has none, some place is free.
+pub fn some_place_is_free()
+    ensures { SomePlaceIsFree }
 {}
 
 /// The object history of every run of a log is linearizable, in the order of its tickets (Herlihy and Wing 1990).
