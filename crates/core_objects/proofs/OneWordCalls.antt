@@ -1,5 +1,5 @@
 -- Calls of objects of one word: what they leave, and which reply their program allows.
-use Rattle.std.proofs.Common.{◌≡◌, ℕ, zero, suc, ◌<◌, Bool, true, false, ◌&&◌, ◌==◌, if◌then◌else◌, List, [], ◌∷◌, ◌++◌, length, Option, Some, None, slice_index_or, slice_set, refl, sym, ap, ◌∙◌, subst, arith, IsTrue, eq-eqb}
+use Rattle.std.proofs.Common.{◌≡◌, ℕ, zero, suc, ◌<◌, Bool, true, false, ◌&&◌, ◌==◌, if◌then◌else◌, List, [], ◌∷◌, ◌++◌, length, Option, Some, None, slice_index_or, slice_set, refl, sym, ap, ◌∙◌, subst, arith, IsTrue, eq-eqb, append-nil}
 use Rattle.std.specs.Prelude.{is_some}
 use Rattle.std.proofs.lemmas.List.{get_or-set_same}
 use Rattle.std.proofs.lemmas.Bool.{and_from, cond-true, cond-false}
@@ -9,12 +9,13 @@ use Rattle.seq_objects.specs.Words.{Entry, is_operation_of, is_known_word, entry
 use Rattle.seq_objects.specs.Words as words
 use Rattle.world_core.specs.Shape.{Shape}
 use Rattle.world_core.specs.Local.{Local, Object_step, with_step}
-use Rattle.world_core.specs.CallSteps.{operation_now, steps_now}
+use Rattle.world_core.specs.CallSteps.{operation_now, steps_now, all_steps_of}
 use Rattle.world_core.specs.Calls.{IsLocalOf}
+use Rattle.call_lines.specs.Phases.{progress_of}
 use Rattle.drv_wrapper.specs.Calling.{IsAsked}
 use Rattle.drv_wrapper.proofs.Locals.{local_has_phase}
 use Rattle.object_orders.specs.OneWord.{OneWord, reply_of, reply_by_step, is_without_steps, is_reply}
-use Rattle.core_objects.specs.CoreObjects.{with_steps}
+use Rattle.core_objects.specs.CoreObjects.{with_steps, after_steps}
 
 set_none : (xs : List (List Object_step)) (k : ℕ) → slice_index_or xs k [] ≡ [] → slice_set xs k [] ≡ xs
 set_none [] k none = refl
@@ -24,6 +25,9 @@ set_none (x ∷ xs) (suc k) none = ap (λ (ys : List (List Object_step)). x ∷ 
 -- no step leaves the local
 pub no_steps : (l : Local) → steps_now l ≡ [] → l ≡ with_steps l []
 no_steps l none = ap (λ (xs : List (List Object_step)). record l { object_steps = xs }) (sym (set_none l.object_steps l.published none))
+
+pub no_progress_made : (l : Local) → progress_of l ≡ after_steps [] (progress_of l)
+no_progress_made l = ap (λ (xs : List Object_step). record (progress_of l) { steps = xs }) (sym (append-nil (all_steps_of l)))
 
 -- the first step of a call is its only one
 pub one_step : (l : Local) (step : Object_step) → steps_now l ≡ [] → record l { object_steps = with_step l.object_steps l.published step } ≡ with_steps l (step ∷ [])

@@ -1,7 +1,8 @@
 -- Objects inside the world: the worlds of their programs, and what asking one of them leaves.
-use Rattle.std.specs.Prelude.{◌≡◌, ℕ, List, [], Some, length, slice_get, slice_set}
+use Rattle.std.specs.Prelude.{◌≡◌, ℕ, List, [], ◌++◌, Some, length, slice_get, slice_set}
 use Rattle.world_core.specs.Shape.{Shape, Meaning}
 use Rattle.world_core.specs.Local.{Local, Object_step}
+use Rattle.call_lines.specs.Phases.{Progress, progress_of}
 use Rattle.row_table.specs.declared.rows.Rows.{Rows}
 use Rattle.row_table.specs.Callers.{IsStill, MayGet}
 use Rattle.drv_wrapper.specs.declared.announced.Announced.{Announced}
@@ -14,6 +15,10 @@ shape_with meaning n cap = record { callers = n; cap = cap; program = meaning n 
 -- A local in which the call under way has these object steps.
 abbrev pub with_steps : Local → List Object_step → Local
 with_steps l steps = record l { object_steps = slice_set l.object_steps l.published steps }
+
+-- How far a caller has come that has made these object steps more.
+abbrev pub after_steps : List Object_step → Progress → Progress
+after_steps steps progress = record progress { steps = progress.steps ++ steps }
 
 -- There is one pass for each of n callers, in order, and each fits its caller, this n and this cap, and no object steps.
 pub record ArePassesFor {A : Type 0} (fits : A → ℕ → ℕ → ℕ → List Object_step → Type 0) (n cap : ℕ) (passes : List A) : Type 0 where
@@ -32,4 +37,5 @@ module _ {P : Type 0} where
     pub still : IsStill meaning r (caller_announced a) (caller_announced b)
     pub operation : op_announced b ≡ op_announced a
     pub local : announced_local b ≡ with_steps (announced_local a) steps
+    pub progress : progress_of (announced_local b) ≡ after_steps steps (progress_of (announced_local a))
     pub allowed : MayGet meaning (caller_announced b) reply

@@ -3,9 +3,10 @@ ghost use Rattle.world_core.specs.Local.{Object_step};
 ghost use Rattle.world_core.specs.CallSteps.{steps_now, all_steps_of};
 ghost use Rattle.world_core.specs.World.{Step, IsRun};
 ghost use Rattle.world_core.specs.History.{IsLinearizable, history_of};
+ghost use Rattle.call_lines.specs.Phases.{progress_of};
 ghost use Rattle.row_table.specs.Callers.{IsCallerOf, IsStill, MayGet};
 ghost use Rattle.drv_wrapper.specs.States.{who_announced, caller_announced, announced_local, op_announced, op_answered, reply_answered, caller_answered, answered_local};
-ghost use Rattle.core_objects.specs.CoreObjects.{shape_with, with_steps, AreOpenedWith, HasReplied};
+ghost use Rattle.core_objects.specs.CoreObjects.{shape_with, with_steps, after_steps, AreOpenedWith, HasReplied};
 
 use book_base::SeqObject;
 use drv_wrapper::{Announced, Answered};
@@ -34,7 +35,7 @@ pub trait CoreObject {
     ghost program_of: { Self → Self.P };
 
     /// The pass is that of a caller, for `n` callers and a cap, and knows what these object steps of all its
-    /// calls tell.
+    /// calls show.
     ghost fits: { Self.Pass → ℕ → ℕ → ℕ → List Object_step → Type 0 };
 
     /// The sequential object.
@@ -75,6 +76,7 @@ pub trait CoreObject {
         ensures operation { op_answered result ≡ op_announced announced }
         ensures allowed { MayGet Self.P.meaning (caller_answered result) (reply_answered result) }
         ensures made { (steps : List Object_step) × (answered_local result ≡ with_steps (announced_local announced) steps)
+            × (progress_of (answered_local result) ≡ after_steps steps (progress_of (announced_local announced)))
             × fits pass.new (who_announced announced) rows.now.callers rows.now.cap (all_steps_of (announced_local announced) ++ steps) }
     {
         let mut announced = announced;

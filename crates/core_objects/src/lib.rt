@@ -2,11 +2,13 @@
 #![tactic(auto)]
 
 mod cell;
+mod core_log;
 mod core_object;
 mod one_word_pass;
 mod tally;
 
 pub use cell::{CellProgram, CoreCell, CoreCellPass};
+pub use core_log::{LogProgram, runs_of_log};
 pub use core_object::{CoreObject, runs_of};
 pub use one_word_pass::OneWordPass;
 pub use tally::{CoreTally, CoreTallyPass, TallyProgram};

@@ -65,7 +65,7 @@ loaded_low = placed_both ++ steps_at 0 2 6 6 ∷ []
 abbrev pub loaded : List Step
 loaded = loaded_low ++ steps_at 0 3 9 9 ∷ []
 
--- Both callers have their replies: one operation stands before that of caller 0, and none before that of caller 1.
+-- Both callers have their replies: one operation is before that of caller 0, and none before that of caller 1.
 abbrev pub replied : List Step
 replied = loaded ++ gets 0 1 1 ∷ gets 1 1 0 ∷ []
 
@@ -108,7 +108,7 @@ refused_as_stored =
     ∷ steps_at 0 4 0 0
     -- a load of words whose ticket it doesn't know
     ∷ steps_at 0 2 0 0
-    -- a reply before its ticket stands
+    -- a reply before its ticket is placed
     ∷ gets 0 1 0
     ∷ []
 
@@ -121,7 +121,7 @@ abbrev pub refused_as_found_one : List Step
 refused_as_found_one =
     -- the place that it knows to be filled
     steps_at 0 4 2 2
-    -- a load before its own ticket stands
+    -- a load before its own ticket is placed
     ∷ steps_at 0 2 6 6
     -- a reply before it
     ∷ gets 0 1 1

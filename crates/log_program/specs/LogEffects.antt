@@ -1,5 +1,5 @@
--- What the words of a log say: its operations in order, and the reply of each call whose ticket stands. A call takes effect as its ticket
--- is placed.
+-- What the words of a log say: its operations in order, and the reply of each call whose ticket is placed. A call takes effect as its
+-- ticket is placed.
 use Rattle.std.specs.Prelude.{◌≡◌, ℕ, zero, suc, ◌*◌, ◌<◌, ◌==◌, nat_lt, if◌then◌else◌, List, [], ◌∷◌, ◌++◌, Option, Some, None, slice_get}
 use Rattle.book_base.specs.OperationWord.{joined}
 use Rattle.book_base.specs.declared.call.Call.{Call}
@@ -20,12 +20,12 @@ abbrev pub operations_below : (ℕ → ℕ) → ℕ → ℕ → List ℕ
 operations_below word total zero = []
 operations_below word total (suc p) = operations_below word total p ++ operation_at word (word (ticket_place total p))
 
--- The last place of the log below this one where a ticket stands.
+-- The last place of the log below this one that has a ticket.
 abbrev pub place_with : (ℕ → ℕ) → ℕ → ℕ → ℕ → Option ℕ
 place_with word total ticket zero = None
 place_with word total ticket (suc p) = if word (ticket_place total p) == ticket then Some p else place_with word total ticket p
 
--- The reply of the call with this number, whose ticket stands at place p.
+-- The reply of the call with this number, whose ticket is at place p.
 abbrev pub reply_there : (List ℕ → ℕ → List ℕ × ℕ) → List ℕ → (ℕ → ℕ) → ℕ → ℕ → Option ℕ → Option ℕ
 reply_there next init word total number None = None
 reply_there next init word total number (Some p) =
@@ -34,7 +34,7 @@ reply_there next init word total number (Some p) =
 abbrev pub reply_of_number : (List ℕ → ℕ → List ℕ × ℕ) → List ℕ → (ℕ → ℕ) → ℕ → ℕ → Option ℕ
 reply_of_number next init word total number = reply_there next init word total number (place_with word total (ticket_of number) total)
 
--- The effects of a log: the list after all its operations, and the replies of the calls whose tickets stand.
+-- The effects of a log: the list after all its operations, and the replies of the calls whose tickets are placed.
 abbrev pub log_effects : List ℕ → (List ℕ → ℕ → List ℕ × ℕ) → ℕ → ℕ → Effects
 log_effects init next n cap =
     record {
@@ -45,12 +45,12 @@ log_effects init next n cap =
           else None;
     }
 
--- The ticket of a call stands at place p of the log.
+-- The ticket of a call is at place p of the log.
 pub record HasPlace (s : Shape) (w : World) (call : Call) (p : ℕ) : Type 0 where
   pub low : p < s.callers * s.cap
   pub ticket : object_word s w (ticket_place (s.callers * s.cap) p) ≡ ticket_of (number_of s.cap call.caller call.number)
 
--- A call that stands before another in an order has its ticket at a lower place.
+-- A call that comes before another in an order has its ticket at a lower place.
 abbrev pub IsInTicketOrder : Shape → World → List Done → Type 0
 IsInTicketOrder s w order =
     (p q : ℕ) (a b : Done) → p < q → slice_get order p ≡ Some a → slice_get order q ≡ Some b

@@ -29,7 +29,7 @@ is_exchange total number l step =
     && (not (is_known (placed_at total (ticket_of number) (steps_now l)))
     && step.new == (if step.old == 0 then ticket_of number else step.old)))))
 
--- A place is for a word of the operation of a call whose ticket is known to stand below the call's own.
+-- A place is for a word of the operation of a call whose ticket is known to be below the call's own.
 abbrev pub is_named_before : Option ℕ → ℕ → List Object_step → ℕ → Bool
 is_named_before None total steps place = false
 is_named_before (Some p) total steps place = is_named_below total steps place p
@@ -49,7 +49,7 @@ abbrev pub reply_after : (List ℕ → ℕ → List ℕ × ℕ) → List ℕ →
 reply_after next init operation None = None
 reply_after next init operation (Some operations) = Some (next (list_of next init operations) operation).1
 
--- The reply to an operation whose ticket stands at place p of the log, by what some steps tell.
+-- The reply to an operation whose ticket is at place p of the log, as far as some steps show.
 abbrev pub reply_at : (List ℕ → ℕ → List ℕ × ℕ) → List ℕ → ℕ → ℕ → List Object_step → Option ℕ → Option ℕ
 reply_at next init total operation steps None = None
 reply_at next init total operation steps (Some p) = reply_after next init operation (known_log total steps p)

@@ -29,7 +29,7 @@ pub record IsCallOf (s : Shape) (w : World) (i k operation : ℕ) : Type 0 where
   pub few : k < s.cap
   pub there : slice_get (local_of w i).operations k ≡ Some operation
 
--- A place is for a word of the operation of an announced call, and that word stands there.
+-- A place is for a word of the operation of an announced call, and that word is there.
 pub record HoldsOperation (s : Shape) (w : World) (place : ℕ) : Type 0 where
   pub i : ℕ
   pub k : ℕ
@@ -59,13 +59,13 @@ pub record NamesCall (s : Shape) (w : World) (p : ℕ) : Type 0 where
   pub high : object_word s w (high_place (number_of s.cap i k)) ≡ high_of operation
   pub placed : HasPlaced s w i k (ticket_of (number_of s.cap i k))
 
--- The word that a step left stands at its place, and is one that never changes: a word of an announced call's operation, or a ticket.
+-- The word that a step left is still at its place, and is one that never changes: a word of an announced call's operation, or a ticket.
 pub record IsLasting (s : Shape) (w : World) (step : Object_step) : Type 0 where
   pub stands : object_word s w step.place ≡ step.new
   pub kind : HoldsOperation s w step.place ⊎ ((2 * total_of s ≤ step.place) × (step.place < 3 * total_of s) × (step.new ≢ 0))
 
--- The rules of a log: the filled places are a prefix, each ticket names a call whose words are stored, no ticket stands twice, and what
--- a step left stands.
+-- The rules of a log: the filled places are a prefix, each ticket names a call whose words are stored, no ticket is at two places, and the
+-- word that a step left is still at its place.
 pub record IsLog (s : Shape) (w : World) : Type 0 where
   pub prefix : (p : ℕ) → p + 1 < total_of s → ticket_at s w (p + 1) ≢ 0 → ticket_at s w p ≢ 0
   pub named : (p : ℕ) → p < total_of s → ticket_at s w p ≢ 0 → NamesCall s w p

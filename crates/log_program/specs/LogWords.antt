@@ -1,4 +1,4 @@
--- Where the words of a log lie, and what object steps tell of them.
+-- Where the words of a log lie, and what object steps show of them.
 use Rattle.std.specs.Prelude.{ℕ, zero, suc, ◌+◌, ◌-◌, ◌*◌, Bool, true, false, not, ◌&&◌, ◌||◌, ◌==◌, nat_lt, if◌then◌else◌, List, [], ◌∷◌, ◌++◌, Option, Some, None}
 use Rattle.book_base.specs.OperationWord.{joined}
 use Rattle.world_core.specs.Local.{Object_step}

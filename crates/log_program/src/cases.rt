@@ -43,7 +43,7 @@ pub fn places_are_tried_in_order()
     ensures next { IsTrue (allows_in log_pair found_one (steps_at 0 5 0 1 ∷ [])) }
 {}
 
-/// A call loads the operations of the tickets below its own, once its own stands, and replies once it knows all
+/// A call loads the operations of the tickets below its own, once its own is placed, and replies once it knows all
 /// of them.
 pub fn replies_come_last()
     ensures placed_both { IsTrue (refuses_in log_pair placed_both refused_as_placed_both) }

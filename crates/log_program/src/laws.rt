@@ -5,7 +5,8 @@ ghost use Rattle.log_program.specs.LogEffects.{LogsLinearize, LogOrdersAreOfTick
 ghost use Rattle.log_program.specs.LogRules.{LogRulesHold, TicketsStay, SomePlaceIsFree};
 
 /// In every reachable world the filled places of the log are a prefix, each ticket names a call whose words are
-/// stored, no ticket stands twice, and what an object step left stands; and a ticket never changes.
+/// stored, no ticket is at two places, and the word that an object step left is still there; and a ticket never
+/// changes.
 pub fn log_rules_hold()
     ensures rules { LogRulesHold }
     ensures tickets { TicketsStay }

@@ -56,7 +56,7 @@ pub record TakesEffectBefore (s : Shape) (e : Effects) (steps : List Step) (a b 
   pub first : e.reply (end_of s before) a ≡ Some reply
   pub second : e.reply (end_of s before) b ≡ None
 
--- An order is that of a run's effects: it has just the calls that have taken effect, each with its reply, and a call that stands
+-- An order is that of a run's effects: it has just the calls that have taken effect, each with its reply, and a call that comes
 -- before another took effect before it.
 pub record IsOrderOfEffects (s : Shape) (e : Effects) (steps : List Step) (order : List Done) : Type 0 where
   pub replied : (d : Done) → Contains order d → e.reply (end_of s steps) d.call ≡ Some d.reply

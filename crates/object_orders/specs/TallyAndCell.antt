@@ -18,7 +18,7 @@ tally =
       replies = λ operation x. reply_value x;
     }
 
--- The list of the counter that a word of the tally stands for: the count modulo 2 ^ 32.
+-- The list of the counter that a word of the tally represents: the count modulo 2 ^ 32.
 abbrev pub count_in : ℕ → List ℕ
 count_in x = x % 2 ^ 32 ∷ []
 
@@ -31,7 +31,7 @@ cell =
       replies = λ operation x. if is_operation_of operation words.write then reply_done else reply_value x;
     }
 
--- The list of the register that a word of the cell stands for.
+-- The list of the register that a word of the cell represents.
 abbrev pub value_in : ℕ → List ℕ
 value_in x = x ∷ []
 

@@ -7,7 +7,7 @@ use Rattle.world_core.specs.Local.{Local, Object_step}
 use Rattle.row_table.specs.Callers.{local_with, who_of}
 use Rattle.object_orders.specs.OneWord.{one_word_shape}
 use Rattle.object_orders.specs.TallyAndCell.{cell}
-use Rattle.core_objects.proofs.OneWordCalls.{no_steps, one_step, allows_bad, allows_reply, allows_step, has_steps}
+use Rattle.core_objects.proofs.OneWordCalls.{no_steps, no_progress_made, one_step, allows_bad, allows_reply, allows_step, has_steps}
 use Rattle.core_objects.proofs.RegisterWords.{IsWrite, known_is, writes}
 use Rattle.core_objects.proofs.cell.CoreCell.keep.Goals as goal
 
@@ -22,6 +22,7 @@ returns-then-not-known c =
       still = (c.requires.caller, refl);
       operation = refl;
       local = no_steps l c.requires.first;
+      progress = no_progress_made l;
       allowed = allows_bad cell l a.op a.asked.operation none;
     }
 
@@ -60,6 +61,7 @@ returns c =
       still = done.still;
       operation = done.operation;
       local = local;
+      progress = done.progress;
       allowed =
           allows_reply cell l _ op reply_done step (a.asked.operation ∙ sym c.op-op.ensures) local
           (has_steps (one_word_shape c.args.rows.now.callers c.args.rows.now.cap cell) (who_of a.caller) l a.op c.requires.caller.seat.local a.asked)

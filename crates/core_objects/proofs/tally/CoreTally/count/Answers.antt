@@ -5,7 +5,7 @@ use Rattle.world_core.specs.Local.{Local, Object_step}
 use Rattle.row_table.specs.Callers.{local_with, who_of}
 use Rattle.object_orders.specs.OneWord.{one_word_shape}
 use Rattle.object_orders.specs.TallyAndCell.{tally}
-use Rattle.core_objects.proofs.OneWordCalls.{no_steps, one_step, allows_bad, allows_reply, has_steps}
+use Rattle.core_objects.proofs.OneWordCalls.{no_steps, no_progress_made, one_step, allows_bad, allows_reply, has_steps}
 use Rattle.core_objects.proofs.tally.CoreTally.count.Goals as goal
 
 pub returns-then-not-makes_step : goal.returns-then-not-makes_step
@@ -19,6 +19,7 @@ returns-then-not-makes_step c =
       still = (c.requires.caller, refl);
       operation = refl;
       local = no_steps l c.requires.first;
+      progress = no_progress_made l;
       allowed = allows_bad tally l a.op a.asked.operation none;
     }
 
@@ -37,6 +38,7 @@ returns c =
       still = done.still;
       operation = done.operation;
       local = local;
+      progress = done.progress;
       allowed =
           allows_reply tally l _ a.op _ step a.asked.operation local
           (has_steps (one_word_shape c.args.rows.now.callers c.args.rows.now.cap tally) (who_of a.caller) l a.op c.requires.caller.seat.local a.asked) some
