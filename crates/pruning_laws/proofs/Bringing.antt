@@ -68,8 +68,7 @@ continues-alike key part next is book cut one other (place ∷ rest) alike goes 
       may_come = goes.0.may_come;
       recorded = goes.0.recorded;
       reply = sym (alike-reply key part next is one other (word_at book place) alike) ∙ goes.0.reply;
-    } in
-    (
+    } in (
       there,
       continues-alike key part next is book (raised cut place.caller) (list_after book next one place) (list_after book next other place) rest
           (alike-after key part next is one other (word_at book place) alike) goes.1,
@@ -133,8 +132,8 @@ forced_key_goes_first key part next is book cut list forced k (p ∷ rest) wide 
       | inr lacks ↦
           let inside : p.caller < length cut = within_cut book cut (call_at p) wide goes.0.may_come.is_call in
           let apart : forced ≢ p.caller = λ (e : forced ≡ p.caller).
-              lacks (ap (λ (c : Call). key (unwrap_or (operation_of book c) 0))
-              (same_call (call_at p) (next_call cut forced) (sym e) (goes.0.may_come.next ∙ ap (λ (i : ℕ). get_or cut i 0) (sym e))) ∙ with) in
+          lacks (ap (λ (c : Call). key (unwrap_or (operation_of book c) 0))
+          (same_call (call_at p) (next_call cut forced) (sym e) (goes.0.may_come.next ∙ ap (λ (i : ℕ). get_or cut i 0) (sym e))) ∙ with) in
           let wider : length book ≤ length (raised cut p.caller) = omega (arith, wide, length-set cut p.caller (get_or cut p.caller 0 + 1)) in
           let stays : IsForced book (raised cut p.caller) forced = forced-stays book cut forced p.caller valid inside apart force in
           let call : next_call (raised cut p.caller) forced ≡ next_call cut forced
@@ -144,12 +143,12 @@ forced_key_goes_first key part next is book cut list forced k (p ∷ rest) wide 
           let x : Place = on.0 in
           let there = on.2.0.may_come in
           let unforced : Precedes book (next_call cut forced) (call_at x) → ⊥ = λ (before : Precedes book (next_call cut forced) (call_at x)).
-              let held : get_or cut forced 0 < get_or (raised cut p.caller) forced 0 = there.preceded (next_call cut forced) before in
-              omega (arith, held, raised_other cut p.caller forced apart) in
+          let held : get_or cut forced 0 < get_or (raised cut p.caller) forced 0 = there.preceded (next_call cut forced) before in
+          omega (arith, held, raised_other cut p.caller forced apart) in
           let out : get_or cut p.caller 0 ≤ p.number = omega (arith, goes.0.may_come.next) in
           let free : Precedes book (call_at p) (call_at x) → ⊥ = forced-free book cut forced (call_at p) (call_at x) valid one force out unforced in
           let others : p.caller ≢ x.caller = λ (e : p.caller ≡ x.caller).
-              free (inr (e, omega (arith, there.next, goes.0.may_come.next, raised_same cut p.caller inside, ap (λ (i : ℕ). get_or (raised cut p.caller) i 0) e))) in
+          free (inr (e, omega (arith, there.next, goes.0.may_come.next, raised_same cut p.caller inside, ap (λ (i : ℕ). get_or (raised cut p.caller) i 0) e))) in
           let may : MayComeNext book cut (call_at x) = record {
             is_call = there.is_call;
             next = there.next ∙ raised_other cut p.caller x.caller (λ e. others (sym e));
@@ -158,8 +157,7 @@ forced_key_goes_first key part next is book cut list forced k (p ∷ rest) wide 
               | inr new ↦
                   absurd (free (subst (λ (c : Call). Precedes book c (call_at x)) (same_call a (call_at p) new.0 (new.1 ∙ sym goes.0.may_come.next)) before))
             ];
-          } in
-          (
+          } in (
             x,
             p ∷ on.1,
             swapped key part next is book cut list k p x on.1 wide others on.3 lacks may (goes.0, on.2),

@@ -92,13 +92,12 @@ exchange book next cut list a b (place ∷ rest) wide h goes =
           let after : list_after book next list place ≡ list_after book next list (moved b place.reply)
           = ap (λ (o : Option ℕ). (next list (unwrap_or o 0)).0) (ap (operation_of book) is ∙ h.same) in
           let cuts : raised (raised cut b.caller) place.caller ≡ raised (raised cut a.caller) b.caller
-          = ap (raised (raised cut b.caller)) first ∙ raised_twice cut b.caller a.caller (λ e. h.apart (sym e)) in
-          (
+          = ap (raised (raised cut b.caller)) first ∙ raised_twice cut b.caller a.caller (λ e. h.apart (sym e)) in (
             moved b place.reply ∷ rest,
             (
               it,
               subst (λ (l : List ℕ). Continues book next (raised (raised cut a.caller) b.caller) l rest) after
-              (subst (λ (c : List ℕ). Continues book next c (list_after book next list place) rest) cuts goes.1),
+                  (subst (λ (c : List ℕ). Continues book next c (list_after book next list place) rest) cuts goes.1),
             ),
             omega arith,
           )
@@ -133,8 +132,7 @@ exchange book next cut list a b (place ∷ rest) wide h goes =
             let wider : length book ≤ length (raised cut place.caller) = omega (arith, wide, length-set cut place.caller (get_or cut place.caller 0 + 1)) in
             let on = exchange book next (raised cut place.caller) (list_after book next list place) a b rest wider
             (exchanged-later book cut a b place.caller inside (λ e. not_first (sym e)) (λ e. not_second (sym e)) h)
-            (subst (λ (c : List ℕ). Continues book next c (list_after book next list place) rest) (raised_twice cut b.caller place.caller (λ e. not_second (sym e))) goes.1) in
-            (
+            (subst (λ (c : List ℕ). Continues book next c (list_after book next list place) rest) (raised_twice cut b.caller place.caller (λ e. not_second (sym e))) goes.1) in (
               place ∷ on.0,
               (
                 there,

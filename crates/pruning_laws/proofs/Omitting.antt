@@ -26,8 +26,7 @@ goes_on_without book next cut list b (place ∷ rest) wide one may free goes =
       | inl same ↦
           let number : place.number ≡ b.number + 1
           = first.may_come.next ∙ (ap (λ (i : ℕ). get_or (raised cut b.caller) i 0) same ∙ (raised_same cut b.caller inb ∙ ap (λ (n : ℕ). n + 1) (sym may.next))) in
-          let after : b.number < place.number = omega (arith, number) in
-          (
+          let after : b.number < place.number = omega (arith, number) in (
             [],
             λ (x : Call) (answered : IsAnswered book x). held_without book cut b inb may.next free x answered
                 (first.may_come.preceded x (unanswered-last book b (call_at place) x one free (sym same) after answered)),
