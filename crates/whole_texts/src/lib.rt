@@ -6,9 +6,9 @@ mod certificates;
 #[cfg(test)]
 mod pictures;
 #[cfg(test)]
-mod reports;
-#[cfg(test)]
 mod round_trips;
+#[cfg(test)]
+mod run_reports;
 #[cfg(test)]
 mod scripts;
 #[cfg(test)]
