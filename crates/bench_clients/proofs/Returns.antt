@@ -1,5 +1,5 @@
 -- Clients that are finished, and their callers back on the bench.
-use Rattle.std.proofs.Common.{◌≡◌, ◌≢◌, ◌∙◌, sym, subst, ap, refl, inl, inr, ℕ, ◌+◌, ◌<◌, ◌≤◌, Bool, true, false, ◌||◌, List, [], ◌∷◌, ◌++◌, Some, length, slice_get, slice_index, arith}
+use Rattle.std.proofs.Common.{◌≡◌, ◌≢◌, ◌∙◌, sym, subst, ap, refl, inl, inr, ℕ, ◌+◌, ◌%◌, ◌<◌, ◌≤◌, Bool, true, false, ◌||◌, List, [], ◌∷◌, ◌++◌, Some, length, slice_get, slice_index, arith}
 use Rattle.std.specs.Prelude.{Option, IfSome}
 use Rattle.std.proofs.lemmas.Bool.{cases_lt, false≢true}
 use Rattle.std.proofs.lemmas.List.{length_push}
@@ -8,6 +8,7 @@ use Rattle.list_laws.proofs.Places.{slice_get-push_old, slice_get-push_last}
 use Rattle.world_core.specs.Local.{Local, Object_step}
 use Rattle.world_core.specs.CallSteps.{all_steps_of}
 use Rattle.call_lines.specs.declared.line.Line.{Line}
+use Rattle.call_lines.specs.Lines.{any_error}
 use Rattle.row_table.specs.declared.bench.Bench.{Bench}
 use Rattle.call_phases.specs.declared.stand.Stand.{Stand}
 use Rattle.call_phases.specs.declared.stand.Stand.TheVariants.{Idle, Announced, Answered, Viewed, Published, Halted, Unjudged}
@@ -16,7 +17,7 @@ use Rattle.call_phases.specs.Clients.{Spent, HasSpent, phases_by}
 use Rattle.call_phases.specs.Ends.{Sequential, HasLeftAt}
 use Rattle.call_phases.specs.Asking.{Fits, PassCount, FitsCaller}
 use Rattle.call_phases.specs.Course.{HasTold, HasCounted}
-use Rattle.call_phases.specs.Finishing.{is_unjudged, KeepsAsked, Leaves}
+use Rattle.call_phases.specs.Finishing.{is_unjudged, KeepsAsked, IsLeftStanding, Leaves}
 use Rattle.call_phases.specs.declared.client.Client.{Client}
 use Rattle.call_phases.specs.declared.finished.Finished.{Finished}
 use Rattle.call_phases.proofs.Told.{if_some_as}
@@ -25,8 +26,9 @@ use Rattle.world_core.specs.Calls.{Made, calls_in}
 use Rattle.call_lines.specs.Phases.{Progress, IsProgressAfter, HasMade, IsTold}
 use Rattle.call_lines.specs.Allotments.{operations_at}
 use Rattle.row_table.specs.declared.rows.Rows.{Rows}
+use Rattle.row_table.specs.Benches.{fresh_stance}
 use Rattle.row_table.specs.declared.caller.Caller.{Caller}
-use Rattle.row_table.specs.Callers.{shape_of, who_of, local_with, on_bench, IsCallerOf}
+use Rattle.row_table.specs.Callers.{shape_of, who_of, local_with, stance_of, on_bench, stance_on, IsCallerOf}
 use Rattle.drv_wrapper.specs.Stands.{IsSame}
 use Rattle.bench_clients.specs.Work.{Says, IsReady, HasRun}
 use Rattle.bench_clients.specs.Starts.{Course, IsUnused, IsNewCount, IsFreshPass, IsClientOf, IsStart}
@@ -57,17 +59,19 @@ module _ {P T : Type 0} (meaning : P → ℕ → ℕ → Meaning) (r : Rows P) (
 
   -- a caller that was back is back still when another comes
   still_back : (b c : Bench P) (passes passes' : List T) (lines lines' : List (List Line)) (wanted wanted' : Bool) (i : ℕ) (pass : T) (own : List Line)
-      → on_bench c i ≡ on_bench b i → passes' ≡ passes ++ pass ∷ [] → lines' ≡ lines ++ own ∷ [] → (wanted' ≡ false → wanted ≡ false)
+      → (on_bench c i ≡ on_bench b i) × (stance_on c i ≡ stance_on b i) → passes' ≡ passes ++ pass ∷ [] → lines' ≡ lines ++ own ∷ [] → (wanted' ≡ false → wanted ≡ false)
       → Back b passes lines wanted i → Back c passes' lines' wanted' i
   still_back b c passes passes' lines lines' wanted wanted' i pass own same pass_put lines_put weaker h = record {
     local = h.local;
     pass = h.pass;
     own = h.own;
     phases = h.phases;
-    here = same ∙ h.here;
+    here = same.0 ∙ h.here;
     pass_here = subst (λ (ps : List T). slice_get ps i ≡ Some h.pass) (sym pass_put) (slice_get-push_old passes pass i h.pass h.pass_here);
     lines_here = subst (λ (ls : List (List Line)). slice_get ls i ≡ Some h.own) (sym lines_put) (slice_get-push_old lines own i h.own h.lines_here);
     back = h.back;
+    stands = record { stance = h.stands.stance; here = same.1 ∙ h.stands.here; standing = h.stands.standing };
+    free = λ none. h.free (weaker none);
     left = λ none. h.left (weaker none);
   }
 
@@ -89,7 +93,7 @@ module _ {P T : Type 0} (meaning : P → ℕ → ℕ → Meaning) (r : Rows P) (
       → k ≡ length passes → k ≡ length lines → (wanted' ≡ false → (wanted ≡ false) × (one ≡ false))
       → AreBack meaning r says fits count n k course b passes lines wanted
       → ComesBack meaning r says fits count course k c passes passes' lines lines' one
-      → ((i : ℕ) → i ≢ k → on_bench c i ≡ on_bench b i)
+      → ((i : ℕ) → i ≢ k → (on_bench c i ≡ on_bench b i) × (stance_on c i ≡ stance_on b i))
       → AreBack meaning r says fits count n (k + 1) course c passes' lines' wanted'
   one_more_back b c passes passes' lines lines' wanted wanted' one k at_pass at_lines weaker h come others = record {
     back = λ i low.
@@ -105,12 +109,14 @@ module _ {P T : Type 0} (meaning : P → ℕ → ℕ → Meaning) (r : Rows P) (
             lines_here = subst (λ (m : ℕ). slice_get lines' m ≡ Some come.own) (sym at_lines)
                 (subst (λ (ls : List (List Line)). slice_get ls (length lines) ≡ Some come.own) (sym come.lines_put) (slice_get-push_last lines come.own));
             back = come.back;
+            stands = come.stands;
+            free = λ none. come.free (weaker none).1;
             left = λ none. come.left (weaker none).1;
           })
           | inl old ↦ still_back b c passes passes' lines lines' wanted wanted' i come.pass come.own (others i (λ same. omega (arith, old, same)))
               come.pass_put come.lines_put (λ none. (weaker none).0) (h.back i old)
         ];
-    gone = λ i high within. others i (λ same. omega (arith, high, same)) ∙ h.gone i (omega (arith, high)) within;
+    gone = λ i high within. (others i (λ same. omega (arith, high, same))).0 ∙ h.gone i (omega (arith, high)) within;
   }
 
 -- a pass that fits a caller fits it by what is known of the caller
@@ -130,10 +136,12 @@ module _ {P T E : Type 0} (meaning : P → ℕ → ℕ → Meaning) (r : Rows P)
       → IsSame (caller_at c.stand) f.caller → f.pass ≡ c.pass → f.ending ≡ c.sheet.ending → f.wants_memory ≡ is_unjudged c.stand
       → HasMade c.sheet.operations.now (phases_by c) (local_with f.caller)
       → KeepsAsked (shape_of meaning r).program c.sheet.who (phases_by c) (local_with f.caller)
+      → IsLeftStanding (phases_by c) (local_with f.caller) (stance_of f.caller)
+      → (is_unjudged c.stand ≡ false → any_error f.lines.items ≡ false → phases_by c % 5 ≡ 0 → stance_of f.caller ≡ fresh_stance)
       → Leaves (says (object f.ending)) r.callers c.sheet.operations.now c.stand c.sheet.lines.items (local_with f.caller) f.lines.items
-      → on_bench b (who_of f.caller) ≡ Some (local_with f.caller) → passes' ≡ passes ++ f.pass ∷ [] → lines' ≡ lines ++ f.lines.items ∷ []
+      → (on_bench b (who_of f.caller) ≡ Some (local_with f.caller)) × (stance_on b (who_of f.caller) ≡ Some (stance_of f.caller)) → passes' ≡ passes ++ f.pass ∷ [] → lines' ≡ lines ++ f.lines.items ∷ []
       → ComesBack meaning r says fits count course c.sheet.who b passes passes' lines lines' f.wants_memory
-  client_back c f b passes passes' lines lines' of spent same pass ending wanted phases asked leaves here pass_put lines_put =
+  client_back c f b passes passes' lines lines' of spent same pass ending wanted phases asked standing free leaves here pass_put lines_put =
       let who : who_of f.caller ≡ c.sheet.who = same.who ∙ of.work.course.number in
       let judges : object f.ending ≡ course.object = ap object ending ∙ of.judges in
       record {
@@ -141,7 +149,7 @@ module _ {P T E : Type 0} (meaning : P → ℕ → ℕ → Meaning) (r : Rows P)
         pass = f.pass;
         own = f.lines.items;
         phases = phases_by c;
-        here = subst (λ (i : ℕ). on_bench b i ≡ Some (local_with f.caller)) who here;
+        here = subst (λ (i : ℕ). on_bench b i ≡ Some (local_with f.caller)) who here.0;
         pass_put = pass_put;
         lines_put = lines_put;
         back = record {
@@ -157,6 +165,8 @@ module _ {P T E : Type 0} (meaning : P → ℕ → ℕ → Meaning) (r : Rows P)
                 told_is = if_some_as k.told (HasTold c.stand c.sheet.lines.items) (IsTold (phases_by c) (calls_in (local_at_stand c.stand))) (λ pairs t. t.told) h.asked.told_is;
               }) of.work.pass.counts));
         };
+        stands = record { stance = stance_of f.caller; here = subst (λ (i : ℕ). stance_on b i ≡ Some (stance_of f.caller)) who here.1; standing = standing };
+        free = λ none. free (sym wanted ∙ none);
         left = λ none.
             subst (λ (o : Sequential). HasLeftAt (says o) r.callers (operations_at course.operations c.sheet.who) (slice_index course.allotments c.sheet.who) (phases_by c) (local_with f.caller) f.lines.items) judges
             (subst (λ (ops : List ℕ). HasLeftAt (says (object f.ending)) r.callers ops (slice_index course.allotments c.sheet.who) (phases_by c) (local_with f.caller) f.lines.items) of.operations
@@ -231,6 +241,11 @@ module _ {P T : Type 0} where
                     (subst (λ (cs : List Made). IsTold 0 cs []) (sym calls) (record { operations = refl; replies = refl }))) h.silent;
               }) free.counts;
         };
+        stands = record {
+          stance = fresh_stance;
+          here = unused.stance;
+          standing = record { within = λ other. absurd (other refl); between = λ live. (unused.idle, refl) };
+        };
       }
 
   -- what is said beside its lines
@@ -243,4 +258,5 @@ module _ {P T : Type 0} where
     here = h.here;
     pass_here = h.pass_here;
     back = h.back;
+    stands = h.stands;
   }

@@ -1,18 +1,21 @@
 -- What callers leave that are back on their bench.
-use Rattle.std.specs.Prelude.{◌≡◌, ℕ, ◌<◌, ◌≤◌, Bool, false, List, [], ◌∷◌, ◌++◌, Option, Some, None, IfSome, slice_get, slice_index}
+use Rattle.std.specs.Prelude.{◌≡◌, ℕ, ◌%◌, ◌<◌, ◌≤◌, Bool, false, List, [], ◌∷◌, ◌++◌, Option, Some, None, IfSome, slice_get, slice_index}
 use Rattle.world_core.specs.Shape.{Meaning, Shape}
 use Rattle.world_core.specs.Local.{Local}
 use Rattle.world_core.specs.CallSteps.{all_steps_of}
 use Rattle.world_core.specs.Calls.{calls_in}
 use Rattle.call_lines.specs.declared.line.Line.{Line}
+use Rattle.call_lines.specs.Lines.{any_error}
 use Rattle.call_lines.specs.Phases.{HasMade, IsTold, asked}
 use Rattle.call_lines.specs.Allotments.{operations_at}
 use Rattle.row_table.specs.declared.rows.Rows.{Rows}
 use Rattle.row_table.specs.declared.bench.Bench.{Bench}
-use Rattle.row_table.specs.Callers.{shape_of, on_bench}
+use Rattle.row_table.specs.declared.stance.Stance.{Stance}
+use Rattle.row_table.specs.Benches.{fresh_stance}
+use Rattle.row_table.specs.Callers.{shape_of, on_bench, stance_on}
 use Rattle.call_phases.specs.Asking.{Fits, PassCount}
 use Rattle.call_phases.specs.Ends.{Sequential, HasLeftAt}
-use Rattle.call_phases.specs.Finishing.{KeepsAsked}
+use Rattle.call_phases.specs.Finishing.{KeepsAsked, IsLeftStanding}
 use Rattle.call_phases.specs.Clients.{HasSpent}
 use Rattle.call_phases.specs.declared.client.Client.{Client}
 use Rattle.bench_clients.specs.Work.{Says}
@@ -46,8 +49,16 @@ abbrev pub HasLeftLines : Says → ℕ → Course → ℕ → ℕ → Local → 
 HasLeftLines says n course i p l own =
     HasLeftAt (says course.object) n (operations_at course.operations i) (slice_index course.allotments i) p l own
 
+-- How caller i stands on the bench that has made so many phases: within a call it is halted, and where it is live it is free for its
+-- next call.
+pub record StandsAgain {P : Type 0} (b : Bench P) (i phases : ℕ) (l : Local) : Type 0 where
+  pub stance : Stance
+  pub here : stance_on b i ≡ Some stance
+  pub standing : IsLeftStanding phases l stance
+
 module _ {P T : Type 0} where
-  -- What a caller i leaves that comes back to the bench: its pass is put behind the others, and so are its lines.
+  -- What a caller i leaves that comes back to the bench: its pass is put behind the others, and so are its lines. Where no
+  -- line is an error and it stopped between two calls, or made all of them, it is free for its next call.
   pub record ComesBack (meaning : P → ℕ → ℕ → Meaning) (r : Rows P) (says : Says) (fits : Fits T) (count : T → Option PassCount) (course : Course) (i : ℕ) (b : Bench P) (passes passes' : List T) (lines lines' : List (List Line)) (wanted : Bool) : Type 0 where
     pub local : Local
     pub pass : T
@@ -57,6 +68,8 @@ module _ {P T : Type 0} where
     pub pass_put : passes' ≡ passes ++ pass ∷ []
     pub lines_put : lines' ≡ lines ++ own ∷ []
     pub back : IsBackWith (shape_of meaning r) fits count course i phases local pass
+    pub stands : StandsAgain b i phases local
+    pub free : wanted ≡ false → any_error own ≡ false → phases % 5 ≡ 0 → stands.stance ≡ fresh_stance
     pub left : wanted ≡ false → HasLeftLines says r.callers course i phases local own
 
   -- Caller i is back on the bench, with its pass among these and its lines among those. Where memory was wanted, of whichever caller,
@@ -70,6 +83,8 @@ module _ {P T : Type 0} where
     pub pass_here : slice_get passes i ≡ Some pass
     pub lines_here : slice_get lines i ≡ Some own
     pub back : IsBackWith (shape_of meaning r) fits count course i phases local pass
+    pub stands : StandsAgain b i phases local
+    pub free : wanted ≡ false → any_error own ≡ false → phases % 5 ≡ 0 → stands.stance ≡ fresh_stance
     pub left : wanted ≡ false → HasLeftLines says r.callers course i phases local own
 
   -- Of the first n callers those below k are back, and no other.
@@ -85,3 +100,4 @@ module _ {P T : Type 0} where
     pub here : on_bench b i ≡ Some local
     pub pass_here : slice_get passes i ≡ Some pass
     pub back : IsBackWith (shape_of meaning r) fits count course i phases local pass
+    pub stands : StandsAgain b i phases local

@@ -28,7 +28,7 @@ use Rattle.call_phases.specs.Finishing.{end_at, is_unjudged}
 use Rattle.call_phases.proofs.Lines.{one_more_line, no_more_errors}
 
 -- an error line among some lines is an error of them
-error_among : (own : List Line) (k : ℕ) (line : Line) → slice_get own k ≡ Some line → is_error line ≡ true → any_error own ≡ true
+pub error_among : (own : List Line) (k : ℕ) (line : Line) → slice_get own k ≡ Some line → is_error line ≡ true → any_error own ≡ true
 error_among [] k line there error = absurd (none-some line there)
 error_among (first ∷ own) zero line there error = ap (λ (b : Bool). b || any_error own) (ap is_error (same_Some first line there) ∙ error)
 error_among (first ∷ own) (suc k) line there error = behind (is_error first) (any_error own) (error_among own k line there error)

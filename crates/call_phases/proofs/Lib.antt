@@ -11,3 +11,4 @@ pub mod Leaving
 pub mod Worked
 pub mod Kept
 pub mod Asked
+pub mod Left

@@ -1,15 +1,18 @@
 -- What a client leaves that is finished.
-use Rattle.std.specs.Prelude.{◌≡◌, ℕ, ◌%◌, true, false, Bool, IsTrue, List, [], Option, Some, None, length}
+use Rattle.std.specs.Prelude.{◌≡◌, ◌≢◌, ℕ, ◌%◌, true, false, Bool, IsTrue, List, [], Option, Some, None, length}
 use Rattle.book_base.specs.declared.call.Record.{Record}
 use Rattle.world_core.specs.Shape.{Meaning}
-use Rattle.world_core.specs.Local.{Local}
+use Rattle.world_core.specs.Local.{Local, IsIdle}
 use Rattle.world_core.specs.CallSteps.{steps_now}
 use Rattle.call_lines.specs.declared.line.LineEnd.{LineEnd}
 use Rattle.call_lines.specs.declared.line.LineEnd.TheVariants.{Pending, Unchecked}
 use Rattle.call_lines.specs.declared.line.Line.{Line}
+use Rattle.row_table.specs.declared.stance.Stance.{Stance}
+use Rattle.row_table.specs.Benches.{fresh_stance}
+use Rattle.row_table.specs.Callers.{stance_of}
 use Rattle.drv_wrapper.specs.States.{reply_viewed, view_viewed}
 use Rattle.call_phases.specs.Ends.{HasLeftAt}
-use Rattle.call_phases.specs.Stands.{phases_at}
+use Rattle.call_phases.specs.Stands.{caller_at, phases_at}
 use Rattle.call_phases.specs.Endings.{record_published}
 use Rattle.call_phases.specs.Clients.{Spent}
 use Rattle.call_phases.specs.declared.stand.Stand.{Stand}
@@ -21,7 +24,19 @@ pub record KeepsAsked (program : Meaning) (i phases : ℕ) (l : Local) : Type 0 
   pub unasked : phases % 5 ≡ 1 → steps_now l ≡ []
   pub asked : phases % 5 ≡ 2 → (reply : ℕ) × IsTrue (program.may_reply i l reply)
 
+-- How a caller is left that has made so many phases: within a call it is halted, and where it is live it is free for its next call.
+pub record IsLeftStanding (phases : ℕ) (l : Local) (stance : Stance) : Type 0 where
+  pub within : phases % 5 ≢ 0 → stance.live ≡ false
+  pub between : stance.live ≡ true → IsIdle l × (stance ≡ fresh_stance)
+
 module _ {P : Type 0} where
+  -- How a caller stands that is left there: as it stood where no call of it is under way, and else halted.
+  abbrev pub stance_left : Stand P → Stance
+  stance_left (Idle c) = stance_of c
+  stance_left (Halted c) = stance_of c
+  stance_left (Unjudged u) = stance_of u.caller
+  stance_left s = record (stance_of (caller_at s)) { live = false }
+
   -- The end of the line of a call that its caller leaves there: pending without its record, and unchecked with it.
   abbrev pub end_at : Stand P → Option LineEnd
   end_at (Idle c) = None

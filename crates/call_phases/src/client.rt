@@ -1,4 +1,4 @@
-ghost use Rattle.std.specs.Prelude.{◌≡◌, ◌+◌, ◌*◌, ◌<◌, ◌≤◌, length, vec_capacity};
+ghost use Rattle.std.specs.Prelude.{◌≡◌, ◌+◌, ◌*◌, ◌%◌, ◌<◌, ◌≤◌, false, length, vec_capacity};
 ghost use Rattle.row_gather.specs.Gathered.{IsGatheredBy};
 ghost use Rattle.call_phases.specs.Stands.{local_at_stand};
 
@@ -26,10 +26,12 @@ pub struct Client<'a, P, T, E> {
 
 impl<'a, P: Program, T, E: Ending> Client<'a, P, T, E> {
     ghost use Rattle.call_lines.specs.Phases.{HasMade};
-    ghost use Rattle.row_table.specs.Callers.{shape_of, local_with};
+    ghost use Rattle.call_lines.specs.Lines.{any_error};
+    ghost use Rattle.row_table.specs.Benches.{fresh_stance};
+    ghost use Rattle.row_table.specs.Callers.{shape_of, local_with, stance_of};
     ghost use Rattle.drv_wrapper.specs.Stands.{IsSame};
     ghost use Rattle.call_phases.specs.Stands.{caller_at, GoesOnFrom};
-    ghost use Rattle.call_phases.specs.Finishing.{is_unjudged, KeepsAsked, Leaves};
+    ghost use Rattle.call_phases.specs.Finishing.{is_unjudged, KeepsAsked, IsLeftStanding, Leaves};
     ghost use Rattle.call_phases.specs.Clients.{phases_by, HasSpent, IsUnderWay, HasPass, HasRoom, IsSameClient};
 
     /// Makes the next phase of the caller: announces its next operation, asks, takes the view, publishes, or ends
@@ -117,6 +119,9 @@ impl<'a, P: Program, T, E: Ending> Client<'a, P, T, E> {
         ensures wants_memory { result.wants_memory ≡ is_unjudged self.entry.stand }
         ensures made { HasMade self.entry.sheet.operations.now (phases_by self.entry) (local_with result.caller) }
         ensures asked { KeepsAsked (shape_of P.meaning _rows.now).program self.entry.sheet.who (phases_by self.entry) (local_with result.caller) }
+        ensures standing { IsLeftStanding (phases_by self.entry) (local_with result.caller) (stance_of result.caller) }
+        ensures free { is_unjudged self.entry.stand ≡ false → any_error result.lines.items ≡ false
+            → phases_by self.entry % 5 ≡ 0 → stance_of result.caller ≡ fresh_stance }
         ensures leaves { Leaves (E.says (E.object result.ending)) _rows.now.callers self.entry.sheet.operations.now self.entry.stand self.entry.sheet.lines.items (local_with result.caller) result.lines.items }
     {
         let Client {

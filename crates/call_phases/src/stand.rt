@@ -25,9 +25,10 @@ pub enum Stand<P = Outside> {
 
 impl<P> Stand<P> {
     ghost use Rattle.std.specs.Prelude.{◌≡◌, ◌↔◌, IsTrue};
+    ghost use Rattle.row_table.specs.Callers.{stance_of};
     ghost use Rattle.drv_wrapper.specs.Stands.{IsSame};
     ghost use Rattle.call_phases.specs.Stands.{caller_at, GoesOnFrom};
-    ghost use Rattle.call_phases.specs.Finishing.{end_at, is_unjudged};
+    ghost use Rattle.call_phases.specs.Finishing.{end_at, is_unjudged, stance_left};
 
     /// Whether the caller makes further phases: it isn't halted.
     pub fn goes_on(&self) -> bool
@@ -51,6 +52,7 @@ impl<P> Stand<P> {
     pub fn stop(self) -> (Caller<P>, Option<LineEnd>)
         ensures caller { IsSame (caller_at self) result.0 }
         ensures end { result.1 ≡ end_at self }
+        ensures stance { stance_of result.0 ≡ stance_left self }
     {
         match self {
             Stand::Idle(caller) | Stand::Halted(caller) => (caller, None),

@@ -146,6 +146,7 @@ other_object meaning r fit count plan allotments a o b passes i h = record {
   here = h.here;
   pass_here = h.pass_here;
   back = record { fits_caller = h.back.fits_caller; within = h.back.within; phases = h.back.phases; asked = h.back.asked; counts = h.back.counts };
+  stands = h.stands;
 }
 
 -- all are back, by the same object under another name

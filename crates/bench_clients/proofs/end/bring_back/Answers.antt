@@ -23,4 +23,5 @@ returns-clause-back g c =
     ap (λ (all : List Own). lines_in all) own_put ∙ map-append (λ (o : Own). o.lines.items) old (own ∷ []) in
     client_back _ _ _ _ _ _ _ c.args.client f c.back.new.bench _ _ _ _ c.requires.1.1.1.1.0 c.requires.1.1.1.1.1.0
     c.finish-caller.ensures.caller c.finish-caller.ensures.pass c.finish-caller.ensures.ending c.finish-caller.ensures.wants_memory
-    c.finish-caller.ensures.made c.finish-caller.ensures.asked c.finish-caller.ensures.leaves c.back.ensures.here.0 pass_put lines_put
+    c.finish-caller.ensures.made c.finish-caller.ensures.asked c.finish-caller.ensures.standing c.finish-caller.ensures.free
+    c.finish-caller.ensures.leaves c.back.ensures.here pass_put lines_put

@@ -83,7 +83,7 @@ loop-worker-preserved g c =
     one_more_back _ _ _ _ _ n g.course c.loop-worker.bench done.new.bench c.loop-worker.passes.items done.new.passes.items (lines_in c.loop-worker.lines.items) (lines_in done.new.lines.items)
     c.loop-worker.wants_memory (c.loop-worker.wants_memory || done.result) done.result k (omega arith) (omega (arith, inv.lines_count, long_old)) (neither_wanted c.loop-worker.wants_memory done.result)
     inv.back (same_caller _ _ _ _ _ n _ _ _ _ _ _ _ _ _ h.2 done.ensures.back)
-    (λ i other. (done.ensures.others i (λ same. other (same ∙ h.2))).0) in
+    (λ i other. done.ensures.others i (λ same. other (same ∙ h.2))) in
     record {
       workers = one_less_down _ _ _ _ c.in-Some.worker c.in-Some.ensures.items inv.workers;
       bench = done.ensures.bench;

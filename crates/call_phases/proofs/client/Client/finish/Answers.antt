@@ -2,12 +2,15 @@ use Rattle.std.proofs.Common.{◌≡◌, ◌∙◌, sym, subst, ap, ℕ, Bool, �
 use Rattle.std.specs.Result.{is_ok}
 use Rattle.world_core.specs.Local.{Local}
 use Rattle.call_lines.specs.declared.line.Line.{Line}
+use Rattle.call_lines.specs.Lines.{any_error}
+use Rattle.row_table.specs.declared.stance.Stance.{Stance}
 use Rattle.row_table.specs.Callers.{shape_of, local_with}
 use Rattle.call_phases.specs.declared.sheet.Sheet.{Sheet}
 use Rattle.call_phases.specs.Ends.{HasLeftAt}
 use Rattle.call_phases.specs.Stands.{phases_at}
-use Rattle.call_phases.specs.Finishing.{end_at, KeepsAsked}
+use Rattle.call_phases.specs.Finishing.{end_at, stance_left, IsLeftStanding, KeepsAsked}
 use Rattle.call_phases.proofs.Asked.{keeps_asked}
+use Rattle.call_phases.proofs.Left.{line_within, left_standing, left_free}
 use Rattle.call_phases.proofs.Leaving.{operation_left, noted_left, unnoted_left}
 use Rattle.call_phases.proofs.client.Client.finish.Goals as goal
 use Rattle.call_phases.proofs.client.Client.finish.Goals.{in-Some, in_default}
@@ -29,6 +32,23 @@ returns-clause-asked g c =
     let sheet = c.args.self.sheet in
     subst (λ (l : Local). KeepsAsked (shape_of g.P.Program.meaning c.args._rows.now).program sheet.who (phases_at (length sheet.lines.items) c.args.self.stand) l) (sym c.stop-caller.ensures.caller.local)
     (keeps_asked _ _ _ _ _ c.args.self.stand sheet.lines.items c.requires.course)
+
+pub returns-clause-standing : goal.returns-clause-standing
+returns-clause-standing g c =
+    let phases = phases_at (length c.args.self.sheet.lines.items) c.args.self.stand in
+    subst (λ (x : Stance). IsLeftStanding phases (local_with c.stop-caller.result.0) x) (sym c.stop-caller.ensures.stance)
+    (subst (λ (l : Local). IsLeftStanding phases l (stance_left c.args.self.stand)) (sym c.stop-caller.ensures.caller.local)
+    (left_standing _ _ _ _ _ c.args.self.sheet.lines.items c.args.self.stand c.requires.course))
+
+pub returns-clause-free : goal.returns-clause-free
+returns-clause-free g c judged none through =
+    let own = c.args.self.sheet.lines.items in
+    elim c.match-end.branch [
+      | in-Some w ↦ absurd (line_within c.args.self.stand w.in-Some.end (length own) (sym c.stop-caller.ensures.end ∙ w.in-Some.is) through)
+      | in_default w ↦
+          c.stop-caller.ensures.stance
+          ∙ left_free _ _ _ _ _ own c.args.self.stand c.requires.course judged (ap (λ (s : Sheet _). any_error s.lines.items) (sym w.sheet-is) ∙ none) through
+    ]
 
 pub returns-clause-leaves : goal.returns-clause-leaves
 returns-clause-leaves g c judged allotment spent =
