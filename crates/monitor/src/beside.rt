@@ -1,5 +1,6 @@
-ghost use Rattle.std.specs.Prelude.{◌≡◌, ◌≢◌, ℕ, true, is_some, [], ◌∷◌, None, Some};
+ghost use Rattle.std.specs.Prelude.{◌≡◌, ◌≢◌, ℕ, true, is_some, None, Some};
 ghost use Rattle.std.specs.List.{All, AllZip};
+ghost use Rattle.std.specs.Thread.{IsSend, IsSync};
 ghost use Rattle.world_core.specs.Local.{Local};
 ghost use Rattle.row_table.specs.Callers.{on_bench, IsBenchOf};
 ghost use Rattle.monitor.specs.Watching.{IsReady, HasWatched};
@@ -12,8 +13,8 @@ use crate::witness::Witness;
 use book_base::SeqObject;
 use row_table::{Bench, Rows};
 use std::alloc::Global;
-use std::thread::Threads;
-use work_halves::{Work, work_both};
+use std::thread::{Threads, join_mut};
+use work_halves::{Work, work_all};
 use world_core::Program;
 
 /// What a monitor leaves: its own witness, whether the board took a copy of it, and whether the monitor wanted memory.
@@ -70,12 +71,49 @@ fn bring_back<P: Program>(rows: &Rows<P>, bench: &mut Bench<P>, watch: Watch<P>)
     }
 }
 
-// The two watches of an array.
-fn both<P: Program>(_rows: &Rows<P>, watches: [Watch<P>; 2]) -> (Watch<P>, Watch<P>)
-    ensures { watches ≡ result.0 ∷ result.1 ∷ [] }
+// Two workers work side by side, over what both share.
+fn work_two<R: Threads, C: Sync, W: Work<C>>(rt: &R, shared: &C, one: &mut W, other: &mut W)
+    requires one { W.ready one.old shared.now }
+    requires other { W.ready other.old shared.now }
+    ensures one { W.done one.old shared.now one.new }
+    ensures other { W.done other.old shared.now other.new }
 {
-    let [first, second] = watches;
-    (first, second)
+    let mut first = ||
+        requires { IsSync C.row × IsSend W.row × W.ready one.now shared.now }
+        ensures { W.done one.entry.now shared.entry.now one.exit.now }
+    { one.work(shared) };
+    let mut second = ||
+        requires { IsSync C.row × IsSend W.row × W.ready other.now shared.now }
+        ensures { W.done other.entry.now shared.entry.now other.exit.now }
+    { other.work(shared) };
+    join_mut(rt, &mut first, &mut second);
+}
+
+// The workers of a list work, and beside them two workers of another kind, over what these two share.
+fn work_with_two<R: Threads + Sync, C: Sync, W: Work<C>, D: Sync, V: Work<D>>(
+    rt: &R,
+    shared: &C,
+    all: &mut [W],
+    aside: &D,
+    one: &mut V,
+    other: &mut V,
+)
+    requires all { All (λ w. W.ready w shared.now) all.old }
+    requires one { V.ready one.old aside.now }
+    requires other { V.ready other.old aside.now }
+    ensures all { AllZip (λ w d. W.done w shared.now d) all.old all.new }
+    ensures one { V.done one.old aside.now one.new }
+    ensures other { V.done other.old aside.now other.new }
+{
+    let mut list = ||
+        requires { IsSync R.row × IsSync C.row × IsSend W.row × All (λ w. W.ready w shared.now) all.now }
+        ensures { AllZip (λ w d. W.done w shared.entry.now d) all.entry.now all.exit.now }
+    { work_all(rt, shared, all) };
+    let mut two = ||
+        requires { IsSync R.row × IsSync D.row × IsSend V.row × V.ready one.now aside.now × V.ready other.now aside.now }
+        ensures { V.done one.entry.now aside.entry.now one.exit.now × V.done other.entry.now aside.entry.now other.exit.now }
+    { work_two(rt, aside, one, other) };
+    join_mut(rt, &mut list, &mut two);
 }
 
 // Two watches work while workers work, all side by side.
@@ -90,8 +128,8 @@ fn work_beside<
     shared: &C,
     all: &mut [W],
     watched: &Watched<S, P>,
-    first: Watch<P>,
-    second: Watch<P>,
+    mut first: Watch<P>,
+    mut second: Watch<P>,
 ) -> (Watch<P>, Watch<P>)
     requires ready { All (λ w. W.ready w shared.now) all.old }
     requires first { IsReady P.meaning watched.now.rows.now watched.now.board.now first }
@@ -102,9 +140,8 @@ fn work_beside<
     ensures second { HasWatched (S.init watched.now.sequential.now) (S.next watched.now.sequential.now)
         P.meaning watched.now.rows.now watched.now.board.now second result.1 }
 {
-    let mut watches = [first, second];
-    work_both(rt, shared, all, watched, &mut watches);
-    both(watched.rows, watches)
+    work_with_two(rt, shared, all, watched, &mut first, &mut second);
+    (first, second)
 }
 
 /// Two callers of a bench watch while workers work, all side by side.
