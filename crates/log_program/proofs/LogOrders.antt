@@ -109,6 +109,7 @@ log_orders_are_of_tickets init next n cap steps run =
     let found = the_order_is_of_effects init next sh (log_effects init next n cap) (has_effects init next n cap) steps run in (
       found.0,
       found.1,
+      found.2,
       λ p q a b lt at there.
           lower init next n cap steps run a.call b.call b.reply (found.2.ordered p q a b lt at there) (found.2.replied b (contained found.0 q b there)),
     )

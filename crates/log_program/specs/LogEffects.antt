@@ -6,7 +6,7 @@ use Rattle.book_base.specs.declared.call.Call.{Call}
 use Rattle.world_core.specs.Shape.{Shape}
 use Rattle.world_core.specs.World.{World, Step, IsRun, end_of, object_word}
 use Rattle.world_core.specs.History.{Done, IsLinearization, IsLinearizable, history_of}
-use Rattle.object_orders.specs.Effects.{Effects}
+use Rattle.object_orders.specs.Effects.{Effects, IsOrderOfEffects}
 use Rattle.log_program.specs.LogWords.{number_of, low_place, high_place, ticket_place, ticket_of}
 use Rattle.log_program.specs.LogProgram.{list_of, log_shape}
 
@@ -56,8 +56,8 @@ IsInTicketOrder s w order =
     (p q : ℕ) (a b : Done) → p < q → slice_get order p ≡ Some a → slice_get order q ≡ Some b
     → (x y : ℕ) × (x < y) × HasPlace s w a.call x × HasPlace s w b.call y
 
--- The object history of every run of a log is linearizable, for every sequential object, number of callers and cap, and the order of
--- tickets linearizes it.
+-- The object history of every run of a log is linearizable, for every sequential object, number of callers and cap. The order has just
+-- the calls whose tickets are placed, each with its reply, by the places of their tickets.
 abbrev pub LogsLinearize : Type 0
 LogsLinearize =
     (init : List ℕ) (next : List ℕ → ℕ → List ℕ × ℕ) (n cap : ℕ) (steps : List Step) → IsRun (log_shape init next n cap) steps
@@ -67,4 +67,5 @@ abbrev pub LogOrdersAreOfTickets : Type 0
 LogOrdersAreOfTickets =
     (init : List ℕ) (next : List ℕ → ℕ → List ℕ × ℕ) (n cap : ℕ) (steps : List Step) → IsRun (log_shape init next n cap) steps
     → (order : List Done) × IsLinearization init next (history_of (log_shape init next n cap) steps) order
+    × IsOrderOfEffects (log_shape init next n cap) (log_effects init next n cap) steps order
     × IsInTicketOrder (log_shape init next n cap) (end_of (log_shape init next n cap) steps) order

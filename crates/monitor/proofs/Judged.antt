@@ -59,7 +59,8 @@ module _ (init : List ℕ) (next : List ℕ → ℕ → List ℕ × ℕ) (s : Sh
   judged : (most : ℕ) (rounds : List Given) (own : Option Witness) → AreRounds init next s.callers most mine rounds own → AreJudgedRounds init next (book_in locals) most rounds
   judged most rounds None h = record {
     few = omega (arith, h.0);
-    legal = λ k given there past. let is = h.1 k given there in (is.region, legal given.cut is.legal);
+    regions = λ k given there. (h.1 k given there).region;
+    legal = λ k given there past. legal given.cut (h.1 k given there).legal;
     ends = inl h.0;
   }
   judged most rounds (Some w) h =
@@ -67,11 +68,15 @@ module _ (init : List ℕ) (next : List ℕ → ℕ → List ℕ × ℕ) (s : Sh
       let given : Given = record { region = M; cut = w.cut; since = ends.since } in
       record {
         few = h.0;
+        regions = λ k other there.
+            elim (slice_get-push_cases ends.before given k other (ap (λ (xs : List Given). slice_get xs k) (sym ends.is) ∙ there)) [
+              | inl old ↦ (ends.legal k other old).region
+              | inr new ↦ ap (λ (g : Given). g.region) new.1
+            ];
         legal = λ k other there past.
             let at : slice_get ends.before k ≡ Some other =
             get_before ends.before given other k (ap (λ (xs : List Given). slice_get xs k) (sym ends.is) ∙ there) (subst (λ (xs : List Given). k + 1 < length xs) ends.is past) in
-            let is = ends.legal k other at in
-            (is.region, legal other.cut is.legal);
+            legal other.cut (ends.legal k other at).legal;
         ends = inr (
           given,
           ap (λ (xs : List Given). slice_get xs (length xs - 1)) ends.is

@@ -39,11 +39,12 @@ RoundsAreRight =
     (init : List ℕ) (next : List ℕ → ℕ → List ℕ × ℕ) (s : Shape) (locals : List Local) (i : ℕ) (l m : Local) (own : Option Witness) (round : Round)
     → AreTogether s locals → i < s.callers → Grows m (local_at locals i) → HasFound init next s.callers l m own round → IsRightRound init next locals own round
 
--- These are the cuts of at most so many rounds over the calls of this book: at each cut but the last the book has a legal order; and
--- either there are as many, or the book at the last cut has none.
+-- These are the cuts of at most a number of rounds over the calls of this book. A scan of M gave each; at each cut but the last the
+-- book has a legal order; and either there are as many cuts as that, or the book at the last one has none.
 pub record AreJudgedRounds (init : List ℕ) (next : List ℕ → ℕ → List ℕ × ℕ) (book : List Page) (most : ℕ) (rounds : List Given) : Type 0 where
   pub few : length rounds ≤ most
-  pub legal : (k : ℕ) (given : Given) → slice_get rounds k ≡ Some given → k + 1 < length rounds → (given.region ≡ M) × HasLegalOrder init next (book_at given.cut book)
+  pub regions : (k : ℕ) (given : Given) → slice_get rounds k ≡ Some given → given.region ≡ M
+  pub legal : (k : ℕ) (given : Given) → slice_get rounds k ≡ Some given → k + 1 < length rounds → HasLegalOrder init next (book_at given.cut book)
   pub ends : (length rounds ≡ most) ⊎ ((last : Given) × (slice_get rounds (length rounds - 1) ≡ Some last) × ¬ HasLegalOrder init next (book_at last.cut book))
 
 -- The rounds that caller i made, after the cuts that it had before, are so judged by the calls of all callers.
