@@ -1,0 +1,10 @@
+//! Two monitors of one board beside a caller of a queue that loses an item: tests of their rounds, and of the witness
+//! that both know.
+#![tactic(auto)]
+
+#[cfg(test)]
+mod lossy_queue;
+#[cfg(test)]
+mod table;
+#[cfg(test)]
+mod two_monitors;
