@@ -1,0 +1,46 @@
+ghost use Rattle.std.specs.Prelude.{◌≡◌, []};
+ghost use Rattle.world_core.specs.CallSteps.{steps_now};
+ghost use Rattle.row_table.specs.declared.rows.Rows.{Rows as TheRows};
+ghost use Rattle.row_table.specs.Callers.{who_of, IsCallerOf, MayGet};
+ghost use Rattle.drv_wrapper.specs.Growth.{Grows};
+ghost use Rattle.drv_wrapper.specs.States.{caller_announced, who_announced, op_announced, announced_local, caller_answered, op_answered, reply_answered, answered_local};
+ghost use Rattle.call_phases.specs.Asking.{FitsCaller, ComesNoFurther};
+ghost use Rattle.core_runs.specs.Inside.{fits_inside, Serves};
+
+use call_phases::Asks;
+use core_objects::CoreObject;
+use drv_wrapper::{Announced, Answered};
+use row_table::Rows;
+
+/// An object inside the world, with the rows on which its callers make its steps: each caller asks it by its own
+/// pass.
+#[derive(Drop)]
+pub struct InsideObject<'a, O: CoreObject> {
+    pub object: &'a O,
+    pub rows: &'a Rows<O::P>,
+}
+
+impl<O: CoreObject> Asks for InsideObject<'_, O> {
+    type Program = O::P;
+
+    type Pass = O::Pass;
+
+    ghost serves = { λ asks r. Serves O.P.meaning (O.program_of asks.object.now) asks.rows.now r };
+
+    ghost fits = { λ asks. fits_inside O.fits };
+
+    fn ask(&self, announced: Announced<O::P>, pass: &mut O::Pass) -> Answered<O::P>
+        requires table { (r : TheRows O.P) × Serves O.P.meaning (O.program_of self.now.object.now) self.now.rows.now r × IsCallerOf O.P.meaning r (caller_announced announced) }
+        requires first { steps_now (announced_local announced) ≡ [] }
+        requires fits { FitsCaller (fits_inside O.fits) pass.old (caller_announced announced) }
+        ensures who { who_of (caller_answered result) ≡ who_announced announced }
+        ensures rows { (r : TheRows O.P) → Serves O.P.meaning (O.program_of self.now.object.now) self.now.rows.now r → IsCallerOf O.P.meaning r (caller_announced announced) → IsCallerOf O.P.meaning r (caller_answered result) }
+        ensures operation { op_answered result ≡ op_announced announced }
+        ensures allowed { MayGet O.P.meaning (caller_answered result) (reply_answered result) }
+        ensures calls { ComesNoFurther (announced_local announced) (answered_local result) }
+        ensures grows { Grows (announced_local announced) (answered_local result) }
+        ensures fits { FitsCaller (fits_inside O.fits) pass.new (caller_answered result) }
+    {
+        self.object.ask(self.rows, announced, pass)
+    }
+}

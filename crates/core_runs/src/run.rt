@@ -1,0 +1,75 @@
+ghost use Rattle.std.specs.Prelude.{◌≡◌, ℕ, ◌<◌, false, None, length, vec_len, IfOk};
+ghost use Rattle.std.specs.List.{list_any};
+ghost use Rattle.call_lines.specs.Allotments.{allotments_of};
+ghost use Rattle.call_lines.specs.Lines.{any_error};
+ghost use Rattle.row_table.specs.Callers.{shape_of, locals_on, IsBenchOf, HoldsAll};
+ghost use Rattle.core_objects.specs.CoreObjects.{AreOpenedWith, ArePassesFor};
+ghost use Rattle.bench_clients.specs.Starts.{course_of, AreRowsFor, IsUnused};
+ghost use Rattle.bench_clients.specs.Returns.{IsBackOn};
+ghost use Rattle.run_report.specs.Reporting.{IsReportOf};
+ghost use Rattle.core_runs.specs.Inside.{fits_inside};
+
+use crate::inside_object::InsideObject;
+use book_base::NoMemory;
+use call_phases::Shared;
+use client_scripts::Script;
+use core_objects::{CoreObject, runs_of};
+use reports::Report;
+use row_table::{Bench, Rows};
+use run_report::run_asked;
+use std::alloc::Global;
+use std::thread::Threads;
+
+/// Runs all callers of a script, each in a thread of its own where one can be had: each asks an object inside the
+/// world by its pass, with the object's steps as events of the same world, and judges each of its calls by the
+/// sequential object. The answer is their report, which is lawful, and no line of which is an error, since every
+/// run of the object's program is linearizable (Herlihy and Wing 1990).
+///
+/// Whatever the answer, the bench holds all callers again, the passes are in their order and fit the object steps
+/// that their callers have made, and each caller has made some first part of its phases: all of them where a
+/// report is answered. Want of memory is answered before the first call, or where a judgement wanted it.
+pub fn run_core<R: Threads + Sync, O: CoreObject + Sync>(
+    rt: &R,
+    alloc: Global,
+    rows: &Rows<O::P>,
+    bench: &mut Bench<O::P>,
+    object: &O,
+    passes: &mut Vec<O::Pass>,
+    script: &Script,
+) -> Result<Report, NoMemory>
+where
+    O::S: Sync,
+    O::P: Send + Sync,
+    O::Pass: Send,
+    requires program { AreOpenedWith O.P.meaning (O.program_of object.now) rows.now }
+    requires rows { AreRowsFor script.now rows.now }
+    requires bench { IsBenchOf O.P.meaning rows.now bench.old }
+    requires unused { (i : ℕ) → i < length script.now.operations → IsUnused bench.old i }
+    requires passes { ArePassesFor O.fits rows.now.callers rows.now.cap passes.old.items }
+    // For every answer.
+    ensures bench { IsBenchOf O.P.meaning rows.now bench.new × HoldsAll bench.new }
+    ensures all_passes { vec_len passes.new ≡ length script.now.operations }
+    ensures back { (i : ℕ) → i < length script.now.operations → IsBackOn O.P.meaning rows.now
+        (fits_inside O.fits) (λ pass. None)
+        (course_of script.now (allotments_of script.now.operations script.now.stops)
+        (record { init = O.S.init (O.sequential_of object.now); next = O.S.next (O.sequential_of object.now) }))
+        bench.new passes.new.items i }
+    // Where a report is answered.
+    ensures report { IfOk result (λ report. IsReportOf (O.S.init (O.sequential_of object.now))
+        (O.S.next (O.sequential_of object.now)) (shape_of O.P.meaning rows.now) (locals_on bench.new) script.now
+        (allotments_of script.now.operations script.now.stops) report) }
+    ensures no_error { IfOk result (λ report. list_any any_error report.lines ≡ false) }
+{
+    runs_of(object);
+    let asks = InsideObject { object, rows };
+    let shared = Shared { rows, asks: &asks };
+    run_asked(
+        rt,
+        alloc,
+        &shared,
+        bench,
+        object.sequential(),
+        passes,
+        script,
+    )
+}
