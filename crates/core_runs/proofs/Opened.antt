@@ -1,0 +1,19 @@
+-- Rows and passes that were opened for a run over an object inside the world.
+use Rattle.std.proofs.Common.{◌≡◌, ◌∙◌, sym, subst, ap, ℕ, List}
+use Rattle.world_core.specs.Shape.{Meaning}
+use Rattle.world_core.specs.Local.{Object_step}
+use Rattle.row_table.specs.declared.rows.Rows.{Rows}
+use Rattle.core_objects.specs.CoreObjects.{AreOpenedWith, ArePassesFor}
+
+module _ {P : Type 0} (r : Rows P) (n cap : ℕ) (callers : r.callers ≡ n) (most : r.cap ≡ cap) where
+  -- rows that were opened with a program were opened with the object's, where it is the same
+  pub opened_with : (meaning : P → ℕ → ℕ → Meaning) (p q : P) → r.program ≡ p → r.objects ≡ (meaning p n cap).objects → p ≡ q → AreOpenedWith meaning q r
+  opened_with meaning p q program objects same = record {
+    program_is = program ∙ same;
+    objects = objects ∙ ap (λ (x : P). (meaning x n cap).objects) same ∙ ap (λ (k : ℕ). (meaning q k cap).objects) (sym callers) ∙ ap (λ (k : ℕ). (meaning q r.callers k).objects) (sym most);
+  }
+
+  -- passes for as many callers and this cap are passes for these rows
+  pub passes_for_rows : {T : Type 0} (fits : T → ℕ → ℕ → ℕ → List Object_step → Type 0) (passes : List T) → ArePassesFor fits n cap passes → ArePassesFor fits r.callers r.cap passes
+  passes_for_rows fits passes h =
+      subst (λ (k : ℕ). ArePassesFor fits k r.cap passes) (sym callers) (subst (λ (k : ℕ). ArePassesFor fits n k passes) (sym most) h)
