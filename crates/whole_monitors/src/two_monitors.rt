@@ -104,10 +104,11 @@ fn make_rounds<K: Ledger + Send, L: Ledger + Send, R: Threads>(
     }
 }
 
-// What is shown of a witness: the counts of its cut, and how many calls and records of caller 0 its book has.
-type Shown = Option<(u64, u64, u64, u64, u64)>;
+/// What is shown of a witness: the counts of its cut, and how many calls and records of caller 0 its book has.
+pub type Shown = Option<(u64, u64, u64, u64, u64)>;
 
-fn shown(witness: Option<&Witness>) -> Shown {
+/// What is shown of a witness, where there is one.
+pub fn shown(witness: Option<&Witness>) -> Shown {
     let Some(witness) = witness else {
         return None;
     };
