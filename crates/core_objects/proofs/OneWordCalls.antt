@@ -33,7 +33,7 @@ no_progress_made l = ap (λ (xs : List Object_step). record (progress_of l) { st
 pub one_step : (l : Local) (step : Object_step) → steps_now l ≡ [] → record l { object_steps = with_step l.object_steps l.published step } ≡ with_steps l (step ∷ [])
 one_step l step none = ap (λ (xs : List Object_step). record l { object_steps = slice_set l.object_steps l.published (xs ++ step ∷ []) }) none
 
-is_this_reply : (x : Option ℕ) (reply : ℕ) → x ≡ Some reply → IsTrue (is_reply x reply)
+pub is_this_reply : (x : Option ℕ) (reply : ℕ) → x ≡ Some reply → IsTrue (is_reply x reply)
 is_this_reply x reply e = subst (λ (o : Option ℕ). IsTrue (is_reply o reply)) (sym e) (eq-eqb reply reply refl)
 
 -- an operation without a step may get the reply bad

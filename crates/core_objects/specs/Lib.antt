@@ -1,2 +1,4 @@
 pub mod CoreObjects
 pub mod OneWordPasses
+pub mod LogCalls
+pub mod LogPasses

@@ -1,9 +1,21 @@
-ghost use Rattle.std.specs.Prelude.{ℕ, List};
+ghost use Rattle.std.specs.Prelude.{◌≡◌, ℕ, ◌+◌, ◌<◌, ◌≤◌, List, [], ◌++◌, length, IfOk};
+ghost use Rattle.book_base.specs.declared.TheConstants.{MAX_CALLERS, MAX_CALLS};
 ghost use Rattle.world_core.specs.World.{Step, IsRun};
 ghost use Rattle.world_core.specs.History.{IsLinearizable, history_of};
-ghost use Rattle.core_objects.specs.CoreObjects.{shape_with};
+ghost use Rattle.world_core.specs.CallSteps.{steps_now, all_steps_of};
+ghost use Rattle.row_table.specs.Callers.{IsCallerOf};
+ghost use Rattle.drv_wrapper.specs.States.{who_announced, caller_announced, announced_local};
+ghost use Rattle.log_program.specs.LogProgram.{list_of};
+ghost use Rattle.core_objects.specs.CoreObjects.{shape_with, AreOpenedWith, HasReplied, ArePassesFor};
+ghost use Rattle.core_objects.specs.LogPasses.{FitsLog, object_of};
 
-use book_base::SeqObject;
+use crate::core_object::CoreObject;
+use crate::log_pass::{CorePass, log_passes_for};
+use crate::log_steps::{load_operations, place_ticket, store_operation};
+use book_base::{MAX_CALLERS, MAX_CALLS, NoMemory, OpWord, SeqObject, State};
+use drv_wrapper::Announced;
+use row_table::Rows;
+use std::alloc::Global;
 use world_core::{InWorld, Program};
 
 /// The program of the log of a sequential object: a call stores its operation, places its ticket in the log,
@@ -32,3 +44,96 @@ pub fn runs_of_log<S: SeqObject + Copy>(_program: &LogProgram<S>)
     ensures { (n cap : ℕ) (steps : List Step) → IsRun (shape_with (⟦<LogProgram<S> as Program>⟧.meaning _program.now) n cap) steps
         → IsLinearizable (S.init _program.now.object) (S.next _program.now.object) (history_of (shape_with (⟦<LogProgram<S> as Program>⟧.meaning _program.now) n cap) steps) }
 {}
+
+/// The log of a sequential object, as an object inside the world.
+#[derive(Drop)]
+pub struct CoreLog<S> {
+    object: S,
+}
+
+impl<S: SeqObject + Copy> CoreLog<S> {
+    /// The log of an object, and a pass for each of `n` callers with `cap` calls each, in order. It takes all the
+    /// memory that their calls need.
+    pub fn open(
+        alloc: Global,
+        object: S,
+        n: u32,
+        cap: u64,
+    ) -> Result<(CoreLog<S>, Vec<CorePass>), NoMemory>
+        requires some_callers { 1 ≤ n }
+        requires few_callers { n ≤ MAX_CALLERS }
+        requires some_calls { 1 ≤ cap }
+        requires few_calls { cap ≤ MAX_CALLS }
+        ensures object { IfOk result (λ r. object_of r.0 ≡ object) }
+        ensures passes { IfOk result (λ r. ArePassesFor FitsLog n cap r.1.items) }
+    {
+        let passes = log_passes_for(alloc, n, cap)?;
+        Ok((CoreLog { object }, passes))
+    }
+
+    // The reply to an operation after those of a log. What the state held before doesn't matter.
+    fn reply_after(&self, state: &mut State, log: &[OpWord], op: OpWord) -> u64
+        requires room { length log.now + 1 < state.old.room }
+        ensures reply { result ≡ (S.next self.now.object (list_of (S.next self.now.object) (S.init self.now.object) log.now) op).1 }
+        ensures room { state.new.room ≡ state.old.room }
+    {
+        self.object.reset(state);
+        for before in log {
+            self.object.step(state, *before);
+        }
+        self.object.step(state, op)
+    }
+}
+
+impl<S: SeqObject + Copy> CoreObject for CoreLog<S> {
+    ghost use Rattle.log_program.proofs.LogEffects.{logs_linearize};
+    ghost use Rattle.core_objects.specs.LogPasses.{FitsLog};
+
+    type S = S;
+
+    type P = LogProgram<S>;
+
+    type Pass = CorePass;
+
+    ghost sequential_of = { λ object. object.object };
+
+    ghost program_of = { λ object. record { object = object.object } };
+
+    ghost fits = { FitsLog };
+
+    ghost linearizes = { λ object n cap steps run. logs_linearize (S.init object.object) (S.next object.object) n cap steps run };
+
+    fn sequential(&self) -> &S {
+        &self.object
+    }
+
+    fn program(&self) -> LogProgram<S> {
+        LogProgram {
+            object: self.object,
+        }
+    }
+
+    fn reply(
+        &self,
+        rows: &Rows<LogProgram<S>>,
+        announced: &mut Announced<LogProgram<S>>,
+        pass: &mut CorePass,
+    ) -> u64
+        requires program { AreOpenedWith ⟦<LogProgram<S> as Program>⟧.meaning (record { object = self.now.object }) rows.now }
+        requires caller { IsCallerOf ⟦<LogProgram<S> as Program>⟧.meaning rows.now (caller_announced announced.old) }
+        requires first { steps_now (announced_local announced.old) ≡ [] }
+        requires fits { FitsLog pass.old (who_announced announced.old) rows.now.callers rows.now.cap (all_steps_of (announced_local announced.old)) }
+        ensures made { (made : HasReplied ⟦<LogProgram<S> as Program>⟧.meaning rows.now announced.old announced.new result)
+            × FitsLog pass.new (who_announced announced.old) rows.now.callers rows.now.cap (all_steps_of (announced_local announced.old) ++ made.steps) }
+    {
+        let places = u64::from(pass.callers) * pass.cap;
+        let number = u64::from(pass.caller) * pass.cap + announced.number();
+        let op = announced.op();
+        store_operation(rows, announced, number);
+        place_ticket(rows, announced, &mut pass.tickets, places, number);
+        load_operations(rows, announced, &pass.tickets, &mut pass.log);
+        let reply = self.reply_after(&mut pass.state, &pass.log, op);
+        pass.log.push(op).unwrap();
+        reply
+    }
+}

@@ -1,0 +1,14 @@
+use Rattle.std.proofs.Common.{◌≡◌, ◌≤◌, length, vec_capacity}
+use Rattle.core_objects.specs.LogCalls.{HasMade, KnowsPlaces, KnowsLog}
+use Rattle.core_objects.proofs.LogCalls.{meaning}
+use Rattle.core_objects.proofs.log_steps.load_operations.Given as goal
+
+abbrev pub invariant-loop-place : goal.invariant-loop-place
+invariant-loop-place g l =
+    record {
+      made : HasMade (meaning g.S.SeqObject.init g.S.SeqObject.next) l.rows l.fn.announced l.announced;
+      tickets : KnowsPlaces l.rows l.announced l.tickets;
+      log : KnowsLog l.rows l.announced l.log.items;
+      place : l.place ≡ length l.log.items;
+      capacity : vec_capacity l.fn.log ≤ vec_capacity l.log;
+    }

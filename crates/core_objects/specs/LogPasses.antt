@@ -1,0 +1,23 @@
+-- The passes of the log: whose they are, and what they know of it.
+use Rattle.std.specs.Prelude.{◌≡◌, ℕ, ◌+◌, ◌*◌, ◌≤◌, List, length, vec_capacity}
+use Rattle.world_core.specs.Local.{Object_step}
+use Rattle.core_objects.specs.declared.core_log.CoreLog.{CoreLog}
+use Rattle.core_objects.specs.declared.log_pass.CorePass.{CorePass}
+use Rattle.core_objects.specs.LogCalls.{KnowsTickets, KnowsOperations}
+
+-- The sequential object of a log.
+abbrev pub object_of : {S : Type 0} → CoreLog S → S
+object_of log = log.object
+
+-- A pass fits a caller, an n, a cap and some object steps where it is the pass of these, with capacity for the whole log, and knows just
+-- the tickets and the operations that these steps show.
+pub record FitsLog (pass : CorePass) (caller n cap : ℕ) (steps : List Object_step) : Type 0 where
+  pub caller_is : pass.caller ≡ caller
+  pub callers_are : pass.callers ≡ n
+  pub cap_is : pass.cap ≡ cap
+  pub tickets_fit : n * cap ≤ vec_capacity pass.tickets
+  pub log_fits : n * cap ≤ vec_capacity pass.log
+  pub state_fits : pass.state.room ≡ n * cap + 1
+  pub tickets_known : KnowsTickets (n * cap) pass.tickets.items steps
+  pub log_known : KnowsOperations (n * cap) pass.log.items steps
+  pub whole : length pass.log.items ≡ length pass.tickets.items

@@ -1,0 +1,54 @@
+ghost use Rattle.std.specs.Prelude.{◌≡◌, ◌≤◌, [], IfOk};
+ghost use Rattle.book_base.specs.declared.TheConstants.{MAX_CALLERS, MAX_CALLS};
+ghost use Rattle.core_objects.specs.CoreObjects.{ArePassesFor};
+ghost use Rattle.core_objects.specs.LogPasses.{FitsLog};
+
+use book_base::{MAX_CALLERS, MAX_CALLS, NoMemory, OpWord, State};
+use std::alloc::Global;
+
+/// What one caller holds to ask the log: whose it is, for how many callers and calls, and what the caller knows of
+/// the log.
+#[derive(Drop)]
+pub struct CorePass {
+    pub(crate) caller: u32,
+    pub(crate) callers: u32,
+    pub(crate) cap: u64,
+    // The tickets of the first places, and the operations that they name.
+    pub(crate) tickets: Vec<u64>,
+    pub(crate) log: Vec<OpWord>,
+    // What the operations leave, made anew for each reply.
+    pub(crate) state: State,
+}
+
+// The pass of a caller, for `n` callers, that knows nothing of the log.
+fn pass_for(alloc: Global, caller: u32, n: u32, cap: u64) -> Result<CorePass, NoMemory>
+    requires few_callers { n ≤ MAX_CALLERS }
+    requires few_calls { cap ≤ MAX_CALLS }
+    ensures { IfOk result (λ pass. FitsLog pass caller n cap []) }
+{
+    let places = u64::from(n) * cap;
+    let tickets = Vec::with_capacity(alloc, places as usize)?;
+    let log = Vec::with_capacity(alloc, places as usize)?;
+    let state = State::with_room(alloc, places + 1)?;
+    Ok(CorePass {
+        caller,
+        callers: n,
+        cap,
+        tickets,
+        log,
+        state,
+    })
+}
+
+// A pass for each of `n` callers, in order.
+pub(crate) fn log_passes_for(alloc: Global, n: u32, cap: u64) -> Result<Vec<CorePass>, NoMemory>
+    requires few_callers { n ≤ MAX_CALLERS }
+    requires few_calls { cap ≤ MAX_CALLS }
+    ensures { IfOk result (λ passes. ArePassesFor FitsLog n cap passes.items) }
+{
+    let mut passes = Vec::with_capacity(alloc, n as usize)?;
+    for caller in 0..n {
+        passes.push(pass_for(alloc, caller, n, cap)?)?;
+    }
+    Ok(passes)
+}
