@@ -2,7 +2,6 @@ pub mod ArgumentLemmas
 pub mod CommandLemmas
 pub mod CommandLineLemmas
 pub mod InputLemmas
-pub mod OrderLemmas
 pub mod OutputLemmas
 mod SetLemmas
 mod ScriptLemmas

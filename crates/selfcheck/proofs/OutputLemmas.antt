@@ -29,13 +29,14 @@ use Rattle.byte_streams.specs.Told.{AppendsPart}
 use Rattle.byte_streams.specs.Writing.{EndsWriting}
 use Rattle.byte_streams.proofs.WritingLemmas.{EndsWriting-weaker}
 use Rattle.selfcheck.specs.UpgradeLaws.{UpgradesSayTheSame, UpgradesKeepOrders}
-use Rattle.selfcheck.proofs.InputLemmas.{IsBookInput-from_told, IsBookInput-from_legal, IsBookInput-from_illegal, legal_or_illegal, book_or_fault, one_refusal}
+use Rattle.book_verdicts.proofs.BookLemmas.{IsTextOfBook-from_told, IsTextOfBook-from_legal, IsTextOfBook-from_illegal, legal_or_illegal, book_or_fault}
+use Rattle.book_verdicts.proofs.CertificateLemmas.{IsTextOfCertificate-from_legal, IsTextOfCertificate-from_faulty, certificate_or_fault, legal_or_faulty, one_order_fault}
+use Rattle.selfcheck.proofs.InputLemmas.{one_refusal}
 use Rattle.certificate_text.proofs.Readings.{one_fault}
 use Rattle.client_scripts.proofs.Readings as scripts
 use Rattle.setbook_text.proofs.SharpSetBooks as set_books
 use Rattle.selfcheck.proofs.SetLemmas.{IsSetInput-from_legal, IsSetInput-from_illegal, set_input_or_fault, legal_or_illegal_sets}
 use Rattle.selfcheck.proofs.ScriptLemmas.{IsScriptInput-from_shown, script_input_or_fault, run_statuses}
-use Rattle.selfcheck.proofs.OrderLemmas.{IsCertificateInput-from_legal, IsCertificateInput-from_faulty, certificate_or_fault, legal_or_faulty, one_order_fault}
 use Rattle.selfcheck.proofs.UpgradeLemmas.{old_or_fault, one_old_fault, old-from_upgraded, one_upgraded, says_the_same, one_order}
 
 -- ---- forms of texts: one case a form
@@ -82,13 +83,13 @@ answer_statuses (Soak number) bytes status text answer = run_statuses (IsNamedRu
 
 -- what is answered is an input of the wanted form
 answered_is_wanted : (command : Command) (bytes : List ℕ) (status : Status) (text : List ℕ) → IsAnswerOf command bytes status text → IsTextOf (form_of command) bytes
-answered_is_wanted Verify bytes Fine text answer = IsBookInput-from_legal bytes answer.0
-answered_is_wanted Verify bytes Found text answer = IsBookInput-from_illegal bytes answer.0
+answered_is_wanted Verify bytes Fine text answer = IsTextOfBook-from_legal bytes answer.0
+answered_is_wanted Verify bytes Found text answer = IsTextOfBook-from_illegal bytes answer.0
 answered_is_wanted Verify bytes _ text answer = absurd answer
-answered_is_wanted Sketch bytes Fine text answer = IsBookInput-from_told bytes answer.kind answer.book answer.told
+answered_is_wanted Sketch bytes Fine text answer = IsTextOfBook-from_told bytes answer.kind answer.book answer.told
 answered_is_wanted Sketch bytes _ text answer = absurd answer
-answered_is_wanted Order bytes Fine text answer = IsCertificateInput-from_legal bytes answer.0
-answered_is_wanted Order bytes Found text answer = IsCertificateInput-from_faulty bytes answer.0 answer.1
+answered_is_wanted Order bytes Fine text answer = IsTextOfCertificate-from_legal bytes answer.0
+answered_is_wanted Order bytes Found text answer = IsTextOfCertificate-from_faulty bytes answer.0 answer.1
 answered_is_wanted Order bytes _ text answer = absurd answer
 answered_is_wanted Upgrade bytes Fine text answer = old-from_upgraded bytes text answer
 answered_is_wanted Upgrade bytes _ text answer = absurd answer

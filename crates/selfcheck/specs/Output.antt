@@ -22,8 +22,10 @@ use Rattle.byte_streams.specs.declared.status.Status.{Status}
 use Rattle.byte_streams.specs.declared.status.Status.TheVariants.{Fine, Found, Usage, Refused, ReadFault, WriteFault, NoMemory}
 use Rattle.byte_streams.specs.declared.TheConstants.{INPUT_LIMIT}
 use Rattle.selfcheck.specs.Command.{command_of, reads_source}
-use Rattle.selfcheck.specs.Input.{Tells, IsBookInput, IsLegalInput, IsIllegalInput, IsRefusedFor}
-use Rattle.selfcheck.specs.Orders.{IsCertificateInput, IsLegalCertificate, IsFaultyCertificate, order_fault_text}
+use Rattle.book_verdicts.specs.Books.{Tells, IsTextOfBook, IsLegalBook, IsIllegalBook}
+use Rattle.book_verdicts.specs.Certificates.{IsTextOfCertificate, IsLegalCertificate, IsFaultyCertificate}
+use Rattle.selfcheck.specs.Input.{IsRefusedFor}
+use Rattle.selfcheck.specs.Orders.{order_fault_text}
 use Rattle.selfcheck.specs.ScriptInput.{IsScriptInput, IsRunOf, IsReplayOf, IsCertifiedOf, IsSoakOf}
 use Rattle.selfcheck.specs.SetInput.{IsSetInput, IsLegalSetInput, IsIllegalSetInput}
 use Rattle.byte_streams.specs.Told.{HasRead, AppendsPart, read_of}
@@ -52,8 +54,8 @@ form_of (Soak number) = NoForm
 
 -- the bytes are a text of this form
 abbrev pub IsTextOf : Form → List ℕ → Type 0
-IsTextOf BookForm bytes = IsBookInput bytes
-IsTextOf CertificateForm bytes = IsCertificateInput bytes
+IsTextOf BookForm bytes = IsTextOfBook bytes
+IsTextOf CertificateForm bytes = IsTextOfCertificate bytes
 IsTextOf OldForm bytes = IsOldInput bytes
 IsTextOf SetForm bytes = IsSetInput bytes
 IsTextOf ScriptForm bytes = IsScriptInput bytes
@@ -74,8 +76,8 @@ IsTaken command bytes = (length bytes ≤ INPUT_LIMIT) × IsTextOf (form_of comm
 
 -- what `verify` says of the text of a book: a status and a text
 abbrev pub IsVerdict : List ℕ → Status → List ℕ → Type 0
-IsVerdict bytes Fine text = IsLegalInput bytes × (text ≡ codes "legal\n")
-IsVerdict bytes Found text = IsIllegalInput bytes × (text ≡ codes "illegal\n")
+IsVerdict bytes Fine text = IsLegalBook bytes × (text ≡ codes "legal\n")
+IsVerdict bytes Found text = IsIllegalBook bytes × (text ≡ codes "illegal\n")
 IsVerdict bytes _ text = ⊥
 
 -- the text of a book's sketch

@@ -2,13 +2,8 @@
 use Rattle.std.specs.Prelude.{ℕ, List}
 use Rattle.book_base.specs.declared.fault.TextFault.{TextFault}
 use Rattle.book_base.specs.declared.fault.ReadFault.{ReadFault}
-use Rattle.book_base.specs.declared.fault.ReadFault.TheVariants.{Text, NoMemory}
+use Rattle.book_verdicts.specs.Faults.{IsFaultOf}
 use Rattle.selfcheck.specs.Input.{IsRefusedFor}
-
--- a fault of the text is one of these
-abbrev pub IsFaultOf : (TextFault → Type 0) → ReadFault → Type 0
-IsFaultOf IsOne (Text fault) = IsOne fault
-IsFaultOf IsOne NoMemory = Unit {0}
 
 -- a fault of the text is the one for which the input is refused, where texts of a form are wanted whose first faults these are
 abbrev pub IsReadFault : (List ℕ → TextFault → Type 0) → List ℕ → ReadFault → Type 0

@@ -1,15 +1,16 @@
 ghost use Rattle.std.specs.Prelude.{◌≤◌, length, IfOk, IfErr};
-ghost use Rattle.certificate_text.specs.CertificateRules.{IsCertificateText};
-ghost use Rattle.selfcheck.specs.Orders.{IsOrderReadFault};
+ghost use Rattle.book_verdicts.specs.Certificates.{IsOrderVerdict};
+ghost use Rattle.certificate_text.specs.CertificateRules.{IsFirstCertificateFault};
 ghost use Rattle.selfcheck.specs.Output.{IsOutputOf};
+ghost use Rattle.selfcheck.specs.Refusal.{IsReadFault};
 
 use crate::command::Command;
+use crate::input::check_length;
 use crate::order_fault::fault_text;
 use crate::output::Output;
-use book_base::{NoMemory, ReadFault, TextFault, What};
+use book_base::{NoMemory, ReadFault};
+use book_verdicts::OrderVerdict;
 use byte_streams::{INPUT_LIMIT, Status};
-use certificate_text::{Certificate, read_certificate};
-use order_check::check_order;
 use std::alloc::Global;
 
 /// The output of `order` for the bytes read.
@@ -17,32 +18,23 @@ pub(crate) fn order(alloc: Global, bytes: &[u8]) -> Result<Output, NoMemory>
     ensures { IfOk result (λ output.
         IsOutputOf Command.Order bytes.now output.status output.text.items) }
 {
-    let read = match read_order(alloc, bytes) {
-        Ok(read) => read,
-        Err(ReadFault::Text(fault)) => return Output::refusal(alloc, fault),
-        Err(ReadFault::NoMemory) => return Err(NoMemory),
-    };
-    match check_order(alloc, &read.kind, &read.book, &read.order)? {
-        Ok(()) => Output::new(alloc, Status::Fine, b"legal\n"),
-        Err(fault) => Ok(Output {
+    match verdict(alloc, bytes) {
+        Ok(OrderVerdict::Legal) => Output::new(alloc, Status::Fine, b"legal\n"),
+        Ok(OrderVerdict::Faulty(fault)) => Ok(Output {
             status: Status::Found,
             text: fault_text(alloc, fault)?,
         }),
+        Err(ReadFault::Text(fault)) => Output::refusal(alloc, fault),
+        Err(ReadFault::NoMemory) => Err(NoMemory),
     }
 }
 
-/// The certificate that an input is the text of.
-fn read_order(alloc: Global, bytes: &[u8]) -> Result<Certificate, ReadFault>
+/// The verdict on the certificate that an input is the text of.
+fn verdict(alloc: Global, bytes: &[u8]) -> Result<OrderVerdict, ReadFault>
     ensures short { IfOk result (λ _. length bytes.now ≤ INPUT_LIMIT) }
-    ensures read { IfOk result (λ read.
-        IsCertificateText bytes.now read.kind read.book read.order.items) }
-    ensures refused { IfErr result (IsOrderReadFault bytes.now) }
+    ensures verdict { IfOk result (IsOrderVerdict bytes.now) }
+    ensures refused { IfErr result (IsReadFault IsFirstCertificateFault bytes.now) }
 {
-    if bytes.len() > INPUT_LIMIT {
-        return Err(ReadFault::Text(TextFault {
-            line: 0,
-            what: What::Long,
-        }));
-    }
-    read_certificate(alloc, bytes)
+    check_length(bytes)?;
+    book_verdicts::order(alloc, bytes)
 }

@@ -1,0 +1,48 @@
+ghost use Rattle.std.specs.Prelude.{◌≡◌, ◌⊎◌, IfOk, IfErr, MatchResult};
+ghost use Rattle.book_base.specs.declared.fault.TextFault.{TextFault};
+ghost use Rattle.book_text.specs.BookRules.{IsFirstBookFault};
+ghost use Rattle.text_fields.specs.declared.version.Version.TheVariants.{Second};
+ghost use Rattle.book_verdicts.specs.Faults.{IsFaultOf};
+ghost use Rattle.book_verdicts.specs.Books.{IsBookVerdict};
+
+use book_base::ReadFault;
+use book_text::read_book;
+use frontier_check::{Verdict, check};
+use std::alloc::Global;
+
+/// Whether a book has a legal order.
+#[derive(Clone, Copy, Debug, PartialEq, Eq)]
+pub enum BookVerdict {
+    Legal,
+    Illegal,
+}
+
+/// Judges the book that the bytes are the text of.
+///
+/// A text fault names the first line that is wrong, and of its tests the first that it fails.
+pub fn verify(alloc: Global, bytes: &[u8]) -> Result<BookVerdict, ReadFault>
+    ensures verdict { IfOk result (IsBookVerdict bytes.now) }
+    ensures refused { IfErr result (IsFaultOf (IsFirstBookFault Second bytes.now)) }
+    // A book of either kind is answered so, unless memory runs out.
+    ensures only { (verdict : BookVerdict) → IsBookVerdict bytes.now verdict
+        → MatchResult result (λ v. v ≡ verdict) (λ e. e ≡ ReadFault.NoMemory) }
+    // Where the bytes have a first fault, the answer is that fault, unless memory runs out.
+    ensures first { (fault : TextFault) → IsFirstBookFault Second bytes.now fault
+        → MatchResult result (λ _. ⊥)
+        (λ e. (e ≡ ReadFault.Text fault) ⊎ (e ≡ ReadFault.NoMemory)) }
+{
+    judged(alloc, bytes)
+}
+
+/// What the reader and the search make of the bytes.
+#[tactic(auto, unfolding(crate::specs::Books::IsLegalBook, crate::specs::Books::IsIllegalBook))]
+fn judged(alloc: Global, bytes: &[u8]) -> Result<BookVerdict, ReadFault>
+    ensures verdict { IfOk result (IsBookVerdict bytes.now) }
+    ensures refused { IfErr result (IsFaultOf (IsFirstBookFault Second bytes.now)) }
+{
+    let (kind, book) = read_book(alloc, bytes)?;
+    match check(alloc, &kind, &book)? {
+        Verdict::Legal(_) => Ok(BookVerdict::Legal),
+        Verdict::Illegal => Ok(BookVerdict::Illegal),
+    }
+}

@@ -1,0 +1,47 @@
+ghost use Rattle.std.specs.Prelude.{◌≡◌, ◌⊎◌, IfOk, IfErr, IsSome, IsNone, MatchOption, MatchResult};
+ghost use Rattle.book_base.specs.declared.fault.TextFault.{TextFault};
+ghost use Rattle.book_text.specs.BookRules.{IsFirstBookFault};
+ghost use Rattle.text_fields.specs.declared.version.Version.TheVariants.{Second};
+ghost use Rattle.book_verdicts.specs.Faults.{IsFaultOf};
+ghost use Rattle.book_verdicts.specs.Books.{Certifies, IsLegalBook, IsIllegalBook};
+
+use book_base::ReadFault;
+use book_text::read_book;
+use certificate_text::write_certificate;
+use frontier_check::{Verdict, check};
+use std::alloc::Global;
+
+/// The text of a certificate of the book that the bytes are the text of: the book, with a legal order of it.
+/// There is none where the book has no legal order.
+///
+/// A text fault names the first line that is wrong, and of its tests the first that it fails.
+pub fn certify(alloc: Global, bytes: &[u8]) -> Result<Option<Vec<u8>>, ReadFault>
+    ensures certificate { IfOk result (λ found.
+        MatchOption found (IsIllegalBook bytes.now) (λ text. Certifies bytes.now text.items)) }
+    ensures refused { IfErr result (IsFaultOf (IsFirstBookFault Second bytes.now)) }
+    // A book is answered so, unless memory runs out.
+    ensures legal { IsLegalBook bytes.now
+        → MatchResult result IsSome (λ e. e ≡ ReadFault.NoMemory) }
+    ensures illegal { IsIllegalBook bytes.now
+        → MatchResult result IsNone (λ e. e ≡ ReadFault.NoMemory) }
+    // Where the bytes have a first fault, the answer is that fault, unless memory runs out.
+    ensures first { (fault : TextFault) → IsFirstBookFault Second bytes.now fault
+        → MatchResult result (λ _. ⊥)
+        (λ e. (e ≡ ReadFault.Text fault) ⊎ (e ≡ ReadFault.NoMemory)) }
+{
+    written(alloc, bytes)
+}
+
+/// What the reader, the search and the writer make of the bytes.
+#[tactic(auto, unfolding(crate::specs::Books::Certifies, crate::specs::Books::IsIllegalBook))]
+fn written(alloc: Global, bytes: &[u8]) -> Result<Option<Vec<u8>>, ReadFault>
+    ensures certificate { IfOk result (λ found.
+        MatchOption found (IsIllegalBook bytes.now) (λ text. Certifies bytes.now text.items)) }
+    ensures refused { IfErr result (IsFaultOf (IsFirstBookFault Second bytes.now)) }
+{
+    let (kind, book) = read_book(alloc, bytes)?;
+    match check(alloc, &kind, &book)? {
+        Verdict::Legal(order) => Ok(Some(write_certificate(alloc, kind, &book, &order)?)),
+        Verdict::Illegal => Ok(None),
+    }
+}

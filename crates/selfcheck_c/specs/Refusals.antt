@@ -1,0 +1,24 @@
+-- What is told of texts that are refused.
+use Rattle.std.specs.Prelude.{◌≡◌, ℕ, List}
+use Rattle.book_base.specs.declared.fault.TextFault.{TextFault}
+use Rattle.book_text.specs.BookRules.{IsFirstBookFault}
+use Rattle.certificate_text.specs.CertificateRules.{IsFirstCertificateFault}
+use Rattle.text_fields.specs.declared.version.Version.TheVariants.{Second}
+use Rattle.selfcheck_c.specs.declared.refusal.Refusal.{Refusal}
+use Rattle.selfcheck_c.specs.FaultNumber.{fault_number}
+
+-- the refusal tells this fault
+abbrev pub TellsFault : TextFault → Refusal → Type 0
+TellsFault fault refusal = (refusal.line ≡ fault.line) × (refusal.what ≡ fault_number fault.what)
+
+-- the bytes are no text of a form whose first faults these are, and the refusal tells their first fault
+abbrev pub IsRefusalOf : (TextFault → Type 0) → Refusal → Type 0
+IsRefusalOf IsFirst refusal = (fault : TextFault) × IsFirst fault × TellsFault fault refusal
+
+-- the bytes are no book's text, and the refusal tells their first fault
+abbrev pub IsBookRefusal : List ℕ → Refusal → Type 0
+IsBookRefusal bytes refusal = IsRefusalOf (IsFirstBookFault Second bytes) refusal
+
+-- the bytes are no certificate's text, and the refusal tells their first fault
+abbrev pub IsCertificateRefusal : List ℕ → Refusal → Type 0
+IsCertificateRefusal bytes refusal = IsRefusalOf (IsFirstCertificateFault bytes) refusal

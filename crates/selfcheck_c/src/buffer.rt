@@ -1,0 +1,15 @@
+ghost use Rattle.std.specs.Prelude.{◌≡◌, ◌↔◌, ◌≤◌, IsTrue, length, take};
+
+/// Puts a text at the beginning of a buffer, where the buffer can hold it: whether it can.
+pub(crate) fn put(buffer: &mut [u8], text: &[u8]) -> bool
+    ensures held { IsTrue result ↔ length text.now ≤ length buffer.old }
+    ensures put { IsTrue result → take (length text.now) buffer.new ≡ text.now }
+    ensures length { length buffer.new ≡ length buffer.old }
+    ensures kept { ¬ IsTrue result → buffer.new ≡ buffer.old }
+{
+    if text.len() > buffer.len() {
+        return false;
+    }
+    buffer[..text.len()].copy_from_slice(text);
+    true
+}

@@ -1,0 +1,130 @@
+//! Verdicts on texts for programs in other languages: exports over numbers and slices of bytes.
+#![tactic(auto)]
+
+ghost use Rattle.std.specs.Prelude.{◌≡◌, ◌⊎◌, ◌<◌, ◌≤◌, length, take};
+ghost use Rattle.book_base.specs.declared.fault.TextFault.{TextFault};
+ghost use Rattle.book_text.specs.BookRules.{IsFirstBookFault};
+ghost use Rattle.certificate_text.specs.CertificateRules.{IsFirstCertificateFault};
+ghost use Rattle.text_fields.specs.declared.version.Version.TheVariants.{Second};
+ghost use Rattle.book_verdicts.specs.Books.{IsLegalBook, IsIllegalBook, Certifies};
+ghost use Rattle.book_verdicts.specs.Certificates.{IsLegalCertificate, IsIllegalCertificate};
+ghost use Rattle.selfcheck_c.specs.Refusals.{IsBookRefusal, IsCertificateRefusal};
+
+mod buffer;
+mod refusal;
+
+use crate::buffer::put;
+pub use crate::refusal::Refusal;
+use book_base::ReadFault;
+use book_verdicts::{BookVerdict, OrderVerdict, certify, order, verify};
+use std::alloc::Global;
+
+/// The book, or the order, is legal.
+pub const LEGAL: u32 = 0;
+/// It isn't.
+pub const ILLEGAL: u32 = 1;
+/// The bytes are no text of the wanted form.
+pub const REFUSED: u32 = 3;
+/// Want of memory.
+pub const NO_MEMORY: u32 = 6;
+/// The book is legal, but the buffer can't hold its certificate.
+pub const NO_ROOM: u32 = 8;
+
+/// Judges the book that the bytes are the text of. Where it is refused, `refusal` tells why; else it stays
+/// as it was.
+#[unsafe(no_mangle)]
+pub extern "C" fn selfcheck_verify(alloc: Global, text: &[u8], refusal: &mut Refusal) -> u32
+    ensures legal { result ≡ LEGAL → IsLegalBook text.now }
+    ensures illegal { result ≡ ILLEGAL → IsIllegalBook text.now }
+    ensures refused { result ≡ REFUSED → IsBookRefusal text.now refusal.new }
+    ensures ends { (result ≡ LEGAL) ⊎ (result ≡ ILLEGAL) ⊎ (result ≡ REFUSED) ⊎ (result ≡ NO_MEMORY) }
+    ensures kept { ¬ (result ≡ REFUSED) → refusal.new ≡ refusal.old }
+    // Each text has its one status, unless memory runs out.
+    ensures legal_told { IsLegalBook text.now → (result ≡ LEGAL) ⊎ (result ≡ NO_MEMORY) }
+    ensures illegal_told { IsIllegalBook text.now → (result ≡ ILLEGAL) ⊎ (result ≡ NO_MEMORY) }
+    ensures fault_told { (fault : TextFault) → IsFirstBookFault Second text.now fault →
+        (result ≡ REFUSED) ⊎ (result ≡ NO_MEMORY) }
+{
+    match verify(alloc, text) {
+        Ok(BookVerdict::Legal) => LEGAL,
+        Ok(BookVerdict::Illegal) => ILLEGAL,
+        Err(ReadFault::Text(fault)) => {
+            *refusal = Refusal::from(fault);
+            REFUSED
+        }
+        Err(ReadFault::NoMemory) => NO_MEMORY,
+    }
+}
+
+/// Judges the certificate that the bytes are the text of. Where it is refused, `refusal` tells why; else it
+/// stays as it was.
+#[unsafe(no_mangle)]
+pub extern "C" fn selfcheck_order(alloc: Global, text: &[u8], refusal: &mut Refusal) -> u32
+    ensures legal { result ≡ LEGAL → IsLegalCertificate text.now }
+    ensures illegal { result ≡ ILLEGAL → IsIllegalCertificate text.now }
+    ensures refused { result ≡ REFUSED → IsCertificateRefusal text.now refusal.new }
+    ensures ends { (result ≡ LEGAL) ⊎ (result ≡ ILLEGAL) ⊎ (result ≡ REFUSED) ⊎ (result ≡ NO_MEMORY) }
+    ensures kept { ¬ (result ≡ REFUSED) → refusal.new ≡ refusal.old }
+    // Each text has its one status, unless memory runs out.
+    ensures legal_told { IsLegalCertificate text.now → (result ≡ LEGAL) ⊎ (result ≡ NO_MEMORY) }
+    ensures illegal_told { IsIllegalCertificate text.now → (result ≡ ILLEGAL) ⊎ (result ≡ NO_MEMORY) }
+    ensures fault_told { (fault : TextFault) → IsFirstCertificateFault text.now fault →
+        (result ≡ REFUSED) ⊎ (result ≡ NO_MEMORY) }
+{
+    match order(alloc, text) {
+        Ok(OrderVerdict::Legal) => LEGAL,
+        Ok(OrderVerdict::Faulty(_)) => ILLEGAL,
+        Err(ReadFault::Text(fault)) => {
+            *refusal = Refusal::from(fault);
+            REFUSED
+        }
+        Err(ReadFault::NoMemory) => NO_MEMORY,
+    }
+}
+
+/// Writes into a buffer the certificate of the book that the bytes are the text of: the book's text with a
+/// legal order of it. `written` is its length, also where the buffer can't hold it and nothing is written.
+/// Where the text is refused, `refusal` tells why.
+#[unsafe(no_mangle)]
+pub extern "C" fn selfcheck_certify(
+    alloc: Global,
+    text: &[u8],
+    buffer: &mut [u8],
+    written: &mut usize,
+    refusal: &mut Refusal,
+) -> u32
+    ensures held { result ≡ LEGAL → written.new ≤ length buffer.new }
+    ensures legal { result ≡ LEGAL → Certifies text.now (take written.new buffer.new) }
+    ensures illegal { result ≡ ILLEGAL → IsIllegalBook text.now }
+    ensures refused { result ≡ REFUSED → IsBookRefusal text.now refusal.new }
+    ensures no_room { result ≡ NO_ROOM → length buffer.old < written.new }
+    ensures unheld { result ≡ NO_ROOM → IsLegalBook text.now }
+    ensures ends { (result ≡ LEGAL) ⊎ (result ≡ ILLEGAL) ⊎ (result ≡ REFUSED) ⊎ (result ≡ NO_MEMORY)
+        ⊎ (result ≡ NO_ROOM) }
+    ensures unwritten { ¬ (result ≡ LEGAL) → buffer.new ≡ buffer.old }
+    ensures kept { ¬ (result ≡ REFUSED) → refusal.new ≡ refusal.old }
+    ensures uncounted { ¬ (result ≡ LEGAL) → ¬ (result ≡ NO_ROOM) → written.new ≡ written.old }
+    // Each text has its one status, but for the buffer and unless memory runs out.
+    ensures legal_told { IsLegalBook text.now →
+        (result ≡ LEGAL) ⊎ (result ≡ NO_ROOM) ⊎ (result ≡ NO_MEMORY) }
+    ensures illegal_told { IsIllegalBook text.now → (result ≡ ILLEGAL) ⊎ (result ≡ NO_MEMORY) }
+    ensures fault_told { (fault : TextFault) → IsFirstBookFault Second text.now fault →
+        (result ≡ REFUSED) ⊎ (result ≡ NO_MEMORY) }
+{
+    match certify(alloc, text) {
+        Ok(Some(certificate)) => {
+            *written = certificate.len();
+            if put(buffer, &certificate) {
+                LEGAL
+            } else {
+                NO_ROOM
+            }
+        }
+        Ok(None) => ILLEGAL,
+        Err(ReadFault::Text(fault)) => {
+            *refusal = Refusal::from(fault);
+            REFUSED
+        }
+        Err(ReadFault::NoMemory) => NO_MEMORY,
+    }
+}
