@@ -47,4 +47,9 @@ pub trait Asks {
         ensures grows { Grows (announced_local announced) (answered_local result) }
         ensures fits { FitsCaller (fits self.now) pass.new (caller_answered result) }
         ensures count { count pass.new ≡ count_after (op_announced announced) (reply_answered result) (count pass.old) };
+
+    /// What a client does before each of its phases in a run: nothing, unless an impl gives the thread away there, so
+    /// that callers meet who else would miss each other. It is handed neither rows nor a caller, so whatever it does,
+    /// a run stays one that its contract allows.
+    fn pause(&self) {}
 }

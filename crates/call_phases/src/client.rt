@@ -101,6 +101,7 @@ impl<'a, P: Program, T, E: Ending> Client<'a, P, T, E> {
             if !client.stand.goes_on() {
                 return client;
             }
+            shared.asks.pause();
             client = client.advance(shared, steps);
         }
         client
