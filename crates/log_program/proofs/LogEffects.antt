@@ -342,7 +342,7 @@ module _ (init : List ℕ) (next : List ℕ → ℕ → List ℕ × ℕ) (n cap 
       ∙ ap Some is
 
   -- A step that left a ticket stands at a place of the log.
-  placed_stands : (w : World) (t p : ℕ) (steps : List Object_step) → Each (IsLasting s w) steps → placed_at total t steps ≡ Some p → (p < total) × (ticket w p ≡ t)
+  pub placed_stands : (w : World) (t p : ℕ) (steps : List Object_step) → Each (IsLasting s w) steps → placed_at total t steps ≡ Some p → (p < total) × (ticket w p ≡ t)
   placed_stands w t p steps lasting is =
       let f = placed_step (IsLasting s w) total t p steps lasting is in (
         elim f.holds.kind [

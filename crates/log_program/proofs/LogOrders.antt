@@ -1,21 +1,30 @@
 -- The order of effects of a log is that of its tickets.
-use Rattle.std.proofs.Common.{◌≡◌, ◌≢◌, ℕ, zero, suc, ◌+◌, ◌-◌, ◌*◌, ◌<◌, true, nat_lt, List, ◌++◌, Option, Some, None, refl, sym, ap, ◌∙◌, subst, arith, inl, inr}
-use Rattle.std.proofs.lemmas.Bool.{and_parts, cases_lt, cases_Bool, cond-true, cond-false}
+use Rattle.std.proofs.Common.{◌≡◌, ◌≢◌, ℕ, zero, suc, ◌+◌, ◌-◌, ◌*◌, ◌<◌, true, nat_lt, List, [], ◌++◌, length, Option, Some, None, slice_get, slice_index_or, refl, sym, ap, ◌∙◌, subst, arith, IsTrue, inl, inr}
+use Rattle.std.proofs.lemmas.Bool.{and_parts, cases_lt, cases_Bool, lt-ltb, ltb-true, cond-true, cond-false}
+use Rattle.std.proofs.lemmas.Nat.{same_from_place}
 use Rattle.std.proofs.lemmas.Option.{none-some}
+use Rattle.list_laws.proofs.Options.{cases_Option, none_from_never}
+use Rattle.book_base.specs.OperationWord.{joined}
 use Rattle.book_base.specs.declared.call.Call.{Call}
 use Rattle.world_core.specs.Shape.{Shape}
-use Rattle.world_core.specs.World.{World, Step, start, object_word, are_possible, IsRun, end_of}
+use Rattle.world_core.specs.Local.{Local, Object_step}
+use Rattle.world_core.specs.CallSteps.{operation_now, steps_now, all_steps_of}
+use Rattle.world_core.specs.World.{World, Step, start, local_of, object_word, are_possible, IsRun, end_of, IsReachable}
+use Rattle.world_core.specs.History.{call_of}
+use Rattle.world_laws.proofs.Each.{Each, each_at}
 use Rattle.world_laws.proofs.Running.{are_possible-append}
 use Rattle.object_orders.specs.Effects.{TakesEffectBefore}
+use Rattle.object_orders.proofs.AskedCalls.{reachable_kept}
 use Rattle.object_orders.proofs.EffectOrders.{the_order_is_of_effects}
 use Rattle.object_orders.proofs.Linearizations.{contained}
-use Rattle.log_program.specs.LogWords.{number_of, ticket_place, ticket_of}
-use Rattle.log_program.specs.LogProgram.{log_shape}
-use Rattle.log_program.specs.LogEffects.{place_with, reply_there, reply_of_number, log_effects, HasPlace, LogOrdersAreOfTickets}
-use Rattle.log_program.specs.LogRules.{IsLog}
+use Rattle.object_orders.proofs.OneWords.{reply_is}
+use Rattle.log_program.specs.LogWords.{number_of, low_place, high_place, ticket_place, ticket_of, placed_at}
+use Rattle.log_program.specs.LogProgram.{list_of, reply_at, log_may_reply, log_shape}
+use Rattle.log_program.specs.LogEffects.{operations_below, place_with, reply_there, reply_of_number, log_effects, HasPlace, LogOrdersAreOfTickets}
+use Rattle.log_program.specs.LogRules.{IsLasting, IsLog}
 use Rattle.log_program.proofs.LogWords.{place_is, no_place_is}
 use Rattle.log_program.proofs.LogSteps.{rules_hold, tickets_stay}
-use Rattle.log_program.proofs.LogEffects.{has_effects}
+use Rattle.log_program.proofs.LogEffects.{placed_stands, has_effects}
 
 module _ (init : List ℕ) (next : List ℕ → ℕ → List ℕ × ℕ) (n cap : ℕ) where
   abbrev s : Shape
@@ -66,6 +75,48 @@ module _ (init : List ℕ) (next : List ℕ → ℕ → List ℕ × ℕ) (n cap 
       let none : reply_of_number next init (object_word s w) total number ≡ None =
       sym (cond-true (nat_lt call.number cap) (reply_of_number next init (object_word s w) total number) None few) ∙ is in
       no_place_is (object_word s w) total (ticket_of number) total (no_place_of_none w number (place_with (object_word s w) total (ticket_of number) total) none)
+
+  -- a call without an object step has no reply
+  pub no_reply_without_steps : (w : World) → IsReachable s w → (i k : ℕ) → slice_index_or (local_of w i).object_steps k [] ≡ [] → reply w (call_of i k) ≡ None
+  no_reply_without_steps w reach i k none =
+      none_from_never (reply w (call_of i k)) (λ x is.
+      let few : k < cap = ltb-true k cap (reply_few w (call_of i k) x is) in
+      let at = has_place w (call_of i k) x is in
+      let t = (rules_hold init next n cap w reach).named at.0 at.1 (λ free. omega (arith, sym at.2 ∙ free)) in
+      let same = same_from_place t.i t.k i k cap t.call.few few (omega (arith, t.ticket, at.2)) in
+      let made : slice_get (slice_index_or (local_of w i).object_steps k []) t.placed.j ≡ Some t.placed.step =
+      subst (λ (j : ℕ). slice_get (slice_index_or (local_of w j).object_steps k []) t.placed.j ≡ Some t.placed.step) same.0
+      (subst (λ (m : ℕ). slice_get (slice_index_or (local_of w t.i).object_steps m []) t.placed.j ≡ Some t.placed.step) same.1 t.placed.made) in
+      none-some t.placed.step (subst (λ (own : List Object_step). slice_get own t.placed.j ≡ Some t.placed.step) none made))
+
+  -- the call under way has one, where its program allows it a reply
+  pub reply_where_allowed : (w : World) → IsReachable s w → (i answer : ℕ) → i < n → (local_of w i).published < length (local_of w i).operations
+      → IsTrue (log_may_reply next init n cap i (local_of w i) answer) → (x : ℕ) × (reply w (call_of i (local_of w i).published) ≡ Some x)
+  reply_where_allowed w reach i answer caller there may =
+      let me : Local = local_of w i in
+      let k : ℕ = me.published in
+      let number : ℕ = number_of cap i k in
+      let word : ℕ → ℕ = object_word s w in
+      let agrees = (reachable_kept s w reach).agree i caller in
+      let few : k < cap = omega (arith, there, agrees.few, agrees.phase.operations) in
+      let has_steps : k < length me.object_steps = omega (arith, there, agrees.phase.operations, agrees.phase.object_steps) in
+      let lasting = each_at (Each (IsLasting s w)) me.object_steps k [] ((rules_hold init next n cap w reach).lasting i caller) has_steps in
+      let place : Option ℕ = placed_at total (ticket_of number) (steps_now me) in
+      let allowed : reply_at next init total (operation_now me) (all_steps_of me) place ≡ Some answer =
+      reply_is (reply_at next init total (operation_now me) (all_steps_of me) place) answer may in
+      elim (cases_Option place) [
+        | inl none ↦ absurd (none-some answer (sym (ap (reply_at next init total (operation_now me) (all_steps_of me)) none) ∙ allowed))
+        | inr some ↦
+            let at = placed_stands init next n cap w (ticket_of number) some.0 (steps_now me) lasting some.1 in
+            elim (cases_Option (place_with word total (ticket_of number) total)) [
+              | inl nowhere ↦ absurd (no_place_is word total (ticket_of number) total nowhere some.0 at.0 at.1)
+              | inr found ↦ (
+                (next (list_of next init (operations_below word total found.0)) (joined (word (low_place number)) (word (high_place number)))).1,
+                cond-true (nat_lt k cap) (reply_of_number next init word total number) None (lt-ltb k cap few)
+                    ∙ ap (reply_there next init word total number) found.1,
+              )
+            ]
+      ]
 
   -- below a filled place all are filled
   filled_below : (w : World) → IsLog s w → (q d : ℕ) → q + d < total → ticket w (q + d) ≢ 0 → ticket w q ≢ 0
