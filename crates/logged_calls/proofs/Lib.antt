@@ -1,0 +1,4 @@
+pub mod OwnCalls
+pub mod Answers
+pub mod Logging
+pub mod CoreLogs

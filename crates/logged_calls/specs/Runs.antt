@@ -1,0 +1,27 @@
+-- What every run over an object inside the world says of the calls of its callers.
+use Rattle.std.specs.Prelude.{ℕ, ◌<◌, List}
+use Rattle.world_core.specs.Shape.{Shape}
+use Rattle.world_core.specs.Local.{Local}
+use Rattle.world_core.specs.Calls.{AreTogether, calls_in, local_at}
+use Rattle.call_lines.specs.Phases.{HasMade}
+use Rattle.call_phases.specs.Finishing.{KeepsAsked}
+use Rattle.log_program.specs.LogProgram.{log_shape}
+use Rattle.lawful_objects.specs.Replays.{last_reply}
+use Rattle.logged_calls.specs.Logged.{IsLoggedBy}
+
+-- These are the locals of one reachable world, and each caller has made exactly so many phases of its operations.
+pub record HaveMadePhases (s : Shape) (operations : ℕ → List ℕ) (phases : ℕ → ℕ) (locals : List Local) : Type 0 where
+  pub together : AreTogether s locals
+  pub made : (i : ℕ) → i < s.callers → HasMade (operations i) (phases i) (local_at locals i)
+
+-- A call under way that was announced and not asked has no object step yet, and to one that was asked the program allows a reply.
+abbrev pub HaveAskedInTurn : Shape → (ℕ → ℕ) → List Local → Type 0
+HaveAskedInTurn s phases locals = (i : ℕ) → i < s.callers → KeepsAsked s.program i (phases i) (local_at locals i)
+
+-- The calls of every run of the log of a sequential object are in one log, and its answers are that object's: for every first list and
+-- step, number of callers and cap.
+abbrev pub RunsOfLogsAreLogged : Type 0
+RunsOfLogsAreLogged =
+    (init : List ℕ) (next : List ℕ → ℕ → List ℕ × ℕ) (n cap : ℕ) (operations : ℕ → List ℕ) (phases : ℕ → ℕ) (locals : List Local)
+    → HaveMadePhases (log_shape init next n cap) operations phases locals → HaveAskedInTurn (log_shape init next n cap) phases locals
+    → IsLoggedBy (last_reply next init) n phases (λ i. calls_in (local_at locals i))
