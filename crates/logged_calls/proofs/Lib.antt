@@ -2,3 +2,4 @@ pub mod OwnCalls
 pub mod Answers
 pub mod Logging
 pub mod CoreLogs
+pub mod OneWordReplies

@@ -119,11 +119,12 @@ module _ (init : List ℕ) (next : List ℕ → ℕ → List ℕ × ℕ) (s : Sh
       (λ d h. (invoked_is_announced s (start s) steps d.call d.operation (start_kept s) run h).0) order lin.invoked)
 
   -- A caller that has made so many phases.
-  module _ (i : ℕ) (operations : List ℕ) (p : ℕ) (made : HasMade operations p (local_of last i)) (as_asked : TakesEffectAsAsked e last i p) where
+  module _ (i : ℕ) (operations : List ℕ) (p : ℕ) (made : HasMade operations p (local_of last i)) where
     abbrev l : Local
     l = local_of last i
 
-    answered_effect : (k : ℕ) → k < answered p → e.reply last (call_of i k) ≡ Some (slice_index l.replies k)
+    -- each of its answered calls has taken effect, with the reply that the caller has
+    pub answered_effect : (k : ℕ) → k < answered p → e.reply last (call_of i k) ≡ Some (slice_index l.replies k)
     answered_effect k low =
         let has = answered_has operations p l made (lengths i) k low in
         let back : Contains told (Returned (call_of i k) (slice_index l.replies k)) =
@@ -131,63 +132,64 @@ module _ (init : List ℕ) (next : List ℕ → ℕ → List ℕ × ℕ) (s : Sh
         let found = lin.returned (call_of i k) (slice_index l.replies k) back in
         of.replied (record { call = call_of i k; operation = found.0; reply = slice_index l.replies k }) found.1
 
-    stands_with : (k reply : ℕ) → e.reply last (call_of i k) ≡ Some reply → (d : Done) × Contains order d × (d.call ≡ call_of i k)
-    stands_with k reply is = let found = of.stands (call_of i k) reply is in (record { call = call_of i k; operation = found.0; reply = reply }, found.1, refl)
+    module _ (as_asked : TakesEffectAsAsked e last i p) where
+      stands_with : (k reply : ℕ) → e.reply last (call_of i k) ≡ Some reply → (d : Done) × Contains order d × (d.call ≡ call_of i k)
+      stands_with k reply is = let found = of.stands (call_of i k) reply is in (record { call = call_of i k; operation = found.0; reply = reply }, found.1, refl)
 
-    all : (k : ℕ) → k < asked p → (d : Done) × Contains order d × (d.call ≡ call_of i k)
-    all k low =
-        elim (cases_lt k (answered p)) [
-          | inl early ↦ stands_with k (slice_index l.replies k) (answered_effect k early)
-          | inr past ↦
-              let now = as_asked.asked_for (omega (arith, past, low)) in
-              let here : judged p ≡ k = omega (arith, past, low) in
-              stands_with k now.0 (ap (λ (j : ℕ). e.reply last (call_of i j)) (sym here) ∙ now.1)
-        ]
+      all : (k : ℕ) → k < asked p → (d : Done) × Contains order d × (d.call ≡ call_of i k)
+      all k low =
+          elim (cases_lt k (answered p)) [
+            | inl early ↦ stands_with k (slice_index l.replies k) (answered_effect k early)
+            | inr past ↦
+                let now = as_asked.asked_for (omega (arith, past, low)) in
+                let here : judged p ≡ k = omega (arith, past, low) in
+                stands_with k now.0 (ap (λ (j : ℕ). e.reply last (call_of i j)) (sym here) ∙ now.1)
+          ]
 
-    own_asks : (d : Done) → Contains order d → d.call.caller ≡ i → slice_get l.operations d.call.number ≡ Some d.operation
-    own_asks d there mine = subst (λ (j : ℕ). slice_get (local_of last j).operations d.call.number ≡ Some d.operation) mine (asks_for d there)
+      own_asks : (d : Done) → Contains order d → d.call.caller ≡ i → slice_get l.operations d.call.number ≡ Some d.operation
+      own_asks d there mine = subst (λ (j : ℕ). slice_get (local_of last j).operations d.call.number ≡ Some d.operation) mine (asks_for d there)
 
-    few : (d : Done) → Contains order d → d.call.caller ≡ i → d.call.number < asked p
-    few d there mine =
-        let low : d.call.number < begun p =
-        omega (arith, slice_get_within l.operations d.call.number d.operation (own_asks d there mine), has_begun operations p l made) in
-        elim (cases_lt d.call.number (asked p)) [
-          | inl early ↦ early
-          | inr past ↦
-              let none = as_asked.unasked (omega (arith, past, low)) in
-              let here : d.call.number ≡ judged p = omega (arith, past, low) in
-              absurd (none-some d.reply
-              (sym none
-              ∙ ap (λ (j : ℕ). e.reply last (call_of i j)) (sym here)
-              ∙ ap (λ (j : ℕ). e.reply last (call_of j d.call.number)) (sym mine)
-              ∙ of.replied d there))
-        ]
+      few : (d : Done) → Contains order d → d.call.caller ≡ i → d.call.number < asked p
+      few d there mine =
+          let low : d.call.number < begun p =
+          omega (arith, slice_get_within l.operations d.call.number d.operation (own_asks d there mine), has_begun operations p l made) in
+          elim (cases_lt d.call.number (asked p)) [
+            | inl early ↦ early
+            | inr past ↦
+                let none = as_asked.unasked (omega (arith, past, low)) in
+                let here : d.call.number ≡ judged p = omega (arith, past, low) in
+                absurd (none-some d.reply
+                (sym none
+                ∙ ap (λ (j : ℕ). e.reply last (call_of i j)) (sym here)
+                ∙ ap (λ (j : ℕ). e.reply last (call_of j d.call.number)) (sym mine)
+                ∙ of.replied d there))
+          ]
 
-    first : HasFirstCalls order i (asked p) l.operations
-    first = record { rises = rises i; few = few; all = all; asks = own_asks }
+      first : HasFirstCalls order i (asked p) l.operations
+      first = record { rises = rises i; few = few; all = all; asks = own_asks }
 
-    entries : calls_by i (map entry_of order) ≡ take (asked p) (operations_of (calls_in l))
-    entries = calls_of_order i order ∙ own_operations order i (asked p) l.operations first ∙ ap (take (asked p)) (sym (operations_with l))
+      entries : calls_by i (map entry_of order) ≡ take (asked p) (operations_of (calls_in l))
+      entries = calls_of_order i order ∙ own_operations order i (asked p) l.operations first ∙ ap (take (asked p)) (sym (operations_with l))
 
-    step_is : (k : ℕ) → k < answered p → slice_get (map step_of (own_in i order)) k ≡ Some (answer_at operations p l made k)
-    step_is k low =
-        let d = own_at order i (asked p) l.operations first k (omega (arith, low)) in
-        let operation : d.0.operation ≡ slice_index l.operations k =
-        sym (get_or_from_slice_get l.operations k d.0.operation 0 (ap (slice_get l.operations) (sym d.4) ∙ own_asks d.0 d.2 d.3)) in
-        let reply : d.0.reply ≡ slice_index l.replies k =
-        same_Some d.0.reply (slice_index l.replies k)
-        (sym (of.replied d.0 d.2)
-        ∙ ap (λ (j : ℕ). e.reply last (call_of j d.0.call.number)) d.3
-        ∙ ap (λ (j : ℕ). e.reply last (call_of i j)) d.4
-        ∙ answered_effect k low) in
-        slice_get-map step_of (own_in i order) k
-        ∙ ap (option_map step_of) d.1
-        ∙ ap₂ (λ (o r : ℕ). Some (o, r)) operation reply
+      step_is : (k : ℕ) → k < answered p → slice_get (map step_of (own_in i order)) k ≡ Some (answer_at operations p l made k)
+      step_is k low =
+          let d = own_at order i (asked p) l.operations first k (omega (arith, low)) in
+          let operation : d.0.operation ≡ slice_index l.operations k =
+          sym (get_or_from_slice_get l.operations k d.0.operation 0 (ap (slice_get l.operations) (sym d.4) ∙ own_asks d.0 d.2 d.3)) in
+          let reply : d.0.reply ≡ slice_index l.replies k =
+          same_Some d.0.reply (slice_index l.replies k)
+          (sym (of.replied d.0 d.2)
+          ∙ ap (λ (j : ℕ). e.reply last (call_of j d.0.call.number)) d.3
+          ∙ ap (λ (j : ℕ). e.reply last (call_of i j)) d.4
+          ∙ answered_effect k low) in
+          slice_get-map step_of (own_in i order) k
+          ∙ ap (option_map step_of) d.1
+          ∙ ap₂ (λ (o r : ℕ). Some (o, r)) operation reply
 
-    replies : take (answered p) (pairs_of (last_reply next init) (map entry_of order) i) ≡ answers_in (calls_in l)
-    replies =
-        ap (take (answered p)) (pairs_of_order init next i [] order lin.legal)
-        ∙ answers_are_first operations p l made (lengths i) (map step_of (own_in i order)) step_is
+      replies : take (answered p) (pairs_of (last_reply next init) (map entry_of order) i) ≡ answers_in (calls_in l)
+      replies =
+          ap (take (answered p)) (pairs_of_order init next i [] order lin.legal)
+          ∙ answers_are_first operations p l made (lengths i) (map step_of (own_in i order)) step_is
 
   -- where the calls that took effect are those that were asked, they are in one log
   pub effects_are_logged : (operations : ℕ → List ℕ) (phases : ℕ → ℕ) → ((i : ℕ) → i < s.callers → HasMade (operations i) (phases i) (local_of last i))

@@ -5,9 +5,12 @@ use Rattle.world_core.specs.Local.{Local}
 use Rattle.world_core.specs.Calls.{AreTogether, calls_in, local_at}
 use Rattle.call_lines.specs.Phases.{HasMade}
 use Rattle.call_phases.specs.Finishing.{KeepsAsked}
+use Rattle.object_orders.specs.OneWord.{one_word_shape}
+use Rattle.object_orders.specs.TallyAndCell.{tally, cell}
 use Rattle.log_program.specs.LogProgram.{log_shape}
 use Rattle.lawful_objects.specs.Replays.{last_reply}
-use Rattle.logged_calls.specs.Logged.{IsLoggedBy}
+use Rattle.lawful_objects.specs.Forms.{IsTallyReply, IsCellReply}
+use Rattle.logged_calls.specs.Logged.{IsLoggedBy, AreFormed}
 
 -- These are the locals of one reachable world, and each caller has made exactly so many phases of its operations.
 pub record HaveMadePhases (s : Shape) (operations : ℕ → List ℕ) (phases : ℕ → ℕ) (locals : List Local) : Type 0 where
@@ -25,3 +28,15 @@ RunsOfLogsAreLogged =
     (init : List ℕ) (next : List ℕ → ℕ → List ℕ × ℕ) (n cap : ℕ) (operations : ℕ → List ℕ) (phases : ℕ → ℕ) (locals : List Local)
     → HaveMadePhases (log_shape init next n cap) operations phases locals → HaveAskedInTurn (log_shape init next n cap) phases locals
     → IsLoggedBy (last_reply next init) n phases (λ i. calls_in (local_at locals i))
+
+-- In every run of a tally the reply of each answered call is a value exactly to an increment, and else bad.
+abbrev pub RunsOfTalliesAreFormed : Type 0
+RunsOfTalliesAreFormed =
+    (n cap : ℕ) (operations : ℕ → List ℕ) (phases : ℕ → ℕ) (locals : List Local) → HaveMadePhases (one_word_shape n cap tally) operations phases locals
+    → AreFormed IsTallyReply n (λ i. calls_in (local_at locals i))
+
+-- In every run of a cell the reply of each answered call is done exactly to a write, a value exactly to the read, and else bad.
+abbrev pub RunsOfCellsAreFormed : Type 0
+RunsOfCellsAreFormed =
+    (n cap : ℕ) (operations : ℕ → List ℕ) (phases : ℕ → ℕ) (locals : List Local) → HaveMadePhases (one_word_shape n cap cell) operations phases locals
+    → AreFormed IsCellReply n (λ i. calls_in (local_at locals i))
