@@ -24,7 +24,7 @@ use Rattle.bench_clients.specs.Returns.{AreBack}
 use Rattle.reports.specs.Findings.{Findings, IsReport}
 use Rattle.run_report.specs.Replies.{HasWord}
 use Rattle.run_report.specs.Reporting.{IsReportOf, IsCountedIn}
-use Rattle.run_report.proofs.Workers.{have_worked, told_in}
+use Rattle.run_report.proofs.Workers.{have_worked, keeps_asked, told_in}
 use Rattle.run_report.proofs.Reports.{is_report}
 
 module _ {P T : Type 0} (meaning : P → ℕ → ℕ → Meaning) (r : Rows P) (b : Bench P) (plan : Plan) (allotments : List ℕ) (object : Sequential) (fit : Fits T) (count : T → Option PassCount) (passes : List T) (lines : List (List Line))
@@ -42,7 +42,13 @@ module _ {P T : Type 0} (meaning : P → ℕ → ℕ → Meaning) (r : Rows P) (
   lawful = workers_are_lawful object.init object.next (shape_of meaning r) plan.operations allotments (locals_on b) lines together have
 
   pub reported : (f : Findings) → f ≡ record { kind = plan.kind; lines = lines } → IsReportOf object.init object.next (shape_of meaning r) (locals_on b) plan allotments f
-  reported f same = subst (λ (h : Findings). IsReportOf object.init object.next (shape_of meaning r) (locals_on b) plan allotments h) (sym same) (record { kind = refl; lines = of; made = λ i low. (have.worked i low).made; lawful = lawful })
+  reported f same = subst (λ (h : Findings). IsReportOf object.init object.next (shape_of meaning r) (locals_on b) plan allotments h) (sym same) (record {
+    kind = refl;
+    lines = of;
+    made = λ i low. (have.worked i low).made;
+    asked = λ i low. keeps_asked object meaning r fit count (course_of plan allotments object) b passes lines refl i (back.back i (omega (arith, low, rows.callers)));
+    lawful = lawful;
+  })
 
   pub fits : AllByRecursion (AllByRecursion (λ (line : Line). HasWord line.end)) lines → IsReport (record { kind = plan.kind; lines = lines })
   fits words = is_report object.init object.next (shape_of meaning r) (locals_on b) plan allotments lines valid rows.callers together of lawful words

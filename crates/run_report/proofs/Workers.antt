@@ -19,6 +19,7 @@ use Rattle.row_table.specs.Callers.{shape_of, locals_on, Holds}
 use Rattle.reports.specs.Findings.{Findings}
 use Rattle.call_phases.specs.Asking.{Fits, PassCount, fits_own, own_count}
 use Rattle.call_phases.specs.Ends.{Sequential, silent, SaysJudged}
+use Rattle.call_phases.specs.Finishing.{KeepsAsked}
 use Rattle.call_phases.proofs.Told.{if_some_as}
 use Rattle.call_phases.proofs.Worked.{judging_clients_have_worked}
 use Rattle.std.specs.List.{All}
@@ -61,6 +62,17 @@ module _ {P T : Type 0} (object : Sequential) (meaning : P → ℕ → ℕ → M
     worked = λ i low. has_worked i (h.back i (omega (arith, low, callers)));
   }
 
+  -- it made the phases that its lines tell of
+  phases_are : (i : ℕ) (h : IsBack meaning r SaysJudged fit count course b passes lines false i) → h.phases ≡ phases_of (slice_index course.allotments i) (lines_at lines i)
+  phases_are i h = (h.left refl).is ∙ ap (λ (own : List Line). phases_of (slice_index course.allotments i) own) (sym (lines_here lines i h.own h.lines_here))
+
+  -- and its call under way is as its last phase left it
+  pub keeps_asked : (i : ℕ) → IsBack meaning r SaysJudged fit count course b passes lines false i
+      → KeepsAsked (shape_of meaning r).program i (phases_of (slice_index course.allotments i) (lines_at lines i)) (local_at (locals_on b) i)
+  keeps_asked i h =
+      subst (λ (l : Local). KeepsAsked (shape_of meaning r).program i (phases_of (slice_index course.allotments i) (lines_at lines i)) l) (sym (the_local b.seat.me.0 i h.local h.here))
+      (subst (λ (p : ℕ). KeepsAsked (shape_of meaning r).program i p h.local) (phases_are i h) h.back.asked)
+
   -- the object was asked for the calls that the lines tell of
   pub told_in : (kind : Kind) (i : ℕ) (pass : T) → slice_get passes i ≡ Some pass → IsBack meaning r SaysJudged fit count course b passes lines false i
       → IsCountedIn count course.allotments (record { kind = kind; lines = lines }) i pass
@@ -69,8 +81,7 @@ module _ {P T : Type 0} (object : Sequential) (meaning : P → ℕ → ℕ → M
       let mine : h.pass ≡ pass = same_Some h.pass pass (sym h.pass_here ∙ there) in
       let own : lines_at lines i ≡ h.own = lines_here lines i h.own h.lines_here in
       let left = h.left refl in
-      let phases : h.phases ≡ phases_of (slice_index course.allotments i) (lines_at lines i) =
-      left.is ∙ ap (λ (o : List Line). phases_of (slice_index course.allotments i) o) (sym own) in
+      let phases = phases_are i h in
       let calls : calls_in h.local ≡ map made_of (lines_at lines i) =
       sym (judging_clients_have_worked course.object r.callers (operations_at course.operations i) (slice_index course.allotments i) h.local h.own left.left).calls ∙ ap (λ (o : List Line). map made_of o) (sym own) in
       subst (λ (p : T). IfSome (count p) (IsCountIn course.allotments findings i)) mine

@@ -10,15 +10,17 @@ use Rattle.call_lines.specs.Lawful.{IsLawful}
 use Rattle.client_scripts.specs.Plans.{Plan}
 use Rattle.call_phases.specs.Asking.{PassCount}
 use Rattle.call_phases.specs.Ends.{Sequential, silent}
+use Rattle.call_phases.specs.Finishing.{KeepsAsked}
 use Rattle.reports.specs.Findings.{Findings}
 
 -- Findings are those of a plan's callers that were given these phases and left these locals: of its kind, with the lines of just these
 -- locals, and lawful; and each caller has made just the phases that its lines tell of, so that one which stopped behind its publish
--- has published.
+-- has published, a call that was announced and not asked has no object step, and to one that was asked the program allows a reply.
 pub record IsReportOf (init : List ℕ) (next : List ℕ → ℕ → List ℕ × ℕ) (s : Shape) (locals : List Local) (plan : Plan) (allotments : List ℕ) (findings : Findings) : Type 0 where
   pub kind : findings.kind ≡ plan.kind
   pub lines : AreLinesOf init next locals findings.lines
   pub made : (i : ℕ) → i < s.callers → HasMade (operations_at plan.operations i) (phases_of (slice_index allotments i) (lines_at findings.lines i)) (local_at locals i)
+  pub asked : (i : ℕ) → i < s.callers → KeepsAsked s.program i (phases_of (slice_index allotments i) (lines_at findings.lines i)) (local_at locals i)
   pub lawful : IsLawful init next s plan.operations allotments findings.lines
 
 -- The sequential object that the first of some endings judges by.
