@@ -44,6 +44,7 @@ module _ {P T : Type 0} (meaning : P → ℕ → ℕ → Meaning) (r : Rows P) (
   pub reported : (f : Findings) → f ≡ record { kind = plan.kind; lines = lines } → IsReportOf object.init object.next (shape_of meaning r) (locals_on b) plan allotments f
   reported f same = subst (λ (h : Findings). IsReportOf object.init object.next (shape_of meaning r) (locals_on b) plan allotments h) (sym same) (record {
     kind = refl;
+    together = together;
     lines = of;
     made = λ i low. (have.worked i low).made;
     asked = λ i low. keeps_asked object meaning r fit count (course_of plan allotments object) b passes lines refl i (back.back i (omega (arith, low, rows.callers)));

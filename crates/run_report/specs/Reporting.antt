@@ -2,7 +2,7 @@
 use Rattle.std.specs.Prelude.{◌≡◌, ℕ, ◌<◌, List, [], ◌∷◌, Option, IfSome, map, slice_index}
 use Rattle.world_core.specs.Shape.{Shape}
 use Rattle.world_core.specs.Local.{Local}
-use Rattle.world_core.specs.Calls.{local_at}
+use Rattle.world_core.specs.Calls.{AreTogether, local_at}
 use Rattle.call_lines.specs.Lines.{made_of, lines_at, AreLinesOf}
 use Rattle.call_lines.specs.Phases.{HasMade, IsTold, asked}
 use Rattle.call_lines.specs.Allotments.{operations_at, phases_of}
@@ -14,10 +14,12 @@ use Rattle.call_phases.specs.Finishing.{KeepsAsked}
 use Rattle.reports.specs.Findings.{Findings}
 
 -- Findings are those of a plan's callers that were given these phases and left these locals: of its kind, with the lines of just these
--- locals, and lawful; and each caller has made just the phases that its lines tell of, so that one which stopped behind its publish
--- has published, a call that was announced and not asked has no object step, and to one that was asked the program allows a reply.
+-- locals, which are those of one reachable world, and lawful; and each caller has made just the phases that its lines tell of, so that
+-- one which stopped behind its publish has published. A call under way that was announced and not asked has no object step, and to one
+-- that was asked the program allows a reply.
 pub record IsReportOf (init : List ℕ) (next : List ℕ → ℕ → List ℕ × ℕ) (s : Shape) (locals : List Local) (plan : Plan) (allotments : List ℕ) (findings : Findings) : Type 0 where
   pub kind : findings.kind ≡ plan.kind
+  pub together : AreTogether s locals
   pub lines : AreLinesOf init next locals findings.lines
   pub made : (i : ℕ) → i < s.callers → HasMade (operations_at plan.operations i) (phases_of (slice_index allotments i) (lines_at findings.lines i)) (local_at locals i)
   pub asked : (i : ℕ) → i < s.callers → KeepsAsked s.program i (phases_of (slice_index allotments i) (lines_at findings.lines i)) (local_at locals i)

@@ -35,6 +35,7 @@ asked_second first late locals (suc (suc i)) low = absurd (omega (arith, low))
 pub returns-clause-recorded : goal.returns-clause-recorded
 returns-clause-recorded c = record {
   kind = refl;
+  together = stopped_together;
   lines = stopped_lines;
   made = recorded.made;
   asked = asked_second 3 (inl refl) (locals_after (take 24 two_calls));
@@ -44,6 +45,7 @@ returns-clause-recorded c = record {
 pub returns-clause-published : goal.returns-clause-published
 returns-clause-published c = record {
   kind = refl;
+  together = published_together;
   lines = published_lines;
   made = published.made;
   asked = asked_second 4 (inr refl) (locals_after (announced_both ++ published_one));
