@@ -2,6 +2,7 @@
 #![tactic(auto)]
 
 mod inside_object;
+pub mod laws;
 mod run;
 
 pub use inside_object::InsideObject;

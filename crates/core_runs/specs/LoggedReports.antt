@@ -1,0 +1,43 @@
+-- What a report of callers says of the object inside the world that answered them.
+use Rattle.std.specs.Prelude.{ℕ, List, length, map, slice_index}
+use Rattle.world_core.specs.Local.{Local}
+use Rattle.world_core.specs.Calls.{Made}
+use Rattle.call_lines.specs.Lines.{made_of, lines_at}
+use Rattle.call_lines.specs.Allotments.{phases_of}
+use Rattle.client_scripts.specs.Plans.{Plan}
+use Rattle.reports.specs.Findings.{Findings}
+use Rattle.object_orders.specs.OneWord.{one_word_shape}
+use Rattle.object_orders.specs.TallyAndCell.{tally, cell}
+use Rattle.log_program.specs.LogProgram.{log_shape}
+use Rattle.lawful_objects.specs.Replays.{last_reply}
+use Rattle.lawful_objects.specs.Forms.{IsTallyReply, IsCellReply}
+use Rattle.logged_calls.specs.Logged.{IsLoggedBy, AreFormed}
+use Rattle.run_report.specs.Reporting.{IsReportOf}
+
+-- How many phases each caller of a report has made, and the calls of its lines.
+abbrev pub phases_in : List ℕ → Findings → ℕ → ℕ
+phases_in allotments findings i = phases_of (slice_index allotments i) (lines_at findings.lines i)
+
+abbrev pub calls_of_lines : Findings → ℕ → List Made
+calls_of_lines findings i = map made_of (lines_at findings.lines i)
+
+-- The calls of a report over the log of a sequential object are in one log, and its answers are that object's, whatever the calls are
+-- judged by.
+abbrev pub ReportsOfLogsAreLogged : Type 0
+ReportsOfLogsAreLogged =
+    (init : List ℕ) (next : List ℕ → ℕ → List ℕ × ℕ) (first : List ℕ) (step : List ℕ → ℕ → List ℕ × ℕ) (n cap : ℕ) (locals : List Local) (plan : Plan) (allotments : List ℕ) (findings : Findings)
+    → IsReportOf first step (log_shape init next n cap) locals plan allotments findings
+    → IsLoggedBy (last_reply next init) (length findings.lines) (phases_in allotments findings) (calls_of_lines findings)
+
+-- The reply of each answered call of a report over a tally has a tally's form, and over a cell a cell's.
+abbrev pub ReportsOfTalliesAreFormed : Type 0
+ReportsOfTalliesAreFormed =
+    (first : List ℕ) (step : List ℕ → ℕ → List ℕ × ℕ) (n cap : ℕ) (locals : List Local) (plan : Plan) (allotments : List ℕ) (findings : Findings)
+    → IsReportOf first step (one_word_shape n cap tally) locals plan allotments findings
+    → AreFormed IsTallyReply (length findings.lines) (calls_of_lines findings)
+
+abbrev pub ReportsOfCellsAreFormed : Type 0
+ReportsOfCellsAreFormed =
+    (first : List ℕ) (step : List ℕ → ℕ → List ℕ × ℕ) (n cap : ℕ) (locals : List Local) (plan : Plan) (allotments : List ℕ) (findings : Findings)
+    → IsReportOf first step (one_word_shape n cap cell) locals plan allotments findings
+    → AreFormed IsCellReply (length findings.lines) (calls_of_lines findings)
