@@ -1,4 +1,4 @@
-pub mod AskedObjects
 pub mod FreshRuns
 pub mod LogLaws
 pub mod OpenedPasses
+pub mod ToldCalls

@@ -1,4 +1,4 @@
--- Lemmas on one log for all calls of a report.
+-- Lemmas on one log for all calls.
 use Rattle.std.proofs.Common.{◌≡◌, ℕ, zero, suc, ◌<◌, ◌==◌, true, false, List, [], ◌∷◌, ◌++◌, length, map, take, Some, slice_get, refl, sym, ap, ◌∙◌, subst, inl, inr, append_assoc, eq-eqb}
 use Rattle.std.specs.List.{filter, All}
 use Rattle.std.proofs.lemmas.Bool.{cases_Bool, cond-true, cond-false, eqb-true}
@@ -12,7 +12,6 @@ use Rattle.shared_log.proofs.Logs.{calls_by-append, All-behind}
 use Rattle.call_lines.specs.Phases.{asked, answered, operations_of}
 use Rattle.lawful_objects.specs.Pairs.{pairs_of, pairs_behind}
 use Rattle.lawful_objects.proofs.Pairing.{behind_own}
-use Rattle.named_runs.specs.NamedObjects.{calls_of_caller, phases_made}
 use Rattle.named_runs.specs.LogLaws.{AnswersComeFromTheLog, EntriesAreOfCalls}
 
 -- ---- a pair of a log stands there
@@ -84,13 +83,13 @@ module _ (answer : List Entry → ℕ) (i : ℕ) where
         later front rest e k k op reply s (ap (λ (l : List ℕ). length l) (calls_with_other i e s.before other) ∙ s.number)
   ]
 
--- each answered call of a report stands in the log, and was answered from the log up to it
+-- each answered call stands in the log, and was answered from the log up to it
 pub answers_come_from_the_log : AnswersComeFromTheLog
-answers_come_from_the_log answer allotments findings logged i k op reply low there =
+answers_come_from_the_log answer n phases calls logged i k op reply low there =
     let pairs : List (ℕ × ℕ) = pairs_of answer logged.log i in
-    let told : slice_get (take (answered (phases_made allotments findings i)) pairs) k ≡ Some (op, reply) =
+    let told : slice_get (take (answered (phases i)) pairs) k ≡ Some (op, reply) =
     ap (λ (ps : List (ℕ × ℕ)). slice_get ps k) (logged.replies i low) ∙ there in
-    let s = pair_stands answer i [] logged.log k op reply (slice_get-take (answered (phases_made allotments findings i)) pairs k (op, reply) told) in
+    let s = pair_stands answer i [] logged.log k op reply (slice_get-take (answered (phases i)) pairs k (op, reply) told) in
     record { before = s.before; behind = s.behind; at = s.at; number = s.number; replied = s.replied }
 
 -- ---- an entry of a log is of a call
@@ -107,17 +106,17 @@ next_call before behind e =
     (calls_by-append e.caller before (e ∷ behind) ∙ ap (λ (ops : List ℕ). calls_by e.caller before ++ ops) (calls_with_own e.caller e behind (eq-eqb e.caller e.caller refl)))
     ∙ slice_get-middle (calls_by e.caller before) e.op (calls_by e.caller behind)
 
--- each entry of the log is of a call of the report
+-- each entry of the log is of a call that its caller asked for
 pub entries_are_of_calls : EntriesAreOfCalls
-entries_are_of_calls answer allotments findings logged before behind e at =
-    let caller : e.caller < length findings.lines =
-    All-head (λ (d : Entry). d.caller < length findings.lines) e behind
-    (All-behind (λ (d : Entry). d.caller < length findings.lines) before (e ∷ behind) (subst (λ (l : List Entry). All (λ (d : Entry). d.caller < length findings.lines) l) at logged.callers)) in
-    let n : ℕ = asked (phases_made allotments findings e.caller) in
-    let there : slice_get (take n (operations_of (calls_of_caller findings e.caller))) (length (calls_by e.caller before)) ≡ Some e.op =
+entries_are_of_calls answer n phases calls logged before behind e at =
+    let caller : e.caller < n =
+    All-head (λ (d : Entry). d.caller < n) e behind
+    (All-behind (λ (d : Entry). d.caller < n) before (e ∷ behind) (subst (λ (l : List Entry). All (λ (d : Entry). d.caller < n) l) at logged.callers)) in
+    let many : ℕ = asked (phases e.caller) in
+    let there : slice_get (take many (operations_of (calls e.caller))) (length (calls_by e.caller before)) ≡ Some e.op =
     ap (λ (ops : List ℕ). slice_get ops (length (calls_by e.caller before))) (sym (logged.entries e.caller caller) ∙ ap (calls_by e.caller) at) ∙ next_call before behind e in
     record {
       caller = caller;
-      asked_for = slice_get-take_below n (operations_of (calls_of_caller findings e.caller)) (length (calls_by e.caller before)) e.op there;
-      operation = slice_get-take n (operations_of (calls_of_caller findings e.caller)) (length (calls_by e.caller before)) e.op there;
+      asked_for = slice_get-take_below many (operations_of (calls e.caller)) (length (calls_by e.caller before)) e.op there;
+      operation = slice_get-take many (operations_of (calls e.caller)) (length (calls_by e.caller before)) e.op there;
     }

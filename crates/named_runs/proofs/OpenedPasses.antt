@@ -9,6 +9,7 @@ use Rattle.text_fields.specs.declared.version.Version.TheVariants.{Second}
 use Rattle.client_scripts.specs.Plans.{Plan, IsPlan}
 use Rattle.bench_clients.specs.Places.{AreInOrder}
 use Rattle.run_report.specs.Passes.{IsOwnPass, IsUnusedPass}
+use Rattle.named_runs.specs.NamedObjects.{AreOwnPasses}
 use Rattle.named_runs.proofs.FreshRuns.{calls_within}
 
 module _ {T : Type 0} (caller : T → ℕ) (passes : List T) (n : ℕ) where
@@ -17,7 +18,7 @@ module _ {T : Type 0} (caller : T → ℕ) (passes : List T) (n : ℕ) where
   passes_count callers = sym (length-map passes caller) ∙ ap (λ (l : List ℕ). length l) callers ∙ length-range_with_len 0 n
 
   -- the pass at place i is that of caller i
-  pass_at : map caller passes ≡ range_with_len 0 n → (i : ℕ) (pass : T) → slice_get passes i ≡ Some pass → caller pass ≡ i
+  pub pass_at : map caller passes ≡ range_with_len 0 n → (i : ℕ) (pass : T) → slice_get passes i ≡ Some pass → caller pass ≡ i
   pass_at callers i pass there =
       let low : i < length passes = slice_get_within passes i pass there in
       let at : get_or (map caller passes) i 0 ≡ caller pass =
@@ -40,7 +41,7 @@ module _ {T : Type 0} (caller : T → ℕ) (passes : List T) (n : ℕ) where
       }
 
 -- passes in order are all the object's own
-pub own_passes : {T : Type 0} (is_own : T → Type 0) (caller : T → ℕ) (passes : List T) → AreInOrder (IsOwnPass is_own caller) passes → All is_own passes
+own_passes : {T : Type 0} (is_own : T → Type 0) (caller : T → ℕ) (passes : List T) → AreInOrder (IsOwnPass is_own caller) passes → All is_own passes
 own_passes is_own caller passes h k d low = (h k (get_or passes k d) (slice_get-get_or passes k d low)).own
 
 -- passes that are those of the callers from a on
@@ -53,7 +54,12 @@ callers_from caller a (pass ∷ passes) h =
     λ j. first j ∷ others j
 
 -- passes in order are those of all callers
-pub callers_in_order : {T : Type 0} (is_own : T → Type 0) (caller : T → ℕ) (passes : List T) (n : ℕ) → length passes ≡ n
+callers_in_order : {T : Type 0} (is_own : T → Type 0) (caller : T → ℕ) (passes : List T) (n : ℕ) → length passes ≡ n
     → AreInOrder (IsOwnPass is_own caller) passes → map caller passes ≡ range_with_len 0 n
 callers_in_order is_own caller passes n count h =
     callers_from caller 0 passes (λ i pass there. omega (arith, (h i pass there).of)) ∙ ap (range_with_len 0) count
+
+-- passes in order are those that the object was opened with
+pub passes_back : {T : Type 0} (is_own : T → Type 0) (caller : T → ℕ) (passes : List T) (n : ℕ) → length passes ≡ n
+    → AreInOrder (IsOwnPass is_own caller) passes → AreOwnPasses is_own caller n passes
+passes_back is_own caller passes n count h = record { callers = callers_in_order is_own caller passes n count h; own = own_passes is_own caller passes h }

@@ -1,10 +1,10 @@
--- What one log for all calls says of a report, call by call.
+-- What one log for all calls says of them, call by call.
 use Rattle.std.specs.Prelude.{◌≡◌, ℕ, ◌<◌, List, [], ◌∷◌, ◌++◌, length, slice_get, Some}
 use Rattle.shared_log.specs.declared.entry.Entry.{Entry}
 use Rattle.shared_log.specs.Entries.{calls_by, entry}
+use Rattle.world_core.specs.Calls.{Made}
 use Rattle.call_lines.specs.Phases.{asked, operations_of, answers_in}
-use Rattle.reports.specs.Findings.{Findings}
-use Rattle.named_runs.specs.NamedObjects.{calls_of_caller, phases_made, IsLoggedBy}
+use Rattle.logged_calls.specs.Logged.{IsLoggedBy}
 
 -- Call k of caller i stands in a log, behind entries of which k are the caller's, and its reply is the answer to the log up to it.
 pub record IsAnsweredIn (answer : List Entry → ℕ) (log : List Entry) (i k op reply : ℕ) : Type 0 where
@@ -14,20 +14,20 @@ pub record IsAnsweredIn (answer : List Entry → ℕ) (log : List Entry) (i k op
   pub number : length (calls_by i before) ≡ k
   pub replied : reply ≡ answer (before ++ entry i op ∷ [])
 
--- An entry behind some others is of a caller of the report, and asks for the operation of the next of its calls, which it asked for.
-pub record IsOfCall (allotments : List ℕ) (findings : Findings) (before : List Entry) (e : Entry) : Type 0 where
-  pub caller : e.caller < length findings.lines
-  pub asked_for : length (calls_by e.caller before) < asked (phases_made allotments findings e.caller)
-  pub operation : slice_get (operations_of (calls_of_caller findings e.caller)) (length (calls_by e.caller before)) ≡ Some e.op
+-- An entry behind some others is of one of n callers, and asks for the operation of the next of its calls, which it asked for.
+pub record IsOfCall (n : ℕ) (phases : ℕ → ℕ) (calls : ℕ → List Made) (before : List Entry) (e : Entry) : Type 0 where
+  pub caller : e.caller < n
+  pub asked_for : length (calls_by e.caller before) < asked (phases e.caller)
+  pub operation : slice_get (operations_of (calls e.caller)) (length (calls_by e.caller before)) ≡ Some e.op
 
--- Each answered call of a report stands in the log, and was answered from the log up to it.
+-- Each answered call stands in the log, and was answered from the log up to it.
 abbrev pub AnswersComeFromTheLog : Type 0
 AnswersComeFromTheLog =
-    (answer : List Entry → ℕ) (allotments : List ℕ) (findings : Findings) (logged : IsLoggedBy answer allotments findings) (i k op reply : ℕ)
-    → i < length findings.lines → slice_get (answers_in (calls_of_caller findings i)) k ≡ Some (op, reply) → IsAnsweredIn answer logged.log i k op reply
+    (answer : List Entry → ℕ) (n : ℕ) (phases : ℕ → ℕ) (calls : ℕ → List Made) (logged : IsLoggedBy answer n phases calls) (i k op reply : ℕ)
+    → i < n → slice_get (answers_in (calls i)) k ≡ Some (op, reply) → IsAnsweredIn answer logged.log i k op reply
 
--- Each entry of the log is of a call of the report.
+-- Each entry of the log is of a call that its caller asked for.
 abbrev pub EntriesAreOfCalls : Type 0
 EntriesAreOfCalls =
-    (answer : List Entry → ℕ) (allotments : List ℕ) (findings : Findings) (logged : IsLoggedBy answer allotments findings) (before behind : List Entry) (e : Entry)
-    → logged.log ≡ before ++ e ∷ behind → IsOfCall allotments findings before e
+    (answer : List Entry → ℕ) (n : ℕ) (phases : ℕ → ℕ) (calls : ℕ → List Made) (logged : IsLoggedBy answer n phases calls) (before behind : List Entry) (e : Entry)
+    → logged.log ≡ before ++ e ∷ behind → IsOfCall n phases calls before e

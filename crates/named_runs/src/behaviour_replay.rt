@@ -4,65 +4,45 @@ ghost use Rattle.std.specs.Prelude.{◌≡◌, ◌≤◌};
 ghost use Rattle.byte_streams.specs.Fault.{Rose};
 ghost use Rattle.run_writer.specs.Runs.{RunEnds};
 ghost use Rattle.run_writer.specs.Running.{replay_allotments};
-ghost use Rattle.named_runs.specs.BehaviourRuns.{IsLoggedReport, IsFormedReport, IsNamedReplayReport};
+ghost use Rattle.named_runs.specs.BehaviourRuns.{IsExplainedReport, IsNamedReplayReport};
 
-use crate::formed_object::FormedObject;
 use crate::fresh_replay::replay_fresh;
+use crate::named_object::NamedObject;
 use book_base::{MAX_CALLS, NoMemory};
 use byte_streams::{Sink, Status};
 use client_scripts::Script;
-use drv_wrapper::ObjectPass;
 use faulty_objects::{Behaviour, Invent, Late, Lossy, OnePass, SplitTally, Twice};
-use lawful_objects::{LogBox, Machine, Plain, Tally, WordCell};
+use lawful_objects::{LogBox, Plain, Tally, WordCell};
 use run_writer::Form;
+use seq_objects::Kind;
 use std::alloc::Global;
 
-// Replays a script over the log object that this machine answers for, and closes the log behind it.
-fn replay_log<M: Machine + Drop, K: Sink>(
+// Replays a script over a named object outside the world, and closes it behind the replay.
+fn replay_named<O: NamedObject, K: Sink>(
     alloc: Global,
     script: &Script,
-    machine: M,
     form: Form,
     sink: &mut K,
 ) -> Status
-    ensures ends { RunEnds
-        (IsLoggedReport (M.reply_to machine) script.now (replay_allotments script.now))
+    ensures ends { RunEnds (IsExplainedReport O.explains script.now (replay_allotments script.now))
         form result (K.taken sink.old) (K.taken sink.new) }
     ensures fault { result ≡ Status.WriteFault → Rose (K.faults sink.old) (K.faults sink.new) }
     ensures calm { ¬ (result ≡ Status.WriteFault) → K.faults sink.new ≡ K.faults sink.old }
     ensures unwritten { result ≡ Status.NoMemory → sink.new ≡ sink.old }
     ensures later { K.faults sink.old ≤ K.faults sink.new }
 {
-    let (object, mut passes) = match LogBox::open(alloc, machine, script.callers(), MAX_CALLS) {
+    let (object, mut passes) = match O::open_for(
+        alloc,
+        script.kind(),
+        script.callers(),
+        MAX_CALLS,
+    ) {
         Ok(opened) => opened,
         Err(NoMemory) => return Status::NoMemory,
     };
     let status = replay_fresh(alloc, script, &object, &mut passes, form, sink);
-    object.close(passes);
+    object.close_with(passes);
     status
-}
-
-// Replays a script over an object that gives replies of one form.
-fn replay_formed<O: FormedObject + Drop, K: Sink>(
-    alloc: Global,
-    script: &Script,
-    form: Form,
-    sink: &mut K,
-) -> Status
-where
-    O::Pass: Drop,
-    ensures ends { RunEnds (IsFormedReport O.form script.now (replay_allotments script.now))
-        form result (K.taken sink.old) (K.taken sink.new) }
-    ensures fault { result ≡ Status.WriteFault → Rose (K.faults sink.old) (K.faults sink.new) }
-    ensures calm { ¬ (result ≡ Status.WriteFault) → K.faults sink.new ≡ K.faults sink.old }
-    ensures unwritten { result ≡ Status.NoMemory → sink.new ≡ sink.old }
-    ensures later { K.faults sink.old ≤ K.faults sink.new }
-{
-    let (object, mut passes) = match O::open_for(alloc, script.callers(), MAX_CALLS) {
-        Ok(opened) => opened,
-        Err(NoMemory) => return Status::NoMemory,
-    };
-    replay_fresh(alloc, script, &object, &mut passes, form, sink)
 }
 
 /// Lets all callers of a script take its turns over the object of a behaviour, in one thread, and writes what the form shows of
@@ -86,16 +66,15 @@ pub fn replay_behaviour<K: Sink>(
     ensures unwritten { result ≡ Status.NoMemory → sink.new ≡ sink.old }
     ensures later { K.faults sink.old ≤ K.faults sink.new }
 {
-    let object = script.kind();
     match behaviour {
-        Behaviour::Lawful => replay_log(alloc, script, Plain { object }, form, sink),
-        Behaviour::Tally => replay_formed::<Tally, K>(alloc, script, form, sink),
-        Behaviour::Cell => replay_formed::<WordCell, K>(alloc, script, form, sink),
-        Behaviour::Lossy => replay_log(alloc, script, Lossy { object }, form, sink),
-        Behaviour::Twice => replay_log(alloc, script, Twice { object }, form, sink),
-        Behaviour::Late => replay_log(alloc, script, Late { object }, form, sink),
-        Behaviour::Invent => replay_log(alloc, script, Invent { object }, form, sink),
-        Behaviour::Split => replay_formed::<SplitTally, K>(alloc, script, form, sink),
-        Behaviour::Onepass => replay_formed::<OnePass, K>(alloc, script, form, sink),
+        Behaviour::Lawful => replay_named::<LogBox<Plain<Kind>>, K>(alloc, script, form, sink),
+        Behaviour::Tally => replay_named::<Tally, K>(alloc, script, form, sink),
+        Behaviour::Cell => replay_named::<WordCell, K>(alloc, script, form, sink),
+        Behaviour::Lossy => replay_named::<LogBox<Lossy<Kind>>, K>(alloc, script, form, sink),
+        Behaviour::Twice => replay_named::<LogBox<Twice<Kind>>, K>(alloc, script, form, sink),
+        Behaviour::Late => replay_named::<LogBox<Late<Kind>>, K>(alloc, script, form, sink),
+        Behaviour::Invent => replay_named::<LogBox<Invent<Kind>>, K>(alloc, script, form, sink),
+        Behaviour::Split => replay_named::<SplitTally, K>(alloc, script, form, sink),
+        Behaviour::Onepass => replay_named::<OnePass, K>(alloc, script, form, sink),
     }
 }

@@ -4,48 +4,22 @@ ghost use Rattle.std.specs.Prelude.{◌≡◌, ◌≤◌};
 ghost use Rattle.byte_streams.specs.Fault.{Rose};
 ghost use Rattle.run_writer.specs.Runs.{RunEnds};
 ghost use Rattle.run_writer.specs.Running.{run_allotments};
-ghost use Rattle.named_runs.specs.BehaviourRuns.{IsLoggedReport, IsFormedReport, IsNamedRunReport};
+ghost use Rattle.named_runs.specs.BehaviourRuns.{IsExplainedReport, IsNamedRunReport};
 
-use crate::formed_object::FormedObject;
 use crate::fresh_run::run_fresh;
+use crate::named_object::NamedObject;
 use book_base::{MAX_CALLS, NoMemory};
 use byte_streams::{Sink, Status};
 use client_scripts::Script;
-use drv_wrapper::ObjectPass;
 use faulty_objects::{Behaviour, Invent, Late, Lossy, OnePass, SplitTally, Twice};
-use lawful_objects::{LogBox, Machine, Plain, Tally, WordCell};
+use lawful_objects::{LogBox, Plain, Tally, WordCell};
 use run_writer::Form;
+use seq_objects::Kind;
 use std::alloc::Global;
 use std::thread::Threads;
 
-// Runs a script over the log object that this machine answers for, and closes the log behind it.
-fn run_log<R: Threads + Sync, M: Machine + Drop + Sync, K: Sink>(
-    rt: &R,
-    alloc: Global,
-    script: &Script,
-    machine: M,
-    form: Form,
-    sink: &mut K,
-) -> Status
-    ensures ends { RunEnds
-        (IsLoggedReport (M.reply_to machine) script.now (run_allotments script.now))
-        form result (K.taken sink.old) (K.taken sink.new) }
-    ensures fault { result ≡ Status.WriteFault → Rose (K.faults sink.old) (K.faults sink.new) }
-    ensures calm { ¬ (result ≡ Status.WriteFault) → K.faults sink.new ≡ K.faults sink.old }
-    ensures unwritten { result ≡ Status.NoMemory → sink.new ≡ sink.old }
-    ensures later { K.faults sink.old ≤ K.faults sink.new }
-{
-    let (object, mut passes) = match LogBox::open(alloc, machine, script.callers(), MAX_CALLS) {
-        Ok(opened) => opened,
-        Err(NoMemory) => return Status::NoMemory,
-    };
-    let status = run_fresh(rt, alloc, script, &object, &mut passes, form, sink);
-    object.close(passes);
-    status
-}
-
-// Runs a script over an object that gives replies of one form.
-fn run_formed<O: FormedObject + Drop + Sync, R: Threads + Sync, K: Sink>(
+// Runs a script over a named object outside the world, and closes it behind the run.
+fn run_named<O: NamedObject + Sync, R: Threads + Sync, K: Sink>(
     rt: &R,
     alloc: Global,
     script: &Script,
@@ -53,19 +27,26 @@ fn run_formed<O: FormedObject + Drop + Sync, R: Threads + Sync, K: Sink>(
     sink: &mut K,
 ) -> Status
 where
-    O::Pass: Drop + Send,
-    ensures ends { RunEnds (IsFormedReport O.form script.now (run_allotments script.now))
+    O::Pass: Send,
+    ensures ends { RunEnds (IsExplainedReport O.explains script.now (run_allotments script.now))
         form result (K.taken sink.old) (K.taken sink.new) }
     ensures fault { result ≡ Status.WriteFault → Rose (K.faults sink.old) (K.faults sink.new) }
     ensures calm { ¬ (result ≡ Status.WriteFault) → K.faults sink.new ≡ K.faults sink.old }
     ensures unwritten { result ≡ Status.NoMemory → sink.new ≡ sink.old }
     ensures later { K.faults sink.old ≤ K.faults sink.new }
 {
-    let (object, mut passes) = match O::open_for(alloc, script.callers(), MAX_CALLS) {
+    let (object, mut passes) = match O::open_for(
+        alloc,
+        script.kind(),
+        script.callers(),
+        MAX_CALLS,
+    ) {
         Ok(opened) => opened,
         Err(NoMemory) => return Status::NoMemory,
     };
-    run_fresh(rt, alloc, script, &object, &mut passes, form, sink)
+    let status = run_fresh(rt, alloc, script, &object, &mut passes, form, sink);
+    object.close_with(passes);
+    status
 }
 
 /// Runs all callers of a script over the object of a behaviour, each in a thread of its own where one can be had, and writes what
@@ -90,16 +71,15 @@ pub fn run_behaviour<R: Threads + Sync, K: Sink>(
     ensures unwritten { result ≡ Status.NoMemory → sink.new ≡ sink.old }
     ensures later { K.faults sink.old ≤ K.faults sink.new }
 {
-    let object = script.kind();
     match behaviour {
-        Behaviour::Lawful => run_log(rt, alloc, script, Plain { object }, form, sink),
-        Behaviour::Tally => run_formed::<Tally, R, K>(rt, alloc, script, form, sink),
-        Behaviour::Cell => run_formed::<WordCell, R, K>(rt, alloc, script, form, sink),
-        Behaviour::Lossy => run_log(rt, alloc, script, Lossy { object }, form, sink),
-        Behaviour::Twice => run_log(rt, alloc, script, Twice { object }, form, sink),
-        Behaviour::Late => run_log(rt, alloc, script, Late { object }, form, sink),
-        Behaviour::Invent => run_log(rt, alloc, script, Invent { object }, form, sink),
-        Behaviour::Split => run_formed::<SplitTally, R, K>(rt, alloc, script, form, sink),
-        Behaviour::Onepass => run_formed::<OnePass, R, K>(rt, alloc, script, form, sink),
+        Behaviour::Lawful => run_named::<LogBox<Plain<Kind>>, R, K>(rt, alloc, script, form, sink),
+        Behaviour::Tally => run_named::<Tally, R, K>(rt, alloc, script, form, sink),
+        Behaviour::Cell => run_named::<WordCell, R, K>(rt, alloc, script, form, sink),
+        Behaviour::Lossy => run_named::<LogBox<Lossy<Kind>>, R, K>(rt, alloc, script, form, sink),
+        Behaviour::Twice => run_named::<LogBox<Twice<Kind>>, R, K>(rt, alloc, script, form, sink),
+        Behaviour::Late => run_named::<LogBox<Late<Kind>>, R, K>(rt, alloc, script, form, sink),
+        Behaviour::Invent => run_named::<LogBox<Invent<Kind>>, R, K>(rt, alloc, script, form, sink),
+        Behaviour::Split => run_named::<SplitTally, R, K>(rt, alloc, script, form, sink),
+        Behaviour::Onepass => run_named::<OnePass, R, K>(rt, alloc, script, form, sink),
     }
 }

@@ -1,8 +1,8 @@
-//! What one log for all calls says of a report, call by call.
+//! What one log for all calls says of them, call by call.
 
 ghost use Rattle.named_runs.specs.LogLaws.{AnswersComeFromTheLog, EntriesAreOfCalls};
 
-/// Each answered call of a report stands in the log, and its reply is the answer to the log up to it.
+/// Each answered call stands in the log, and its reply is the answer to the log up to it.
 pub fn answers_come_from_the_log()
     ensures { AnswersComeFromTheLog }
 {}

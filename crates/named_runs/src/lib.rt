@@ -3,10 +3,11 @@
 
 mod behaviour_replay;
 mod behaviour_run;
-mod formed_object;
 mod fresh_replay;
 mod fresh_run;
 mod laws;
+mod named_machine;
+mod named_object;
 
 pub use behaviour_replay::replay_behaviour;
 pub use behaviour_run::run_behaviour;

@@ -1,0 +1,11 @@
+use Rattle.std.proofs.Common.{◌*◌, [], refl}
+use Rattle.faulty_objects.specs.Forms.{IsQueueReply}
+use Rattle.faulty_objects.specs.Passes.{deeds_of, pairs_in, IsQueuePass}
+use Rattle.faulty_objects.proofs.Forming.{one_passes_are_formed}
+use Rattle.named_runs.proofs.ToldCalls.{formed_from_told}
+use Rattle.named_runs.proofs.named_object.OnePassNamedObject.close_with.Goals as goal
+
+pub returns : goal.returns
+returns c kind phases calls serves told =
+    formed_from_told _ _ _ _ c.requires.callers phases calls told (IsQueuePass c.args.self) IsQueueReply c.requires.own
+    (λ pass own. record { pairs = pairs_in pass; told_is = refl; formed = one_passes_are_formed (c.args.self.words.callers * c.args.self.words.cap) (pairs_in pass) [] (deeds_of pass.seat) own.calls })
