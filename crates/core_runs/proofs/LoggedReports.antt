@@ -1,5 +1,5 @@
 -- What the runs of an object inside the world say of a report of its callers.
-use Rattle.std.proofs.Common.{◌≡◌, ◌∙◌, sym, subst, ap, ℕ, ◌<◌, List, [], length, map, take, slice_index, slice_index_or, arith}
+use Rattle.std.proofs.Common.{◌≡◌, ◌∙◌, sym, subst, ap, ℕ, ◌<◌, List, [], length, map, take, slice_index_or, arith}
 use Rattle.std.specs.List.{All}
 use Rattle.std.proofs.Math.ListN.{get_or-map}
 use Rattle.shared_log.specs.declared.entry.Entry.{Entry}
@@ -7,8 +7,8 @@ use Rattle.world_core.specs.Shape.{Shape, Meaning}
 use Rattle.world_core.specs.Local.{Local}
 use Rattle.world_core.specs.Calls.{Made, calls_in, local_at}
 use Rattle.call_lines.specs.declared.line.Line.{Line}
-use Rattle.call_lines.specs.Lines.{made_of, lines_at}
-use Rattle.call_lines.specs.Phases.{asked, answered, operations_of, answers_in}
+use Rattle.call_lines.specs.Lines.{made_of}
+use Rattle.call_lines.specs.Phases.{asked, operations_of, answers_in}
 use Rattle.call_lines.specs.Allotments.{operations_at}
 use Rattle.report_laws.proofs.Runs.{calls_at}
 use Rattle.row_table.specs.declared.rows.Rows.{Rows}

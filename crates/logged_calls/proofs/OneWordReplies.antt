@@ -1,5 +1,5 @@
 -- The replies of the calls of every run of a tally, and of a cell, by their operations.
-use Rattle.std.proofs.Common.{◌≡◌, ◌≢◌, ℕ, ◌+◌, ◌-◌, ◌*◌, ◌^◌, ◌<◌, ◌⊎◌, true, false, ◌&&◌, ◌||◌, ◌==◌, if◌then◌else◌, List, [], ◌∷◌, length, map, take, get_or, Some, None, slice_get, slice_index, slice_index_or, refl, sym, ap, ◌∙◌, subst, inl, inr, arith, eq-eqb}
+use Rattle.std.proofs.Common.{◌≡◌, ℕ, ◌+◌, ◌-◌, ◌^◌, ◌<◌, ◌⊎◌, true, false, ◌&&◌, ◌||◌, ◌==◌, List, [], ◌∷◌, map, take, get_or, Some, slice_get, slice_index, slice_index_or, refl, sym, ap, ◌∙◌, subst, inl, inr, arith, eq-eqb}
 use Rattle.std.specs.List.{All, range_with_len}
 use Rattle.std.proofs.lemmas.Bool.{and_parts, and_from, cases_Bool, eqb-true, cond-true, cond-false}
 use Rattle.std.proofs.lemmas.List.Elements.{All-same, All-take, All-map}
@@ -14,7 +14,6 @@ use Rattle.seq_objects.specs.Words as words
 use Rattle.world_core.specs.Shape.{Shape}
 use Rattle.world_core.specs.Local.{Local, Object_step}
 use Rattle.world_core.specs.World.{World, Step, local_of, IsRun, end_of}
-use Rattle.world_core.specs.History.{call_of}
 use Rattle.world_core.specs.Calls.{calls_in, local_at}
 use Rattle.world_books.proofs.Pages.{HasLengths, slice_get-made}
 use Rattle.world_books.proofs.Validity.{all_lengths}

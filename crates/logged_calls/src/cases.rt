@@ -1,0 +1,16 @@
+//! Worked calls, and which of them are in one log.
+
+ghost use Rattle.logged_calls.specs.Logged.{IsLoggedBy};
+ghost use Rattle.logged_calls.specs.Cases.{count_before, one_answered, others_made, answered_backwards, both_made};
+
+/// Of two callers the first has its record. Where the second was asked, its call may have come before the first's,
+/// or after it; where it was announced and not asked, no reply counts it. Nor does a reply count a call of a caller
+/// that isn't there, nor one of its own caller that comes later.
+pub fn logs_have_the_calls_that_were_asked()
+    ensures asked_before { IsLoggedBy count_before 2 (others_made 2) (one_answered 1) }
+    ensures asked_after { IsLoggedBy count_before 2 (others_made 2) (one_answered 0) }
+    ensures unasked { IsLoggedBy count_before 2 (others_made 1) (one_answered 0) }
+    ensures counts_unasked { ¬ IsLoggedBy count_before 2 (others_made 1) (one_answered 1) }
+    ensures counts_a_stranger { ¬ IsLoggedBy count_before 1 (others_made 2) (one_answered 1) }
+    ensures counts_its_next { ¬ IsLoggedBy count_before 1 both_made answered_backwards }
+{}
