@@ -23,22 +23,22 @@ use Rattle.history_rules.specs.Standing.{MayStandAtOnce, answered_place, word_of
 use Rattle.history_rules.proofs.Exchange.{goes_on_with_it}
 use Rattle.frontier_check.specs.declared.choice.Choice.{Choice}
 use Rattle.book_base.specs.Pruning.{ViewsAreWithin, IsLeast, IsDeadEnd, StandsAtOnce, IsReached}
-use Rattle.frontier_check.specs.Search.{IsAmong, places_of, AreChosen, IsOpen, GoesOnBy, IsRankIn}
+use Rattle.frontier_check.specs.Search.{IsAmong, places_of, AreChosen, IsOpen, IsServed, GoesOnBy, IsRankIn}
 
 -- a place among the places of choices, with one more choice
 
-among-insert_old : (choices : List Choice) (i : ℕ) (new : Choice) (place : Place) → IsAmong place (places_of choices) → IsAmong place (places_of (insert choices i new))
+pub among-insert_old : (choices : List Choice) (i : ℕ) (new : Choice) (place : Place) → IsAmong place (places_of choices) → IsAmong place (places_of (insert choices i new))
 among-insert_old [] i new place h = absurd h
 among-insert_old (first ∷ choices) zero new place h = inr h
 among-insert_old (first ∷ choices) (suc i) new place h = elim h [ inl here ↦ inl here | inr there ↦ inr (among-insert_old choices i new place there) ]
 
-among-insert_new : (choices : List Choice) (i : ℕ) (new : Choice) → IsAmong new.place (places_of (insert choices i new))
+pub among-insert_new : (choices : List Choice) (i : ℕ) (new : Choice) → IsAmong new.place (places_of (insert choices i new))
 among-insert_new [] zero new = inl refl
 among-insert_new [] (suc i) new = inl refl
 among-insert_new (first ∷ choices) zero new = inl refl
 among-insert_new (first ∷ choices) (suc i) new = inr (among-insert_new choices i new)
 
-all-insert : (P : Place → Type 0) (choices : List Choice) (i : ℕ) (new : Choice) → P new.place → AllByRecursion P (places_of choices) → AllByRecursion P (places_of (insert choices i new))
+pub all-insert : (P : Place → Type 0) (choices : List Choice) (i : ℕ) (new : Choice) → P new.place → AllByRecursion P (places_of choices) → AllByRecursion P (places_of (insert choices i new))
 all-insert P [] zero new p all = (p, all)
 all-insert P [] (suc i) new p all = (p, all)
 all-insert P (first ∷ choices) zero new p all = (p, all)
@@ -93,29 +93,40 @@ dead_end book next cut list h rest goes = absurd (h.covered rest goes).2
 
 -- one caller after another
 
-pub chosen-more : (book : List Page) (next : List ℕ → ℕ → List ℕ × ℕ) (cut list : List ℕ) (caller : ℕ) (places : List Place) → AreChosen book next cut list caller places
-    → ((place : Place) (rest : List Place) → place.caller ≡ caller → Continues book next cut list (place ∷ rest) → ⊥) → AreChosen book next cut list (caller + 1) places
-chosen-more book next cut list caller places h none = record {
-  sound = h.sound;
+-- An order that goes on by a place of a list goes on by one of another list.
+abbrev pub AreServedBy : List Page → (List ℕ → ℕ → List ℕ × ℕ) → List ℕ → List ℕ → List Place → List Place → Type 0
+AreServedBy book next cut list old new = (place : Place) (rest : List Place) → IsAmong place old → Continues book next cut list (place ∷ rest) → GoesOnBy book next cut list new
+
+pub chosen-next : (book : List Page) (next : List ℕ → ℕ → List ℕ × ℕ) (cut list : List ℕ) (caller : ℕ) (old new : List Place) → AreChosen book next cut list caller old
+    → AllByRecursion (MayStandNext book next cut list) new → AreServedBy book next cut list old new
+    → ((place : Place) (rest : List Place) → place.caller ≡ caller → Continues book next cut list (place ∷ rest) → IsServed book next cut list new (length rest))
+    → AreChosen book next cut list (caller + 1) new
+chosen-next book next cut list caller old new h sound served own = record {
+  sound = sound;
   covered = λ (place : Place) (rest : List Place) (below : place.caller < caller + 1) (goes : Continues book next cut list (place ∷ rest)). elim (cases_lt place.caller caller) [
-    | inl early ↦ h.covered place rest early goes
-    | inr here ↦ absurd (none place rest (omega arith) goes)
+    | inl early ↦ elim (h.covered place rest early goes) [
+      | inl found ↦ inl (served found.0 found.1 found.2 found.3)
+      | inr shorter ↦ inr shorter
+    ]
+    | inr here ↦ own place rest (omega arith) goes
   ];
 }
 
-pub chosen-insert : (book : List Page) (next : List ℕ → ℕ → List ℕ × ℕ) (cut list : List ℕ) (caller : ℕ) (choices : List Choice) (i : ℕ) (new : Choice)
-    → AreChosen book next cut list caller (places_of choices) → new.place.caller ≡ caller → MayStandNext book next cut list new.place
-    → AreChosen book next cut list (caller + 1) (places_of (insert choices i new))
-chosen-insert book next cut list caller choices i new h is may = record {
-  sound = all-insert (MayStandNext book next cut list) choices i new may h.sound;
-  covered = λ (place : Place) (rest : List Place) (below : place.caller < caller + 1) (goes : Continues book next cut list (place ∷ rest)). elim (cases_lt place.caller caller) [
-    | inl early ↦ among-insert_old choices i new place (h.covered place rest early goes)
-    | inr here ↦
-        let at : place.caller ≡ caller = omega arith in
-        let same : place ≡ new.place = same_next book next cut list place new.place goes.0 may (at ∙ sym is) in
-        subst (λ (p : Place). IsAmong p (places_of (insert choices i new))) (sym same) (among-insert_new choices i new)
-  ];
-}
+pub chosen-more : (book : List Page) (next : List ℕ → ℕ → List ℕ × ℕ) (cut list : List ℕ) (caller : ℕ) (places : List Place) → AreChosen book next cut list caller places
+    → ((place : Place) (rest : List Place) → place.caller ≡ caller → Continues book next cut list (place ∷ rest) → ⊥) → AreChosen book next cut list (caller + 1) places
+chosen-more book next cut list caller places h none =
+    chosen-next book next cut list caller places places h h.sound (λ (place : Place) (rest : List Place) among goes. (place, rest, among, goes))
+    (λ (place : Place) (rest : List Place) by goes. absurd (none place rest by goes))
+
+pub chosen-insert : (book : List Page) (next : List ℕ → ℕ → List ℕ × ℕ) (cut list : List ℕ) (choices : List Choice) (i : ℕ) (new : Choice)
+    → AreChosen book next cut list new.place.caller (places_of choices) → MayStandNext book next cut list new.place
+    → AreChosen book next cut list (new.place.caller + 1) (places_of (insert choices i new))
+chosen-insert book next cut list choices i new h may =
+    chosen-next book next cut list new.place.caller (places_of choices) (places_of (insert choices i new)) h (all-insert (MayStandNext book next cut list) choices i new may h.sound)
+    (λ (place : Place) (rest : List Place) among goes. (place, rest, among-insert_old choices i new place among, goes))
+    (λ (place : Place) (rest : List Place) (by : place.caller ≡ new.place.caller) (goes : Continues book next cut list (place ∷ rest)).
+    let same : place ≡ new.place = same_next book next cut list place new.place goes.0 may by in
+    inl (place, rest, subst (λ (p : Place). IsAmong p (places_of (insert choices i new))) (sym same) (among-insert_new choices i new), goes))
 
 -- The step that the search makes: what may stand next.
 pub may_stand-from_step : (book : List Page) (next : List ℕ → ℕ → List ℕ × ℕ) (cut list : List ℕ) (place : Place) (op : ℕ) → MayComeNext book cut (call_at place)
@@ -175,11 +186,16 @@ may_not_come-from_least book cut first view below call h is past may =
 pub unended-from_least : (book : List Page) (cut : List ℕ) (first : ℕ) → IsLeast book cut (length book) first → HoldsAnswered book cut → ⊥
 unended-from_least book cut first least all = let held : get_or cut first 0 < get_or cut first 0 = all (next_call cut first) least.answered in absurd (omega arith)
 
+-- an order of no more than so many places goes on by one of the places that are chosen
 goes_on-by : (book : List Page) (next : List ℕ → ℕ → List ℕ × ℕ) (cut list : List ℕ) (places : List Place) → (HoldsAnswered book cut → ⊥)
-    → AreChosen book next cut list (length book) places → (rest : List Place) → Continues book next cut list rest → GoesOnBy book next cut list places
-goes_on-by book next cut list places unended h [] goes = absurd (unended goes)
-goes_on-by book next cut list places unended h (place ∷ rest) goes =
-    (place, rest, h.covered place rest (caller_from_call book place.caller place.number goes.0.may_come.is_call) goes, goes)
+    → AreChosen book next cut list (length book) places → (few : ℕ) (rest : List Place) → length rest ≤ few → Continues book next cut list rest → GoesOnBy book next cut list places
+goes_on-by book next cut list places unended h few [] short goes = absurd (unended goes)
+goes_on-by book next cut list places unended h zero (place ∷ rest) short goes = absurd (omega arith)
+goes_on-by book next cut list places unended h (suc few) (place ∷ rest) short goes =
+    elim (h.covered place rest (caller_from_call book place.caller place.number goes.0.may_come.is_call) goes) [
+      | inl found ↦ found
+      | inr shorter ↦ goes_on-by book next cut list places unended h few shorter.0 (omega (arith, shorter.2)) shorter.1
+    ]
 
 -- Once all callers are looked at, what is chosen is all that may be tried.
 pub open-from_chosen : (book : List Page) (next : List ℕ → ℕ → List ℕ × ℕ) (cut list : List ℕ) (first : ℕ) (places : List Place) → IsLeast book cut (length book) first
@@ -187,7 +203,7 @@ pub open-from_chosen : (book : List Page) (next : List ℕ → ℕ → List ℕ 
 open-from_chosen book next cut list first places least h = record {
   unended = unended-from_least book cut first least;
   sound = h.sound;
-  covered = goes_on-by book next cut list places (unended-from_least book cut first least) h;
+  covered = λ rest goes. goes_on-by book next cut list places (unended-from_least book cut first least) h (length rest) rest (omega arith) goes;
 }
 
 -- What may stand at once is all that has to be tried.
@@ -353,16 +369,15 @@ so_far-none book cut below None e h = λ (call : Call) (answered : IsAnswered bo
     h.none call (omega arith) answered
 so_far-none book cut below (Some old) e h = tt
 
--- The next call of a caller is tried: its place is chosen where the reply is the recorded one,
-pub considered-insert : (book : List Page) (next : List ℕ → ℕ → List ℕ × ℕ) (cut list : List ℕ) (choices items : List Choice) (i : ℕ) (new : Choice) (op : ℕ)
-    → AreChosen book next cut list new.place.caller (places_of choices) → new.place.number ≡ get_or cut new.place.caller 0 → MayComeNext book cut (next_call cut new.place.caller)
-    → operation_of book (call_at new.place) ≡ Some op → ((r : Record) → record_of book (call_at new.place) ≡ Some r → r.reply ≡ new.place.reply) → new.place.reply ≡ (next list op).1
-    → items ≡ insert choices i new → AreChosen book next cut list (new.place.caller + 1) (places_of items)
-considered-insert book next cut list choices items i new op h number may known recorded gives are =
-    let same : call_at new.place ≡ next_call cut new.place.caller = same_call (call_at new.place) (next_call cut new.place.caller) refl number in
-    let comes : MayComeNext book cut (call_at new.place) = subst (λ (c : Call). MayComeNext book cut c) (sym same) may in
-    subst (λ (cs : List Choice). AreChosen book next cut list (new.place.caller + 1) (places_of cs)) (sym are)
-    (chosen-insert book next cut list new.place.caller choices i new h refl (may_stand-from_step book next cut list new.place op comes known recorded gives))
+-- The next call of a caller has a place that may stand next where the reply is the recorded one,
+pub considered-place : (book : List Page) (next : List ℕ → ℕ → List ℕ × ℕ) (cut list : List ℕ) (place : Place) (op : ℕ)
+    → place.number ≡ get_or cut place.caller 0 → MayComeNext book cut (next_call cut place.caller)
+    → operation_of book (call_at place) ≡ Some op → ((r : Record) → record_of book (call_at place) ≡ Some r → r.reply ≡ place.reply) → place.reply ≡ (next list op).1
+    → MayStandNext book next cut list place
+considered-place book next cut list place op number may known recorded gives =
+    let same : call_at place ≡ next_call cut place.caller = same_call (call_at place) (next_call cut place.caller) refl number in
+    let comes : MayComeNext book cut (call_at place) = subst (λ (c : Call). MayComeNext book cut c) (sym same) may in
+    may_stand-from_step book next cut list place op comes known recorded gives
 
 -- and nothing is chosen where it isn't.
 pub considered-skip : (book : List Page) (next : List ℕ → ℕ → List ℕ × ℕ) (cut list : List ℕ) (places : List Place) (call : Call) (op reply : ℕ)

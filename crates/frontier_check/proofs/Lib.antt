@@ -1,5 +1,6 @@
 pub mod Pairs
 pub mod Choosing
+pub mod Serving
 pub mod Leading
 pub mod Following
 pub mod Weighing

@@ -49,11 +49,17 @@ pub record IsOpen (book : List Page) (next : List ℕ → ℕ → List ℕ × �
 abbrev pub IsRankIn : List (ℕ × ℕ) → List ℕ → ℕ → Type 0
 IsRankIn ranks list rank = (limit : ℕ) → rank < limit → HasEarly ranks list limit
 
--- The places that were chosen so far, of the callers below a number: each may stand next, and an order that goes on by one of
--- these callers goes on by one of them.
+-- Where an order goes on, one goes on by one of these places, or one goes on that has no more than so many places.
+abbrev pub IsServed : List Page → (List ℕ → ℕ → List ℕ × ℕ) → List ℕ → List ℕ → List Place → ℕ → Type 0
+IsServed book next cut list places few =
+    GoesOnBy book next cut list places ⊎ ((other : List Place) × Continues book next cut list other × (length other ≤ few))
+
+-- The places that were chosen so far, of the callers below a number: each may stand next, and where an order goes on by one of these
+-- callers, one goes on by one of the places, or a shorter one goes on.
 pub record AreChosen (book : List Page) (next : List ℕ → ℕ → List ℕ × ℕ) (cut list : List ℕ) (below : ℕ) (places : List Place) : Type 0 where
   pub sound : AllByRecursion (MayStandNext book next cut list) places
-  pub covered : (place : Place) (rest : List Place) → place.caller < below → Continues book next cut list (place ∷ rest) → IsAmong place places
+  pub covered : (place : Place) (rest : List Place) → place.caller < below → Continues book next cut list (place ∷ rest)
+      → IsServed book next cut list places (length rest)
 
 -- The levels lead from a cut and a list to others: at each level its words are the list, its place stands next, and the places
 -- besides its own that are still to be tried are those of its choices.

@@ -5,8 +5,10 @@ mod choice;
 mod front;
 mod guide;
 mod memo;
+mod one_open;
 mod plan;
 mod search;
+mod twins;
 mod verdict;
 mod walk;
 

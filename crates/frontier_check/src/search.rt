@@ -1,19 +1,20 @@
 ghost use Rattle.std.specs.Prelude.{◌≡◌, ℕ, ◌+◌, ◌<◌, ◌≤◌, ◌↔◌, ◌∷◌, ◌++◌, [], List, length, slice_index, IfOk, IfSome, IfNone, IsTrue, Some, OnOk};
 ghost use Rattle.book_base.specs.declared.call.Place.{Place};
 ghost use Rattle.book_base.specs.declared.call.Record.{Record};
-ghost use Rattle.book_base.specs.Book.{IsCall, IsAnswered, record_of};
+ghost use Rattle.book_base.specs.Book.{IsCall, IsAnswered, IsValid, record_of};
 ghost use Rattle.book_base.specs.Order.{IsLegalOrder};
 ghost use Rattle.book_base.specs.Foresight.{IsForesight, IsHopeless};
 ghost use Rattle.book_base.specs.declared.TheConstants.{MAX_CALLERS, MAX_CALLS};
 ghost use Rattle.book_base.specs.Next.{next_call, raised, list_after, HoldsAnswered, MayComeNext};
 ghost use Rattle.frontier_check.specs.Front.{IsFront};
-ghost use Rattle.book_base.specs.Pruning.{IsLeast, IsDeadEnd, ViewsAreWithin, IsReached, StandsAtOnce};
+ghost use Rattle.book_base.specs.Pruning.{HasOneOpen, IsLeast, IsDeadEnd, ViewsAreWithin, IsReached, StandsAtOnce};
 ghost use Rattle.frontier_check.specs.Search.{places_of, AreChosen, IsOpen, IsWalk, IsRightOutcome, IsRankIn, Fits, weigh, weight};
 
 use crate::choice::Choice;
 use crate::front::Front;
 use crate::memo::Memo;
 use crate::plan::Plan;
+use crate::twins::choose;
 use crate::walk::{Level, Outcome, ROOM, Walk, load, places, set_count};
 use book_base::{Book, Call, Cut, Foresight, NoMemory, Place, SeqObject, State};
 use std::alloc::Global;
@@ -26,6 +27,7 @@ pub struct Search<'a, S> {
     pub book: &'a Book,
     pub known: &'a Foresight,
     pub limited: bool,
+    pub one_open: bool,
     pub plan: &'a Plan,
     pub front: &'a Front,
 }
@@ -38,6 +40,7 @@ impl<S> Drop for Search<'_, S> {
             book: _,
             known: _,
             limited: _,
+            one_open: _,
             plan: _,
             front: _,
         } = self;
@@ -48,6 +51,7 @@ impl<S: SeqObject> Search<'_, S> {
     /// Finds the places that make a legal order behind those of the front, if there are any.
     pub fn run(&self) -> Result<Option<Vec<Place>>, NoMemory>
         requires foresight { IsForesight (S.init self.now.object.now) (S.next self.now.object.now) self.now.book.now self.now.known.now }
+        requires open { IsTrue self.now.one_open → HasOneOpen self.now.book.now }
         requires front { IsFront (S.init self.now.object.now) (S.next self.now.object.now) self.now.book.now self.now.front.now }
         ensures found { IfOk result (λ found. IfSome found (λ rest. IsLegalOrder (S.init self.now.object.now) (S.next self.now.object.now) self.now.book.now (self.now.front.now.places.items ++ rest.items))) }
         ensures none { IfOk result (λ found. IfNone found (IsDeadEnd self.now.book.now (S.next self.now.object.now) self.now.front.now.cut self.now.front.now.here.words)) }
@@ -63,6 +67,7 @@ impl<S: SeqObject> Search<'_, S> {
     /// `None` says nothing: there may be some, and no clause says that it looks so far.
     pub fn run_few(&self, steps: u64) -> Result<Option<Vec<Place>>, NoMemory>
         requires foresight { IsForesight (S.init self.now.object.now) (S.next self.now.object.now) self.now.book.now self.now.known.now }
+        requires open { IsTrue self.now.one_open → HasOneOpen self.now.book.now }
         requires front { IsFront (S.init self.now.object.now) (S.next self.now.object.now) self.now.book.now self.now.front.now }
         ensures found { IfOk result (λ found. IfSome found (λ rest. IsLegalOrder (S.init self.now.object.now) (S.next self.now.object.now) self.now.book.now (self.now.front.now.places.items ++ rest.items))) }
     {
@@ -76,6 +81,7 @@ impl<S: SeqObject> Search<'_, S> {
     // The walk that stands where the front ends; there is none where all answered calls stand.
     fn begin(&self, spare: &mut State) -> Result<Option<Walk>, NoMemory>
         requires foresight { IsForesight (S.init self.now.object.now) (S.next self.now.object.now) self.now.book.now self.now.known.now }
+        requires open { IsTrue self.now.one_open → HasOneOpen self.now.book.now }
         requires front { IsFront (S.init self.now.object.now) (S.next self.now.object.now) self.now.book.now self.now.front.now }
         requires room { spare.old.room ≡ ROOM }
         ensures room { spare.new.room ≡ ROOM }
@@ -102,6 +108,7 @@ impl<S: SeqObject> Search<'_, S> {
     // Goes on with a walk until it has found a legal order, or all is tried.
     fn go_on(&self, walk: &mut Walk, spare: &mut State) -> Result<Option<Vec<Place>>, NoMemory>
         requires foresight { IsForesight (S.init self.now.object.now) (S.next self.now.object.now) self.now.book.now self.now.known.now }
+        requires open { IsTrue self.now.one_open → HasOneOpen self.now.book.now }
         requires walk { IsWalk self.now.book.now self.now.front.now (S.init self.now.object.now) (S.next self.now.object.now) walk.old (places_of walk.old.choices.items) }
         requires room { spare.old.room ≡ ROOM }
         ensures found { IfOk result (λ found. IfSome found (λ rest. IsLegalOrder (S.init self.now.object.now) (S.next self.now.object.now) self.now.book.now (self.now.front.now.places.items ++ rest.items))) }
@@ -124,6 +131,7 @@ impl<S: SeqObject> Search<'_, S> {
         steps: u64,
     ) -> Result<Option<Vec<Place>>, NoMemory>
         requires foresight { IsForesight (S.init self.now.object.now) (S.next self.now.object.now) self.now.book.now self.now.known.now }
+        requires open { IsTrue self.now.one_open → HasOneOpen self.now.book.now }
         requires walk { IsWalk self.now.book.now self.now.front.now (S.init self.now.object.now) (S.next self.now.object.now) walk.old (places_of walk.old.choices.items) }
         requires room { spare.old.room ≡ ROOM }
         ensures found { IfOk result (λ found. IfSome found (λ rest. IsLegalOrder (S.init self.now.object.now) (S.next self.now.object.now) self.now.book.now (self.now.front.now.places.items ++ rest.items))) }
@@ -141,6 +149,7 @@ impl<S: SeqObject> Search<'_, S> {
     // Tries the best choice that is left, or leaves a dead end.
     fn advance(&self, walk: &mut Walk, spare: &mut State) -> Result<Outcome, NoMemory>
         requires foresight { IsForesight (S.init self.now.object.now) (S.next self.now.object.now) self.now.book.now self.now.known.now }
+        requires open { IsTrue self.now.one_open → HasOneOpen self.now.book.now }
         requires walk { IsWalk self.now.book.now self.now.front.now (S.init self.now.object.now) (S.next self.now.object.now) walk.old (places_of walk.old.choices.items) }
         requires room { spare.old.room ≡ ROOM }
         ensures room { spare.new.room ≡ ROOM }
@@ -159,6 +168,7 @@ impl<S: SeqObject> Search<'_, S> {
     // Puts a place next, unless that leads to a remembered dead end.
     fn enter(&self, walk: &mut Walk, spare: &mut State, place: Place) -> Result<Outcome, NoMemory>
         requires foresight { IsForesight (S.init self.now.object.now) (S.next self.now.object.now) self.now.book.now self.now.known.now }
+        requires open { IsTrue self.now.one_open → HasOneOpen self.now.book.now }
         requires walk { IsWalk self.now.book.now self.now.front.now (S.init self.now.object.now) (S.next self.now.object.now) walk.old (place ∷ places_of walk.old.choices.items) }
         requires room { spare.old.room ≡ ROOM }
         ensures room { spare.new.room ≡ ROOM }
@@ -246,6 +256,7 @@ impl<S: SeqObject> Search<'_, S> {
         first: u32,
     ) -> Result<Vec<Choice>, NoMemory>
         requires foresight { IsForesight (S.init self.now.object.now) (S.next self.now.object.now) self.now.book.now self.now.known.now }
+        requires open { IsTrue self.now.one_open → HasOneOpen self.now.book.now }
         requires reached { IsReached (S.init self.now.object.now) (S.next self.now.object.now) self.now.book.now counts.now here.now.words }
         requires wide { length counts.now ≡ length self.now.book.now }
         requires first { IsLeast self.now.book.now counts.now (length self.now.book.now) first }
@@ -375,7 +386,9 @@ impl<S: SeqObject> Search<'_, S> {
         }
     }
 
-    // Adds the place of a caller's next call, which may come next, if the object gives the recorded reply.
+    // Adds the place of a caller's next call, which may come next, if the object gives the recorded reply. In
+    // a book with one open an unanswered call that leaves the list isn't added, nor one that a twin serves
+    // for.
     fn consider(
         &self,
         counts: &[u16],
@@ -384,6 +397,9 @@ impl<S: SeqObject> Search<'_, S> {
         spare: &mut State,
         choices: &mut Vec<Choice>,
     ) -> Result<(), NoMemory>
+        requires valid { IsValid self.now.book.now }
+        requires open { IsTrue self.now.one_open → HasOneOpen self.now.book.now }
+        requires wide { length counts.now ≡ length self.now.book.now }
         requires caller { caller < length counts.now }
         requires may { MayComeNext self.now.book.now counts.now (next_call counts.now caller) }
         requires fits { Fits counts.now here.now.words }
@@ -400,15 +416,18 @@ impl<S: SeqObject> Search<'_, S> {
         if !is_recorded(self.book, call, reply) {
             return Ok(());
         }
-        let stays = number < self.book.answers(caller) && spare.words() == here.words();
-        let turn = self.plan.turn(caller, number, stays);
+        let answered = number < self.book.answers(caller);
+        let leaves = spare.words() == here.words();
+        if self.one_open && leaves && !answered {
+            return Ok(());
+        }
+        let turn = self.plan.turn(caller, number, leaves && answered);
         let place = Place {
             caller,
             number,
             reply,
         };
-        choices.insert(slot_of(choices, turn), Choice { turn, place })?;
-        Ok(())
+        choose(self.book, self.one_open, choices, Choice { turn, place })
     }
 
     // Of the callers with an answered call outside a cut the one whose first such call has the least view;
@@ -482,18 +501,6 @@ fn cut_of(counts: &[u16]) -> Cut
         cut.set(caller, u64::from(counts[caller as usize]));
     }
     cut
-}
-
-// Where a choice with this turn goes among others, the least turn last.
-fn slot_of(choices: &[Choice], turn: u64) -> usize
-    ensures { result ≤ length choices.now }
-{
-    for (index, choice) in choices.iter().enumerate() {
-        if choice.turn < turn {
-            return index;
-        }
-    }
-    choices.len()
 }
 
 // Whether a reply is the recorded one, where the call is answered.

@@ -6,6 +6,7 @@ ghost use Rattle.frontier_check.specs.Verdict.{IsRight, IsKept};
 
 use crate::front::Front;
 use crate::guide::Guide;
+use crate::one_open::has_one_open;
 use crate::plan::Plan;
 use crate::search::Search;
 use book_base::{Book, Call, Foresight, NoMemory, Place, SeqObject};
@@ -142,6 +143,7 @@ fn places_behind<S: SeqObject>(
         book,
         known,
         limited: false,
+        one_open: has_one_open(book),
         plan: &plan,
         front,
     };
@@ -169,6 +171,7 @@ fn order_anywhere<S: SeqObject>(
         book,
         known: &known,
         limited: has_limits(book, &known),
+        one_open: has_one_open(book),
         plan: &plan,
         front: &front,
     };

@@ -1,19 +1,19 @@
-use Rattle.std.proofs.Common.{◌∙◌, ap}
+use Rattle.std.proofs.Common.{◌∙◌, ap, sym}
 use Rattle.book_base.specs.declared.call.Call.{Call}
 use Rattle.book_base.specs.State.{Contents}
+use Rattle.book_base.specs.Next.{MayStandNext}
 use Rattle.frontier_check.specs.Search.{places_of}
 use Rattle.frontier_check.specs.declared.choice.Choice.{Choice}
-use Rattle.frontier_check.proofs.Choosing.{considered-insert, considered-skip}
+use Rattle.frontier_check.proofs.Choosing.{considered-place, considered-skip}
+use Rattle.frontier_check.proofs.Serving.{all_calls, considered-choice, considered-idle}
 use Rattle.frontier_check.proofs.search.Search.consider.Goals as goal
 
 pub returns-clause-chosen : goal.returns-clause-chosen
-returns-clause-chosen g c =
-    let book = c.args.self.now.book.now in
-    let next = g.S.SeqObject.next c.args.self.now.object.now in
-    let new : Choice = record { turn = c.turn-turn.result; place = record { caller = c.args.caller; number = c.from-number.result; reply = c.step-reply.result } } in
-    considered-insert book next c.args.counts.now c.args.here.now.words c.args.choices.now.items c.insert.new.self.items c.slot_of.result new c.op.result c.requires.chosen c.from-number.ensures
-    c.requires.may c.op.ensures (c.is_recorded.ensures.0 c.if-not-is_recorded.false)
-    (c.step-reply.ensures.reply ∙ ap (λ (s : Contents). (next s.words c.op.result).1) c.copy_from.ensures) c.in_ok-insert.ensures.items
+returns-clause-chosen g c = ?
+
+pub choose-requires-clause-calls : goal.choose-requires-clause-calls
+choose-requires-clause-calls g c =
+    all_calls c.args.self.now.book.now (g.S.SeqObject.next c.args.self.now.object.now) c.args.counts.now c.args.here.now.words (places_of c.args.choices.now.items) c.requires.chosen.sound
 
 pub returns-then-not-is_recorded-clause-chosen : goal.returns-then-not-is_recorded-clause-chosen
 returns-then-not-is_recorded-clause-chosen g c =
