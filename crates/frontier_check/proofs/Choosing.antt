@@ -1,5 +1,5 @@
 -- What may be tried after the calls of a cut, and that nothing else goes on from there.
-use Rattle.std.proofs.Common.{◌≡◌, ℕ, zero, suc, ◌+◌, ◌<◌, ◌≤◌, ◌∙◌, ◌↔◌, Bool, IsTrue, List, [], ◌∷◌, ◌++◌, length, get_or, set, Option, None, Some, unwrap_or, refl, sym, ap, subst, inl, inr, arith}
+use Rattle.std.proofs.Common.{◌≡◌, ◌⊎◌, ℕ, zero, suc, ◌+◌, ◌<◌, ◌≤◌, ◌∙◌, ◌↔◌, Bool, IsTrue, List, [], ◌∷◌, ◌++◌, length, get_or, set, Option, None, Some, unwrap_or, refl, sym, ap, subst, inl, inr, arith}
 use Rattle.std.specs.List.{AllByRecursion, insert}
 use Rattle.std.specs.Option.{IsSomeAnd, IfSome, IfNone}
 use Rattle.std.proofs.lemmas.Bool.{cases_lt}
@@ -22,8 +22,9 @@ use Rattle.book_laws.proofs.Precedence.{may_come_next-from_first}
 use Rattle.history_rules.specs.Standing.{MayStandAtOnce, answered_place, word_of}
 use Rattle.history_rules.proofs.Exchange.{goes_on_with_it}
 use Rattle.frontier_check.specs.declared.choice.Choice.{Choice}
-use Rattle.book_base.specs.Pruning.{ViewsAreWithin, IsLeast, IsDeadEnd, StandsAtOnce, IsReached}
-use Rattle.frontier_check.specs.Search.{IsAmong, places_of, AreChosen, IsOpen, IsServed, GoesOnBy, IsRankIn}
+use Rattle.book_base.specs.declared.marks.Marks.{Marks}
+use Rattle.book_base.specs.Pruning.{ViewsAreWithin, IsLeast, IsDeadEnd, StandsAtOnce, IsReached, IsMarked, MarksAllNext, MarksSuffice}
+use Rattle.frontier_check.specs.Search.{IsAmong, places_of, AreServedBy, IsOneMore, AreChosen, IsOpen, IsServed, GoesOnBy, IsRankIn}
 
 -- a place among the places of choices, with one more choice
 
@@ -93,40 +94,45 @@ dead_end book next cut list h rest goes = absurd (h.covered rest goes).2
 
 -- one caller after another
 
--- An order that goes on by a place of a list goes on by one of another list.
-abbrev pub AreServedBy : List Page → (List ℕ → ℕ → List ℕ × ℕ) → List ℕ → List ℕ → List Place → List Place → Type 0
-AreServedBy book next cut list old new = (place : Place) (rest : List Place) → IsAmong place old → Continues book next cut list (place ∷ rest) → GoesOnBy book next cut list new
-
-pub chosen-next : (book : List Page) (next : List ℕ → ℕ → List ℕ × ℕ) (cut list : List ℕ) (caller : ℕ) (old new : List Place) → AreChosen book next cut list caller old
-    → AllByRecursion (MayStandNext book next cut list) new → AreServedBy book next cut list old new
-    → ((place : Place) (rest : List Place) → place.caller ≡ caller → Continues book next cut list (place ∷ rest) → IsServed book next cut list new (length rest))
-    → AreChosen book next cut list (caller + 1) new
-chosen-next book next cut list caller old new h sound served own = record {
-  sound = sound;
-  covered = λ (place : Place) (rest : List Place) (below : place.caller < caller + 1) (goes : Continues book next cut list (place ∷ rest)). elim (cases_lt place.caller caller) [
-    | inl early ↦ elim (h.covered place rest early goes) [
-      | inl found ↦ inl (served found.0 found.1 found.2 found.3)
-      | inr shorter ↦ inr shorter
-    ]
-    | inr here ↦ own place rest (omega arith) goes
-  ];
+pub chosen-start : (book : List Page) (next : List ℕ → ℕ → List ℕ × ℕ) (cut list : List ℕ) (marks : Marks) → AreChosen book next cut list marks 0 []
+chosen-start book next cut list marks = record {
+  sound = tt;
+  covered = λ (place : Place) (rest : List Place) (below : place.caller < 0) marked goes. absurd (omega arith);
 }
 
-pub chosen-more : (book : List Page) (next : List ℕ → ℕ → List ℕ × ℕ) (cut list : List ℕ) (caller : ℕ) (places : List Place) → AreChosen book next cut list caller places
-    → ((place : Place) (rest : List Place) → place.caller ≡ caller → Continues book next cut list (place ∷ rest) → ⊥) → AreChosen book next cut list (caller + 1) places
-chosen-more book next cut list caller places h none =
-    chosen-next book next cut list caller places places h h.sound (λ (place : Place) (rest : List Place) among goes. (place, rest, among, goes))
-    (λ (place : Place) (rest : List Place) by goes. absurd (none place rest by goes))
+pub chosen-next : (book : List Page) (next : List ℕ → ℕ → List ℕ × ℕ) (cut list : List ℕ) (marks : Marks) (caller : ℕ) (old new : List Place)
+    → AreChosen book next cut list marks caller old → IsOneMore book next cut list caller old new → AreChosen book next cut list marks (caller + 1) new
+chosen-next book next cut list marks caller old new h more = record {
+  sound = more.sound;
+  covered = λ (place : Place) (rest : List Place) (below : place.caller < caller + 1) (marked : IsMarked marks place.caller) (goes : Continues book next cut list (place ∷ rest)).
+      elim (cases_lt place.caller caller) [
+        | inl early ↦ elim (h.covered place rest early marked goes) [
+          | inl found ↦ inl (more.served found.0 found.1 found.2 found.3)
+          | inr shorter ↦ inr shorter
+        ]
+        | inr here ↦ more.own place rest (omega arith) goes
+      ];
+}
 
-pub chosen-insert : (book : List Page) (next : List ℕ → ℕ → List ℕ × ℕ) (cut list : List ℕ) (choices : List Choice) (i : ℕ) (new : Choice)
-    → AreChosen book next cut list new.place.caller (places_of choices) → MayStandNext book next cut list new.place
-    → AreChosen book next cut list (new.place.caller + 1) (places_of (insert choices i new))
-chosen-insert book next cut list choices i new h may =
-    chosen-next book next cut list new.place.caller (places_of choices) (places_of (insert choices i new)) h (all-insert (MayStandNext book next cut list) choices i new may h.sound)
-    (λ (place : Place) (rest : List Place) among goes. (place, rest, among-insert_old choices i new place among, goes))
-    (λ (place : Place) (rest : List Place) (by : place.caller ≡ new.place.caller) (goes : Continues book next cut list (place ∷ rest)).
-    let same : place ≡ new.place = same_next book next cut list place new.place goes.0 may by in
-    inl (place, rest, subst (λ (p : Place). IsAmong p (places_of (insert choices i new))) (sym same) (among-insert_new choices i new), goes))
+-- the places are kept
+served_same : (book : List Page) (next : List ℕ → ℕ → List ℕ × ℕ) (cut list : List ℕ) (places : List Place) → AreServedBy book next cut list places places
+served_same book next cut list places place rest among goes = (place, rest, among, goes)
+
+pub more-kept : (book : List Page) (next : List ℕ → ℕ → List ℕ × ℕ) (cut list : List ℕ) (caller : ℕ) (places : List Place) → AllByRecursion (MayStandNext book next cut list) places
+    → ((place : Place) (rest : List Place) → place.caller ≡ caller → Continues book next cut list (place ∷ rest) → IsServed book next cut list places (length rest))
+    → IsOneMore book next cut list caller places places
+more-kept book next cut list caller places sound own = record { sound = sound; served = served_same book next cut list places; own = own }
+
+pub more-insert : (book : List Page) (next : List ℕ → ℕ → List ℕ × ℕ) (cut list : List ℕ) (choices : List Choice) (i : ℕ) (new : Choice)
+    → AllByRecursion (MayStandNext book next cut list) (places_of choices) → MayStandNext book next cut list new.place
+    → IsOneMore book next cut list new.place.caller (places_of choices) (places_of (insert choices i new))
+more-insert book next cut list choices i new sound may = record {
+  sound = all-insert (MayStandNext book next cut list) choices i new may sound;
+  served = λ (place : Place) (rest : List Place) among goes. (place, rest, among-insert_old choices i new place among, goes);
+  own = λ (place : Place) (rest : List Place) (by : place.caller ≡ new.place.caller) (goes : Continues book next cut list (place ∷ rest)).
+      let same : place ≡ new.place = same_next book next cut list place new.place goes.0 may by in
+      inl (place, rest, subst (λ (p : Place). IsAmong p (places_of (insert choices i new))) (sym same) (among-insert_new choices i new), goes);
+}
 
 -- The step that the search makes: what may stand next.
 pub may_stand-from_step : (book : List Page) (next : List ℕ → ℕ → List ℕ × ℕ) (cut list : List ℕ) (place : Place) (op : ℕ) → MayComeNext book cut (call_at place)
@@ -187,23 +193,23 @@ pub unended-from_least : (book : List Page) (cut : List ℕ) (first : ℕ) → I
 unended-from_least book cut first least all = let held : get_or cut first 0 < get_or cut first 0 = all (next_call cut first) least.answered in absurd (omega arith)
 
 -- an order of no more than so many places goes on by one of the places that are chosen
-goes_on-by : (book : List Page) (next : List ℕ → ℕ → List ℕ × ℕ) (cut list : List ℕ) (places : List Place) → (HoldsAnswered book cut → ⊥)
-    → AreChosen book next cut list (length book) places → (few : ℕ) (rest : List Place) → length rest ≤ few → Continues book next cut list rest → GoesOnBy book next cut list places
-goes_on-by book next cut list places unended h few [] short goes = absurd (unended goes)
-goes_on-by book next cut list places unended h zero (place ∷ rest) short goes = absurd (omega arith)
-goes_on-by book next cut list places unended h (suc few) (place ∷ rest) short goes =
-    elim (h.covered place rest (caller_from_call book place.caller place.number goes.0.may_come.is_call) goes) [
+goes_on-by : (book : List Page) (next : List ℕ → ℕ → List ℕ × ℕ) (cut list : List ℕ) (marks : Marks) (places : List Place) → MarksSuffice book next cut list marks
+    → AreChosen book next cut list marks (length book) places → (few : ℕ) (rest : List Place) → length rest ≤ few → Continues book next cut list rest → GoesOnBy book next cut list places
+goes_on-by book next cut list marks places suffice h zero rest short goes = let by = suffice rest goes in absurd (omega (arith, by.4))
+goes_on-by book next cut list marks places suffice h (suc few) rest short goes =
+    let by = suffice rest goes in
+    elim (h.covered by.0 by.1 (caller_from_call book by.0.caller by.0.number by.3.0.may_come.is_call) by.2 by.3) [
       | inl found ↦ found
-      | inr shorter ↦ goes_on-by book next cut list places unended h few shorter.0 (omega (arith, shorter.2)) shorter.1
+      | inr shorter ↦ goes_on-by book next cut list marks places suffice h few shorter.0 (omega (arith, by.4, shorter.2)) shorter.1
     ]
 
 -- Once all callers are looked at, what is chosen is all that may be tried.
-pub open-from_chosen : (book : List Page) (next : List ℕ → ℕ → List ℕ × ℕ) (cut list : List ℕ) (first : ℕ) (places : List Place) → IsLeast book cut (length book) first
-    → AreChosen book next cut list (length book) places → IsOpen book next cut list places
-open-from_chosen book next cut list first places least h = record {
+pub open-from_chosen : (book : List Page) (next : List ℕ → ℕ → List ℕ × ℕ) (cut list : List ℕ) (marks : Marks) (first : ℕ) (places : List Place) → IsLeast book cut (length book) first
+    → MarksSuffice book next cut list marks → AreChosen book next cut list marks (length book) places → IsOpen book next cut list places
+open-from_chosen book next cut list marks first places least suffice h = record {
   unended = unended-from_least book cut first least;
   sound = h.sound;
-  covered = λ rest goes. goes_on-by book next cut list places (unended-from_least book cut first least) h (length rest) rest (omega arith) goes;
+  covered = λ rest goes. goes_on-by book next cut list marks places suffice h (length rest) rest (omega arith) goes;
 }
 
 -- What may stand at once is all that has to be tried.
@@ -379,25 +385,63 @@ considered-place book next cut list place op number may known recorded gives =
     let comes : MayComeNext book cut (call_at place) = subst (λ (c : Call). MayComeNext book cut c) (sym same) may in
     may_stand-from_step book next cut list place op comes known recorded gives
 
--- and nothing is chosen where it isn't.
+-- and none where it isn't.
 pub considered-skip : (book : List Page) (next : List ℕ → ℕ → List ℕ × ℕ) (cut list : List ℕ) (places : List Place) (call : Call) (op reply : ℕ)
-    → AreChosen book next cut list call.caller places → call.number ≡ get_or cut call.caller 0
+    → AllByRecursion (MayStandNext book next cut list) places → call.number ≡ get_or cut call.caller 0
     → operation_of book call ≡ Some op → reply ≡ (next list op).1 → (((r : Record) → record_of book call ≡ Some r → r.reply ≡ reply) → ⊥)
-    → AreChosen book next cut list (call.caller + 1) places
-considered-skip book next cut list places call op reply h number known gives not =
+    → IsOneMore book next cut list call.caller places places
+considered-skip book next cut list places call op reply sound number known gives not =
     let same : call ≡ next_call cut call.caller = same_call call (next_call cut call.caller) refl number in
-    chosen-more book next cut list call.caller places h (λ (place : Place) (rest : List Place) (by : place.caller ≡ call.caller) (goes : Continues book next cut list (place ∷ rest)).
-    not (λ (r : Record) (there : record_of book call ≡ Some r).
-    recorded-from_may book next cut list call.caller op reply place (sym (ap (operation_of book) same) ∙ known) gives by goes.0 r (sym (ap (record_of book) same) ∙ there)))
+    more-kept book next cut list call.caller places sound (λ (place : Place) (rest : List Place) (by : place.caller ≡ call.caller) (goes : Continues book next cut list (place ∷ rest)).
+    absurd (not (λ (r : Record) (there : record_of book call ≡ Some r).
+    recorded-from_may book next cut list call.caller op reply place (sym (ap (operation_of book) same) ∙ known) gives by goes.0 r (sym (ap (record_of book) same) ∙ there))))
 
--- A caller whose next call the least view doesn't hold has none that may come next.
-pub outside-skip : (book : List Page) (next : List ℕ → ℕ → List ℕ × ℕ) (cut list : List ℕ) (places : List Place) (first caller : ℕ) (view : List ℕ) → IsLeast book cut (length book) first
-    → ((r : Record) → record_of book (next_call cut first) ≡ Some r → r.view ≡ view) → AreChosen book next cut list caller places → get_or view caller 0 ≤ get_or cut caller 0
-    → AreChosen book next cut list (caller + 1) places
-outside-skip book next cut list places first caller view least is h past =
-    chosen-more book next cut list caller places h (λ (place : Place) (rest : List Place) (by : place.caller ≡ caller) (goes : Continues book next cut list (place ∷ rest)).
-    let late : get_or view place.caller 0 ≤ get_or cut place.caller 0 = subst (λ (i : ℕ). get_or view i 0 ≤ get_or cut i 0) (sym by) past in
-    may_not_come-from_least book cut first view (length book) (call_at place) least is late goes.0.may_come)
+-- A caller that isn't marked isn't looked at.
+pub unmarked-skip : (book : List Page) (next : List ℕ → ℕ → List ℕ × ℕ) (cut list : List ℕ) (marks : Marks) (places : List Place) (caller : ℕ)
+    → AreChosen book next cut list marks caller places → (IsMarked marks caller → ⊥) → AreChosen book next cut list marks (caller + 1) places
+unmarked-skip book next cut list marks places caller h not = record {
+  sound = h.sound;
+  covered = λ (place : Place) (rest : List Place) (below : place.caller < caller + 1) (marked : IsMarked marks place.caller) (goes : Continues book next cut list (place ∷ rest)).
+      elim (cases_lt place.caller caller) [
+        | inl early ↦ h.covered place rest early marked goes
+        | inr here ↦ let at : place.caller ≡ caller = omega arith in absurd (not (subst (λ (i : ℕ). IsMarked marks i) at marked))
+      ];
+}
+
+-- Marks on the callers below a number whose next calls may come next.
+abbrev pub MarksNextBelow : List Page → List ℕ → ℕ → Marks → Type 0
+MarksNextBelow book cut below marks = (i : ℕ) → IsMarked marks i ↔ ((i < below) × MayComeNext book cut (next_call cut i))
+
+pub marked-more : (book : List Page) (cut : List ℕ) (caller : ℕ) (old new : Marks) → MarksNextBelow book cut caller old → MayComeNext book cut (next_call cut caller)
+    → ((i : ℕ) → IsMarked new i ↔ ((i ≡ caller) ⊎ IsMarked old i)) → MarksNextBelow book cut (caller + 1) new
+marked-more book cut caller old new h may is i = (
+  λ marked. elim ((is i).0 marked) [
+    | inl here ↦ (omega (arith, here), subst (λ (j : ℕ). MayComeNext book cut (next_call cut j)) (sym here) may)
+    | inr there ↦ let was = (h i).0 there in (omega (arith, was.0), was.1)
+  ],
+  λ both. elim (cases_lt i caller) [
+    | inl early ↦ (is i).1 (inr ((h i).1 (early, both.1)))
+    | inr late ↦ (is i).1 (inl (omega (arith, both.0)))
+  ],
+)
+
+pub marked-skip : (book : List Page) (cut : List ℕ) (caller : ℕ) (marks : Marks) → MarksNextBelow book cut caller marks → (MayComeNext book cut (next_call cut caller) → ⊥)
+    → MarksNextBelow book cut (caller + 1) marks
+marked-skip book cut caller marks h not i = (
+  λ marked. let was = (h i).0 marked in (omega (arith, was.0), was.1),
+  λ both. elim (cases_lt i caller) [
+    | inl early ↦ (h i).1 (early, both.1)
+    | inr late ↦ let at : i ≡ caller = omega (arith, both.0) in absurd (not (subst (λ (j : ℕ). MayComeNext book cut (next_call cut j)) at both.1))
+  ],
+)
+
+pub marked-all : (book : List Page) (cut : List ℕ) (below : ℕ) (marks : Marks) → below ≡ length book → MarksNextBelow book cut below marks → MarksAllNext book cut marks
+marked-all book cut below marks is h i = (
+  λ marked. ((h i).0 marked).1,
+  λ (may : MayComeNext book cut (next_call cut i)).
+      let inside : i < length book = caller_from_call book i (get_or cut i 0) may.is_call in
+      (h i).1 (omega arith, may),
+)
 
 -- the view of the record of a caller's first call outside a cut
 pub view-of : (book : List Page) (cut : List ℕ) (first number : ℕ) (found : Record) → number ≡ get_or cut first 0 → record_of book (record { caller = first; number = number }) ≡ Some found
@@ -415,11 +459,13 @@ hopeless-ends init next book cut list place rest reached hopeless goes =
     (subst (λ (n : ℕ). IsLegalOrder init next book (reached.before ++ made n ∷ rest)) goes.0.may_come.next (reached.legal (place ∷ rest) goes))
 
 -- so that its caller has no place that is to be tried.
-pub hopeless-skip : (init : List ℕ) (next : List ℕ → ℕ → List ℕ × ℕ) (book : List Page) (cut list : List ℕ) (places : List Place) (caller : ℕ) → IsReached init next book cut list
-    → AreChosen book next cut list caller places → IsHopeless init next book cut list (next_call cut caller) → AreChosen book next cut list (caller + 1) places
-hopeless-skip init next book cut list places caller reached h hopeless =
-    chosen-more book next cut list caller places h (λ (place : Place) (rest : List Place) (by : place.caller ≡ caller) (goes : Continues book next cut list (place ∷ rest)).
-    hopeless-ends init next book cut list place rest reached (subst (λ (i : ℕ). IsHopeless init next book cut list (next_call cut i)) (sym by) hopeless) goes)
+pub hopeless-skip : (init : List ℕ) (next : List ℕ → ℕ → List ℕ × ℕ) (book : List Page) (cut list : List ℕ) (marks : Marks) (places : List Place) (caller : ℕ)
+    → IsReached init next book cut list → AreChosen book next cut list marks caller places → IsHopeless init next book cut list (next_call cut caller)
+    → AreChosen book next cut list marks (caller + 1) places
+hopeless-skip init next book cut list marks places caller reached h hopeless =
+    chosen-next book next cut list marks caller places places h
+    (more-kept book next cut list caller places h.sound (λ (place : Place) (rest : List Place) (by : place.caller ≡ caller) (goes : Continues book next cut list (place ∷ rest)).
+    absurd (hopeless-ends init next book cut list place rest reached (subst (λ (i : ℕ). IsHopeless init next book cut list (next_call cut i)) (sym by) hopeless) goes)))
 
 -- one more count is copied
 pub copied-more : (cut new counts : List ℕ) (i n : ℕ) → length cut ≡ length counts → i < length counts → n ≡ get_or counts i 0 → new ≡ set cut i n

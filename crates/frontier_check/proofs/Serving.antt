@@ -19,9 +19,9 @@ use Rattle.pruning_laws.specs.Twins.{IsTwin, DoesTheSame}
 use Rattle.pruning_laws.proofs.Exchanging.{twin_serves}
 use Rattle.pruning_laws.proofs.Omitting.{idle_may_be_left_out}
 use Rattle.frontier_check.specs.declared.choice.Choice.{Choice}
-use Rattle.frontier_check.specs.Search.{IsAmong, places_of, GoesOnBy, IsServed, AreChosen}
+use Rattle.frontier_check.specs.Search.{IsAmong, places_of, GoesOnBy, IsOneMore}
 use Rattle.frontier_check.specs.Twin.{HasOperationOf, ServesFor, IsKeptOf, IsAdded, IsExchanged}
-use Rattle.frontier_check.proofs.Choosing.{same_next, views_comparable, among-insert_old, among-insert_new, all-insert, chosen-next, chosen-insert}
+use Rattle.frontier_check.proofs.Choosing.{same_next, views_comparable, among-insert_old, among-insert_new, all-insert, more-kept, more-insert}
 
 -- one open
 
@@ -182,44 +182,45 @@ may_stand-kept book next cut list a b kept ha hb is = elim is [
   | inr second ↦ subst (λ (p : Place). MayStandNext book next cut list p) (sym second.0) hb
 ]
 
--- One more caller's place is chosen, or is exchanged for its twin, or a twin for it.
-pub chosen-exchanged : (book : List Page) (next : List ℕ → ℕ → List ℕ × ℕ) (cut list : List ℕ) (old : List Choice) (new : Choice) (items : List Choice) → length cut ≡ length book
-    → IsValid book → AreChosen book next cut list new.place.caller (places_of old) → MayStandNext book next cut list new.place → IsExchanged book old new items
-    → AreChosen book next cut list (new.place.caller + 1) (places_of items)
-chosen-exchanged book next cut list old new items wide valid h may x =
+-- One more caller's place is exchanged for its twin, or a twin for it.
+more-exchanged : (book : List Page) (next : List ℕ → ℕ → List ℕ × ℕ) (cut list : List ℕ) (old : List Choice) (new : Choice) (items : List Choice) → length cut ≡ length book
+    → IsValid book → AllByRecursion (MayStandNext book next cut list) (places_of old) → MayStandNext book next cut list new.place → IsExchanged book old new items
+    → IsOneMore book next cut list new.place.caller (places_of old) (places_of items)
+more-exchanged book next cut list old new items wide valid sound may x =
     let to : ℕ = x.exchanged.0 in
     let left : List Choice = remove old x.at in
-    let twin_may : MayStandNext book next cut list x.twin.place = all-at (MayStandNext book next cut list) old x.at x.twin h.sound x.inside x.there in
+    let twin_may : MayStandNext book next cut list x.twin.place = all-at (MayStandNext book next cut list) old x.at x.twin sound x.inside x.there in
     let goes_on = kept_goes_on book next cut list x.twin.place new.place x.kept.place wide valid x.one_open twin_may may x.serves in
     let by_kept : (place : Place) (rest : List Place) → (place ≡ x.twin.place) ⊎ (place ≡ new.place) → Continues book next cut list (place ∷ rest)
         → GoesOnBy book next cut list (places_of (insert left to x.kept))
     = λ place rest which goes. let found = goes_on place rest which goes in (x.kept.place, found.0, among-insert_new left to x.kept, found.1) in
-    subst (λ (cs : List Choice). AreChosen book next cut list (new.place.caller + 1) (places_of cs)) (sym x.exchanged.1)
-    (chosen-next book next cut list new.place.caller (places_of old) (places_of (insert left to x.kept)) h
-      (all-insert (MayStandNext book next cut list) left to x.kept (may_stand-kept book next cut list x.twin.place new.place x.kept.place twin_may may x.serves)
-        (all-remove (MayStandNext book next cut list) old x.at h.sound))
-      (λ (place : Place) (rest : List Place) among goes. elim (among-remove old x.at x.twin place x.there among) [
+    subst (λ (cs : List Choice). IsOneMore book next cut list new.place.caller (places_of old) (places_of cs)) (sym x.exchanged.1)
+    (record {
+      sound = all-insert (MayStandNext book next cut list) left to x.kept (may_stand-kept book next cut list x.twin.place new.place x.kept.place twin_may may x.serves)
+          (all-remove (MayStandNext book next cut list) old x.at sound);
+      served = λ (place : Place) (rest : List Place) among goes. elim (among-remove old x.at x.twin place x.there among) [
         | inl is ↦ by_kept place rest (inl is) goes
         | inr there ↦ (place, rest, among-insert_old left to x.kept place there, goes)
-      ])
-      (λ (place : Place) (rest : List Place) by goes. inl (by_kept place rest (inr (same_next book next cut list place new.place goes.0 may by)) goes)))
+      ];
+      own = λ (place : Place) (rest : List Place) by goes. inl (by_kept place rest (inr (same_next book next cut list place new.place goes.0 may by)) goes);
+    })
 
 -- A choice is added, or exchanged.
 pub considered-choice : (book : List Page) (next : List ℕ → ℕ → List ℕ × ℕ) (cut list : List ℕ) (old items : List Choice) (new : Choice) → length cut ≡ length book → IsValid book
-    → AreChosen book next cut list new.place.caller (places_of old) → MayStandNext book next cut list new.place → IsAdded old new items ⊎ IsExchanged book old new items
-    → AreChosen book next cut list (new.place.caller + 1) (places_of items)
-considered-choice book next cut list old items new wide valid h may which = elim which [
+    → AllByRecursion (MayStandNext book next cut list) (places_of old) → MayStandNext book next cut list new.place → IsAdded old new items ⊎ IsExchanged book old new items
+    → IsOneMore book next cut list new.place.caller (places_of old) (places_of items)
+considered-choice book next cut list old items new wide valid sound may which = elim which [
   | inl added ↦
-      subst (λ (cs : List Choice). AreChosen book next cut list (new.place.caller + 1) (places_of cs)) (sym added.1) (chosen-insert book next cut list old added.0 new h may)
-  | inr exchanged ↦ chosen-exchanged book next cut list old new items wide valid h may exchanged
+      subst (λ (cs : List Choice). IsOneMore book next cut list new.place.caller (places_of old) (places_of cs)) (sym added.1) (more-insert book next cut list old added.0 new sound may)
+  | inr exchanged ↦ more-exchanged book next cut list old new items wide valid sound may exchanged
 ]
 
 -- An unanswered call that leaves the list isn't tried.
 pub considered-idle : (book : List Page) (next : List ℕ → ℕ → List ℕ × ℕ) (cut list : List ℕ) (places : List Place) (call : Call) (op : ℕ) → length cut ≡ length book → HasOneOpen book
-    → AreChosen book next cut list call.caller places → call.number ≡ get_or cut call.caller 0 → operation_of book call ≡ Some op → (IsAnswered book call → ⊥)
-    → (next list op).0 ≡ list → AreChosen book next cut list (call.caller + 1) places
-considered-idle book next cut list places call op wide one h number known free leaves =
-    chosen-next book next cut list call.caller places places h h.sound (λ (place : Place) (rest : List Place) among goes. (place, rest, among, goes))
+    → AllByRecursion (MayStandNext book next cut list) places → call.number ≡ get_or cut call.caller 0 → operation_of book call ≡ Some op → (IsAnswered book call → ⊥)
+    → (next list op).0 ≡ list → IsOneMore book next cut list call.caller places places
+considered-idle book next cut list places call op wide one sound number known free leaves =
+    more-kept book next cut list call.caller places sound
     (λ (place : Place) (rest : List Place) (by : place.caller ≡ call.caller) (goes : Continues book next cut list (place ∷ rest)).
     let same : call_at place ≡ call = same_call (call_at place) call by (goes.0.may_come.next ∙ (ap (λ (i : ℕ). get_or cut i 0) by ∙ sym number)) in
     let stays : list_after book next list place ≡ list = ap (λ (o : Option ℕ). (next list (unwrap_or o 0)).0) (ap (operation_of book) same ∙ known) ∙ leaves in

@@ -9,8 +9,9 @@ use Rattle.book_base.specs.Cut.{IsWithin}
 use Rattle.book_base.specs.Order.{IsLegalOrder}
 use Rattle.book_base.specs.Book.{Page, IsAnswered, record_of}
 use Rattle.book_base.specs.Foresight.{Reaches, HasEarly}
-use Rattle.book_base.specs.Pruning.{IsDeadEnd}
-use Rattle.book_base.specs.Next.{next_call, raised, list_after, HoldsAnswered, MayStandNext, Continues}
+use Rattle.book_base.specs.declared.marks.Marks.{Marks}
+use Rattle.book_base.specs.Pruning.{IsDeadEnd, IsMarked, MarksSuffice}
+use Rattle.book_base.specs.Next.{next_call, raised, list_after, HoldsAnswered, MayComeNext, MayStandNext, Continues}
 use Rattle.frontier_check.specs.declared.choice.Choice.{Choice}
 use Rattle.frontier_check.specs.declared.front.Front.{Front}
 use Rattle.frontier_check.specs.declared.walk.Level.{Level}
@@ -49,17 +50,35 @@ pub record IsOpen (book : List Page) (next : List ℕ → ℕ → List ℕ × �
 abbrev pub IsRankIn : List (ℕ × ℕ) → List ℕ → ℕ → Type 0
 IsRankIn ranks list rank = (limit : ℕ) → rank < limit → HasEarly ranks list limit
 
--- Where an order goes on, one goes on by one of these places, or one goes on that has no more than so many places.
+-- An order goes on by one of these places, or one goes on that has no more than so many places.
 abbrev pub IsServed : List Page → (List ℕ → ℕ → List ℕ × ℕ) → List ℕ → List ℕ → List Place → ℕ → Type 0
 IsServed book next cut list places few =
     GoesOnBy book next cut list places ⊎ ((other : List Place) × Continues book next cut list other × (length other ≤ few))
 
--- The places that were chosen so far, of the callers below a number: each may stand next, and where an order goes on by one of these
--- callers, one goes on by one of the places, or a shorter one goes on.
-pub record AreChosen (book : List Page) (next : List ℕ → ℕ → List ℕ × ℕ) (cut list : List ℕ) (below : ℕ) (places : List Place) : Type 0 where
+-- Where an order goes on by one of the old places, one goes on by one of the new ones.
+abbrev pub AreServedBy : List Page → (List ℕ → ℕ → List ℕ × ℕ) → List ℕ → List ℕ → List Place → List Place → Type 0
+AreServedBy book next cut list old new = (place : Place) (rest : List Place) → IsAmong place old → Continues book next cut list (place ∷ rest)
+    → GoesOnBy book next cut list new
+
+-- The next call of one more caller is looked at: each of the new places may stand next, they serve for the old ones, and where an order
+-- goes on by that call, one goes on by one of the new places, or a shorter one goes on.
+pub record IsOneMore (book : List Page) (next : List ℕ → ℕ → List ℕ × ℕ) (cut list : List ℕ) (caller : ℕ) (old new : List Place) : Type 0 where
+  pub sound : AllByRecursion (MayStandNext book next cut list) new
+  pub served : AreServedBy book next cut list old new
+  pub own : (place : Place) (rest : List Place) → place.caller ≡ caller → Continues book next cut list (place ∷ rest)
+      → IsServed book next cut list new (length rest)
+
+-- The places that were chosen so far, of the marked callers below a number: each may stand next, and where an order goes on by one of
+-- these callers, one goes on by one of the places, or a shorter one goes on.
+pub record AreChosen (book : List Page) (next : List ℕ → ℕ → List ℕ × ℕ) (cut list : List ℕ) (marks : Marks) (below : ℕ) (places : List Place) : Type 0 where
   pub sound : AllByRecursion (MayStandNext book next cut list) places
-  pub covered : (place : Place) (rest : List Place) → place.caller < below → Continues book next cut list (place ∷ rest)
+  pub covered : (place : Place) (rest : List Place) → place.caller < below → IsMarked marks place.caller → Continues book next cut list (place ∷ rest)
       → IsServed book next cut list places (length rest)
+
+-- The marked callers are those that a search has to try: the next call of each may come next, and they suffice.
+pub record AreToTry (book : List Page) (next : List ℕ → ℕ → List ℕ × ℕ) (cut list : List ℕ) (marks : Marks) : Type 0 where
+  pub may : (i : ℕ) → IsMarked marks i → MayComeNext book cut (next_call cut i)
+  pub suffice : MarksSuffice book next cut list marks
 
 -- The levels lead from a cut and a list to others: at each level its words are the list, its place stands next, and the places
 -- besides its own that are still to be tried are those of its choices.

@@ -1,14 +1,15 @@
 ghost use Rattle.std.specs.Prelude.{◌≡◌, ℕ, ◌+◌, ◌<◌, ◌≤◌, ◌↔◌, ◌∷◌, ◌++◌, [], List, length, slice_index, IfOk, IfSome, IfNone, IsTrue, Some, OnOk};
+ghost use Rattle.std.specs.List.{AllByRecursion};
 ghost use Rattle.book_base.specs.declared.call.Place.{Place};
 ghost use Rattle.book_base.specs.declared.call.Record.{Record};
 ghost use Rattle.book_base.specs.Book.{IsCall, IsAnswered, IsValid, record_of};
 ghost use Rattle.book_base.specs.Order.{IsLegalOrder};
 ghost use Rattle.book_base.specs.Foresight.{IsForesight, IsHopeless};
 ghost use Rattle.book_base.specs.declared.TheConstants.{MAX_CALLERS, MAX_CALLS};
-ghost use Rattle.book_base.specs.Next.{next_call, raised, list_after, HoldsAnswered, MayComeNext};
+ghost use Rattle.book_base.specs.Next.{next_call, raised, list_after, HoldsAnswered, MayComeNext, MayStandNext};
 ghost use Rattle.frontier_check.specs.Front.{IsFront};
-ghost use Rattle.book_base.specs.Pruning.{HasOneOpen, IsLeast, IsDeadEnd, ViewsAreWithin, IsReached, StandsAtOnce};
-ghost use Rattle.frontier_check.specs.Search.{places_of, AreChosen, IsOpen, IsWalk, IsRightOutcome, IsRankIn, Fits, weigh, weight};
+ghost use Rattle.book_base.specs.Pruning.{HasOneOpen, IsLeast, IsDeadEnd, MarksAllNext, ViewsAreWithin, IsReached, StandsAtOnce};
+ghost use Rattle.frontier_check.specs.Search.{places_of, AreToTry, IsOneMore, IsOpen, IsWalk, IsRightOutcome, IsRankIn, Fits, weigh, weight};
 
 use crate::choice::Choice;
 use crate::front::Front;
@@ -16,7 +17,7 @@ use crate::memo::Memo;
 use crate::plan::Plan;
 use crate::twins::choose;
 use crate::walk::{Level, Outcome, ROOM, Walk, load, places, set_count};
-use book_base::{Book, Call, Cut, Foresight, NoMemory, Place, SeqObject, State};
+use book_base::{Book, Call, Cut, Foresight, Marks, NoMemory, Place, SeqObject, Sight, State};
 use std::alloc::Global;
 use std::mem;
 
@@ -28,6 +29,7 @@ pub struct Search<'a, S> {
     pub known: &'a Foresight,
     pub limited: bool,
     pub one_open: bool,
+    pub sight: &'a Option<Sight>,
     pub plan: &'a Plan,
     pub front: &'a Front,
 }
@@ -41,6 +43,7 @@ impl<S> Drop for Search<'_, S> {
             known: _,
             limited: _,
             one_open: _,
+            sight: _,
             plan: _,
             front: _,
         } = self;
@@ -52,6 +55,7 @@ impl<S: SeqObject> Search<'_, S> {
     pub fn run(&self) -> Result<Option<Vec<Place>>, NoMemory>
         requires foresight { IsForesight (S.init self.now.object.now) (S.next self.now.object.now) self.now.book.now self.now.known.now }
         requires open { IsTrue self.now.one_open → HasOneOpen self.now.book.now }
+        requires sight { IfSome self.now.sight.now (λ sight. HasOneOpen self.now.book.now × S.sees self.now.object.now self.now.book.now sight) }
         requires front { IsFront (S.init self.now.object.now) (S.next self.now.object.now) self.now.book.now self.now.front.now }
         ensures found { IfOk result (λ found. IfSome found (λ rest. IsLegalOrder (S.init self.now.object.now) (S.next self.now.object.now) self.now.book.now (self.now.front.now.places.items ++ rest.items))) }
         ensures none { IfOk result (λ found. IfNone found (IsDeadEnd self.now.book.now (S.next self.now.object.now) self.now.front.now.cut self.now.front.now.here.words)) }
@@ -68,6 +72,7 @@ impl<S: SeqObject> Search<'_, S> {
     pub fn run_few(&self, steps: u64) -> Result<Option<Vec<Place>>, NoMemory>
         requires foresight { IsForesight (S.init self.now.object.now) (S.next self.now.object.now) self.now.book.now self.now.known.now }
         requires open { IsTrue self.now.one_open → HasOneOpen self.now.book.now }
+        requires sight { IfSome self.now.sight.now (λ sight. HasOneOpen self.now.book.now × S.sees self.now.object.now self.now.book.now sight) }
         requires front { IsFront (S.init self.now.object.now) (S.next self.now.object.now) self.now.book.now self.now.front.now }
         ensures found { IfOk result (λ found. IfSome found (λ rest. IsLegalOrder (S.init self.now.object.now) (S.next self.now.object.now) self.now.book.now (self.now.front.now.places.items ++ rest.items))) }
     {
@@ -82,6 +87,7 @@ impl<S: SeqObject> Search<'_, S> {
     fn begin(&self, spare: &mut State) -> Result<Option<Walk>, NoMemory>
         requires foresight { IsForesight (S.init self.now.object.now) (S.next self.now.object.now) self.now.book.now self.now.known.now }
         requires open { IsTrue self.now.one_open → HasOneOpen self.now.book.now }
+        requires sight { IfSome self.now.sight.now (λ sight. HasOneOpen self.now.book.now × S.sees self.now.object.now self.now.book.now sight) }
         requires front { IsFront (S.init self.now.object.now) (S.next self.now.object.now) self.now.book.now self.now.front.now }
         requires room { spare.old.room ≡ ROOM }
         ensures room { spare.new.room ≡ ROOM }
@@ -109,6 +115,7 @@ impl<S: SeqObject> Search<'_, S> {
     fn go_on(&self, walk: &mut Walk, spare: &mut State) -> Result<Option<Vec<Place>>, NoMemory>
         requires foresight { IsForesight (S.init self.now.object.now) (S.next self.now.object.now) self.now.book.now self.now.known.now }
         requires open { IsTrue self.now.one_open → HasOneOpen self.now.book.now }
+        requires sight { IfSome self.now.sight.now (λ sight. HasOneOpen self.now.book.now × S.sees self.now.object.now self.now.book.now sight) }
         requires walk { IsWalk self.now.book.now self.now.front.now (S.init self.now.object.now) (S.next self.now.object.now) walk.old (places_of walk.old.choices.items) }
         requires room { spare.old.room ≡ ROOM }
         ensures found { IfOk result (λ found. IfSome found (λ rest. IsLegalOrder (S.init self.now.object.now) (S.next self.now.object.now) self.now.book.now (self.now.front.now.places.items ++ rest.items))) }
@@ -132,6 +139,7 @@ impl<S: SeqObject> Search<'_, S> {
     ) -> Result<Option<Vec<Place>>, NoMemory>
         requires foresight { IsForesight (S.init self.now.object.now) (S.next self.now.object.now) self.now.book.now self.now.known.now }
         requires open { IsTrue self.now.one_open → HasOneOpen self.now.book.now }
+        requires sight { IfSome self.now.sight.now (λ sight. HasOneOpen self.now.book.now × S.sees self.now.object.now self.now.book.now sight) }
         requires walk { IsWalk self.now.book.now self.now.front.now (S.init self.now.object.now) (S.next self.now.object.now) walk.old (places_of walk.old.choices.items) }
         requires room { spare.old.room ≡ ROOM }
         ensures found { IfOk result (λ found. IfSome found (λ rest. IsLegalOrder (S.init self.now.object.now) (S.next self.now.object.now) self.now.book.now (self.now.front.now.places.items ++ rest.items))) }
@@ -150,6 +158,7 @@ impl<S: SeqObject> Search<'_, S> {
     fn advance(&self, walk: &mut Walk, spare: &mut State) -> Result<Outcome, NoMemory>
         requires foresight { IsForesight (S.init self.now.object.now) (S.next self.now.object.now) self.now.book.now self.now.known.now }
         requires open { IsTrue self.now.one_open → HasOneOpen self.now.book.now }
+        requires sight { IfSome self.now.sight.now (λ sight. HasOneOpen self.now.book.now × S.sees self.now.object.now self.now.book.now sight) }
         requires walk { IsWalk self.now.book.now self.now.front.now (S.init self.now.object.now) (S.next self.now.object.now) walk.old (places_of walk.old.choices.items) }
         requires room { spare.old.room ≡ ROOM }
         ensures room { spare.new.room ≡ ROOM }
@@ -169,6 +178,7 @@ impl<S: SeqObject> Search<'_, S> {
     fn enter(&self, walk: &mut Walk, spare: &mut State, place: Place) -> Result<Outcome, NoMemory>
         requires foresight { IsForesight (S.init self.now.object.now) (S.next self.now.object.now) self.now.book.now self.now.known.now }
         requires open { IsTrue self.now.one_open → HasOneOpen self.now.book.now }
+        requires sight { IfSome self.now.sight.now (λ sight. HasOneOpen self.now.book.now × S.sees self.now.object.now self.now.book.now sight) }
         requires walk { IsWalk self.now.book.now self.now.front.now (S.init self.now.object.now) (S.next self.now.object.now) walk.old (place ∷ places_of walk.old.choices.items) }
         requires room { spare.old.room ≡ ROOM }
         ensures room { spare.new.room ≡ ROOM }
@@ -244,10 +254,10 @@ impl<S: SeqObject> Search<'_, S> {
         Outcome::GoesOn
     }
 
-    // What is to be tried after the calls of a cut, at a list of the object: each place that may stand
-    // next and isn't known to be hopeless, the best one last; or one alone that may stand at once. The
-    // caller's first call outside the cut has the least view of all such calls, so that a call may come
-    // next exactly where this view holds it.
+    // What is to be tried after the calls of a cut, at a list of the object: of the callers that are to be
+    // tried each place that may stand next and isn't known to be hopeless, unless another one serves for it,
+    // the best one last; or one alone that may stand at once. The caller's first call outside the cut has the
+    // least view of all such calls, so that a call may come next exactly where this view holds it.
     fn choices(
         &self,
         counts: &[u16],
@@ -257,6 +267,7 @@ impl<S: SeqObject> Search<'_, S> {
     ) -> Result<Vec<Choice>, NoMemory>
         requires foresight { IsForesight (S.init self.now.object.now) (S.next self.now.object.now) self.now.book.now self.now.known.now }
         requires open { IsTrue self.now.one_open → HasOneOpen self.now.book.now }
+        requires sight { IfSome self.now.sight.now (λ sight. HasOneOpen self.now.book.now × S.sees self.now.object.now self.now.book.now sight) }
         requires reached { IsReached (S.init self.now.object.now) (S.next self.now.object.now) self.now.book.now counts.now here.now.words }
         requires wide { length counts.now ≡ length self.now.book.now }
         requires first { IsLeast self.now.book.now counts.now (length self.now.book.now) first }
@@ -273,15 +284,34 @@ impl<S: SeqObject> Search<'_, S> {
             return Ok(choices);
         }
         let cut = cut_of(counts);
+        let marks = self.to_try(&cut, &view, here, first);
         let earliest = self.earliest(here);
         for caller in 0..self.book.callers() {
-            if u64::from(counts[caller as usize]) < view.get(caller)
-                && !self.is_hopeless(&cut, here, earliest, caller)
-            {
+            if marks.has(caller) && !self.is_hopeless(&cut, here, earliest, caller) {
                 self.consider(counts, caller, here, spare, &mut choices)?;
             }
         }
         Ok(choices)
+    }
+
+    // The callers that are to be tried after the calls of a cut: all whose next calls may come next, or as many
+    // of them as the object says suffice.
+    fn to_try(&self, cut: &Cut, view: &Cut, here: &State, first: u32) -> Marks
+        requires sight { IfSome self.now.sight.now (λ sight. HasOneOpen self.now.book.now × S.sees self.now.object.now self.now.book.now sight) }
+        requires reached { IsReached (S.init self.now.object.now) (S.next self.now.object.now) self.now.book.now cut.now here.now.words }
+        requires wide { length cut.now ≡ length self.now.book.now }
+        requires first { IsLeast self.now.book.now cut.now (length self.now.book.now) first }
+        requires view { (r : Record) → record_of self.now.book.now (next_call cut.now first) ≡ Some r → r.view ≡ view.now }
+        requires views { length view.now ≡ length self.now.book.now }
+        ensures { AreToTry self.now.book.now (S.next self.now.object.now) cut.now here.now.words result }
+    {
+        let marks = all_next(self.book, cut, view, first);
+        match self.sight {
+            Some(sight) => self
+                .object
+                .narrow(sight, self.book, cut, here.words(), first, marks),
+            None => marks,
+        }
     }
 
     // The place of an answered call that may stand at once after the calls of a cut, if there is one.
@@ -404,9 +434,9 @@ impl<S: SeqObject> Search<'_, S> {
         requires may { MayComeNext self.now.book.now counts.now (next_call counts.now caller) }
         requires fits { Fits counts.now here.now.words }
         requires room { spare.old.room ≡ ROOM }
-        requires chosen { AreChosen self.now.book.now (S.next self.now.object.now) counts.now here.now.words caller (places_of choices.old.items) }
+        requires sound { AllByRecursion (MayStandNext self.now.book.now (S.next self.now.object.now) counts.now here.now.words) (places_of choices.old.items) }
         ensures room { spare.new.room ≡ ROOM }
-        ensures chosen { OnOk result (AreChosen self.now.book.now (S.next self.now.object.now) counts.now here.now.words (caller + 1) (places_of choices.new.items)) }
+        ensures more { OnOk result (IsOneMore self.now.book.now (S.next self.now.object.now) counts.now here.now.words caller (places_of choices.old.items) (places_of choices.new.items)) }
         ensures few { length choices.new.items ≤ length choices.old.items + 1 }
     {
         let number = u64::from(counts[caller as usize]);
@@ -475,6 +505,24 @@ impl<S: SeqObject> Search<'_, S> {
         let number = u64::from(counts[caller as usize]);
         self.book.record(Call { caller, number }).view
     }
+}
+
+// The callers whose next calls may come next after a cut. The caller's first call outside the cut has the least
+// view of all such calls.
+fn all_next(book: &Book, cut: &Cut, view: &Cut, first: u32) -> Marks
+    requires wide { length cut.now ≡ length book.now }
+    requires first { IsLeast book.now cut.now (length book.now) first }
+    requires view { (r : Record) → record_of book.now (next_call cut.now first) ≡ Some r → r.view ≡ view.now }
+    requires views { length view.now ≡ length book.now }
+    ensures { MarksAllNext book.now cut.now result }
+{
+    let mut marks = Marks::none();
+    for caller in 0..book.callers() {
+        if cut.get(caller) < view.get(caller) {
+            marks = marks.with(caller);
+        }
+    }
+    marks
 }
 
 // The counts of a cut, as a walk keeps them.

@@ -1,6 +1,7 @@
-ghost use Rattle.std.specs.Prelude.{◌≡◌, ◌++◌, IfOk, IfSome, IfNone};
+ghost use Rattle.std.specs.Prelude.{◌≡◌, ◌++◌, IfOk, IfSome, IfNone, IsTrue};
 ghost use Rattle.book_base.specs.Foresight.{IsForesight};
 ghost use Rattle.book_base.specs.Order.{IsLegalOrder, HasLegalOrder};
+ghost use Rattle.book_base.specs.Pruning.{HasOneOpen};
 ghost use Rattle.frontier_check.specs.Front.{IsFront};
 ghost use Rattle.frontier_check.specs.Verdict.{IsRight, IsKept};
 
@@ -9,7 +10,7 @@ use crate::guide::Guide;
 use crate::one_open::has_one_open;
 use crate::plan::Plan;
 use crate::search::Search;
-use book_base::{Book, Call, Foresight, NoMemory, Place, SeqObject};
+use book_base::{Book, Call, Decision, Foresight, NoMemory, Place, SeqObject, Sight};
 use std::alloc::Global;
 
 /// Whether a book has a legal order.
@@ -137,6 +138,7 @@ fn places_behind<S: SeqObject>(
         (S.next object.now) book.now (front.now.places.items ++ rest.items))) }
 {
     let plan = Plan::new(alloc, book, guide, front)?;
+    let sight: Option<Sight> = None;
     let search = Search {
         alloc,
         object,
@@ -144,13 +146,14 @@ fn places_behind<S: SeqObject>(
         known,
         limited: false,
         one_open: has_one_open(book),
+        sight: &sight,
         plan: &plan,
         front,
     };
     search.run_few(STEPS)
 }
 
-// A legal order, if there is one: the search looks for it everywhere, and tries the guide's places first.
+// A legal order, if there is one: where the object doesn't say, the search looks for it everywhere.
 fn order_anywhere<S: SeqObject>(
     alloc: Global,
     object: &S,
@@ -162,6 +165,27 @@ fn order_anywhere<S: SeqObject>(
     ensures none { IfOk result (λ found. IfNone found
         (HasLegalOrder (S.init object.now) (S.next object.now) book.now → ⊥)) }
 {
+    match object.decide(alloc, book)? {
+        Decision::Order(order) => Ok(Some(order)),
+        Decision::NoOrder => Ok(None),
+        Decision::Unsaid => order_searched(alloc, object, book, guide),
+    }
+}
+
+// A legal order, if there is one: the search looks for it everywhere, and tries the guide's places first.
+fn order_searched<S: SeqObject>(
+    alloc: Global,
+    object: &S,
+    book: &Book,
+    guide: &[Place],
+) -> Result<Option<Vec<Place>>, NoMemory>
+    ensures found { IfOk result (λ found. IfSome found
+        (λ order. IsLegalOrder (S.init object.now) (S.next object.now) book.now order.items)) }
+    ensures none { IfOk result (λ found. IfNone found
+        (HasLegalOrder (S.init object.now) (S.next object.now) book.now → ⊥)) }
+{
+    let one_open = has_one_open(book);
+    let sight = sight_of(alloc, object, book, one_open)?;
     let known = object.foresee(alloc, book)?;
     let front = Front::new(alloc, object, book)?;
     let plan = Plan::new(alloc, book, guide, &front)?;
@@ -171,11 +195,29 @@ fn order_anywhere<S: SeqObject>(
         book,
         known: &known,
         limited: has_limits(book, &known),
-        one_open: has_one_open(book),
+        one_open,
+        sight: &sight,
         plan: &plan,
         front: &front,
     };
     search.run()
+}
+
+// What the object looks at in narrowing what is tried, in a book with one open.
+fn sight_of<S: SeqObject>(
+    alloc: Global,
+    object: &S,
+    book: &Book,
+    one_open: bool,
+) -> Result<Option<Sight>, NoMemory>
+    requires { IsTrue one_open → HasOneOpen book.now }
+    ensures { IfOk result (λ found. IfSome found (λ sight. HasOneOpen book.now × S.sees object.now book.now sight)) }
+{
+    if one_open {
+        object.prepare(alloc, book)
+    } else {
+        Ok(None)
+    }
 }
 
 // Whether a call of a book has a limit. No clause says so: it costs or saves time alone.

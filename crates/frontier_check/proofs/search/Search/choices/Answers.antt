@@ -1,12 +1,13 @@
 use Rattle.std.proofs.Common.{◌≡◌, ◌∙◌, ℕ, List, [], ◌∷◌, ◌++◌, length, sym, ap, subst, arith}
 use Rattle.book_base.specs.declared.call.Place.{Place}
 use Rattle.book_base.specs.Foresight.{IsHopeless}
-use Rattle.book_base.specs.Next.{next_call}
+use Rattle.book_base.specs.Next.{next_call, MayComeNext}
+use Rattle.book_base.specs.Pruning.{IsMarked, MarksSuffice}
 use Rattle.frontier_check.specs.declared.choice.Choice.{Choice}
 use Rattle.frontier_check.specs.Search.{AreChosen, IsOpen, places_of}
-use Rattle.frontier_check.proofs.Choosing.{may_come-from_least, outside-skip, hopeless-skip, open-from_chosen, open-from_once}
+use Rattle.frontier_check.proofs.Choosing.{chosen-next, unmarked-skip, hopeless-skip, open-from_chosen, open-from_once}
 use Rattle.frontier_check.proofs.search.Search.choices.Goals as goal
-use Rattle.frontier_check.proofs.search.Search.choices.Goals.{then-from-get+then-not-is_hopeless+in_ok-consider, else-from-get, else-from-get-via-then-from-get+else-not-is_hopeless, else-from-get-via-else-from-get}
+use Rattle.frontier_check.proofs.search.Search.choices.Goals.{then-has+then-not-is_hopeless+in_ok-consider, else-has, else-has-via-then-has+else-not-is_hopeless, else-has-via-else-has}
 
 pub returns-in-Some-clause-open : goal.returns-in-Some-clause-open
 returns-in-Some-clause-open g c =
@@ -21,8 +22,10 @@ returns-in-Some-clause-open g c =
 
 pub consider-requires-clause-may : goal.consider-requires-clause-may
 consider-requires-clause-may g c =
-    may_come-from_least c.args.self.now.book.now c.args.counts.now c.args.first c.loop-caller.caller c.first_view-view.result c.callers-caller-end.ensures.valid c.requires.first
-    c.first_view-view.ensures.view (omega (arith, c.from.ensures, c.get.ensures))
+    let book = c.args.self.now.book.now in
+    let caller = c.loop-caller.caller in
+    let marked : IsMarked c.to_try-marks.result caller = c.has.ensures.0 c.if-has.true in
+    subst (λ (cut : List ℕ). MayComeNext book cut (next_call cut caller)) c.cut_of-cut.ensures (c.to_try-marks.ensures.may caller marked)
 
 pub loop-caller-preserved : goal.loop-caller-preserved
 loop-caller-preserved g c =
@@ -32,25 +35,26 @@ loop-caller-preserved g c =
     let next = g.S.SeqObject.next object in
     let cut = c.args.counts.now in
     let list = c.args.here.now.words in
+    let marks = c.to_try-marks.result in
     let caller = c.loop-caller.caller in
     let before = places_of c.loop-caller.choices.items in
     let i = c.loop-caller.invariant in
-    elim c.if-from-get.branch [
-      | then-from-get+then-not-is_hopeless+in_ok-consider w ↦ record {
+    elim c.if-has.branch [
+      | then-has+then-not-is_hopeless+in_ok-consider w ↦ record {
         room = rw w.spare-is w.consider.ensures.room;
-        chosen = rw w.choices-is w.in_ok-consider.ensures.chosen;
+        chosen = rw w.choices-is (chosen-next book next cut list marks caller before (places_of w.consider.new.choices.items) i.chosen w.in_ok-consider.ensures.more);
         few = rw w.choices-is (omega (arith, i.few, w.consider.ensures.few));
       }
-      | else-from-get w ↦ record {
+      | else-has w ↦ record {
         room = rw w.spare-is i.room;
-        chosen = rw w.choices-is (elim w.else-from-get.branch [
-          | else-from-get-via-then-from-get+else-not-is_hopeless v ↦
+        chosen = rw w.choices-is (elim w.else-has.branch [
+          | else-has-via-then-has+else-not-is_hopeless v ↦
               let hopeless : IsHopeless init next book cut list (next_call cut caller) =
               subst (λ (counts : List ℕ). IsHopeless init next book counts list (next_call counts caller)) c.cut_of-cut.ensures (v.is_hopeless.ensures v.if-not-is_hopeless.false) in
-              hopeless-skip init next book cut list before caller c.requires.reached i.chosen hopeless
-          | else-from-get-via-else-from-get v ↦
-              outside-skip book next cut list before c.args.first caller c.first_view-view.result c.requires.first c.first_view-view.ensures.view i.chosen
-              (omega (arith, c.from.ensures, c.get.ensures))
+              hopeless-skip init next book cut list marks before caller c.requires.reached i.chosen hopeless
+          | else-has-via-else-has v ↦
+              unmarked-skip book next cut list marks before caller i.chosen
+              (λ (marked : IsMarked marks caller). absurd (let yes = c.has.ensures.1 marked in let untrue = v.if-has.false in cc))
         ]);
         few = rw w.choices-is (omega (arith, i.few));
       }
@@ -62,6 +66,9 @@ returns-clause-open g c =
     let next = g.S.SeqObject.next c.args.self.now.object.now in
     let cut = c.args.counts.now in
     let list = c.args.here.now.words in
+    let marks = c.to_try-marks.result in
+    let places = places_of c.loop-caller.choices.items in
     let end : c.loop-caller.caller ≡ length book = omega (arith, c.callers-caller-end.ensures.count) in
-    open-from_chosen book next cut list c.args.first (places_of c.loop-caller.choices.items) c.requires.first
-    (subst (λ (n : ℕ). AreChosen book next cut list n (places_of c.loop-caller.choices.items)) end c.loop-caller.invariant.chosen)
+    let suffice : MarksSuffice book next cut list marks = subst (λ (counts : List ℕ). MarksSuffice book next counts list marks) c.cut_of-cut.ensures c.to_try-marks.ensures.suffice in
+    open-from_chosen book next cut list marks c.args.first places c.requires.first suffice
+    (subst (λ (n : ℕ). AreChosen book next cut list marks n places) end c.loop-caller.invariant.chosen)

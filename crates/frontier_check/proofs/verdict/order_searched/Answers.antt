@@ -1,6 +1,6 @@
 use Rattle.frontier_check.specs.declared.front.Front.{Front}
 use Rattle.frontier_check.proofs.Leading.{none-found}
-use Rattle.frontier_check.proofs.verdict.order_anywhere.Goals as goal
+use Rattle.frontier_check.proofs.verdict.order_searched.Goals as goal
 
 pub returns-clause-none : goal.returns-clause-none
 returns-clause-none g c =
