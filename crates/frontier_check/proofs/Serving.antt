@@ -192,7 +192,7 @@ more-exchanged book next cut list old new items wide valid sound may x =
     let twin_may : MayStandNext book next cut list x.twin.place = all-at (MayStandNext book next cut list) old x.at x.twin sound x.inside x.there in
     let goes_on = kept_goes_on book next cut list x.twin.place new.place x.kept.place wide valid x.one_open twin_may may x.serves in
     let by_kept : (place : Place) (rest : List Place) → (place ≡ x.twin.place) ⊎ (place ≡ new.place) → Continues book next cut list (place ∷ rest)
-        → GoesOnBy book next cut list (places_of (insert left to x.kept))
+    → GoesOnBy book next cut list (places_of (insert left to x.kept))
     = λ place rest which goes. let found = goes_on place rest which goes in (x.kept.place, found.0, among-insert_new left to x.kept, found.1) in
     subst (λ (cs : List Choice). IsOneMore book next cut list new.place.caller (places_of old) (places_of cs)) (sym x.exchanged.1)
     (record {
@@ -225,4 +225,4 @@ considered-idle book next cut list places call op wide one sound number known fr
     let same : call_at place ≡ call = same_call (call_at place) call by (goes.0.may_come.next ∙ (ap (λ (i : ℕ). get_or cut i 0) by ∙ sym number)) in
     let stays : list_after book next list place ≡ list = ap (λ (o : Option ℕ). (next list (unwrap_or o 0)).0) (ap (operation_of book) same ∙ known) ∙ leaves in
     inr (idle_may_be_left_out book next cut list place rest (omega (arith, wide)) one
-      (λ (answered : IsAnswered book (call_at place)). free (subst (λ (c : Call). IsAnswered book c) same answered)) stays goes))
+    (λ (answered : IsAnswered book (call_at place)). free (subst (λ (c : Call). IsAnswered book c) same answered)) stays goes))

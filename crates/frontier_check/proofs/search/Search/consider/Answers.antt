@@ -40,7 +40,7 @@ returns-then-not-answered-clause-more g c =
     let same : c.words.result.now ≡ c.words-2.result.now = (slice_eq-Decides Decides-eqb _ _ _ c.eq-leaves.ensures).0 c.if-leaves.true in
     let stays : (next list c.op.result).0 ≡ list
     = sym (ap (λ (s : Contents). (next s.words c.op.result).0) c.copy_from.ensures)
-        ∙ (sym (ap (λ (s : Contents). s.words) c.step-reply.ensures.list) ∙ (sym c.words.ensures ∙ (same ∙ c.words-2.ensures))) in
+    ∙ (sym (ap (λ (s : Contents). s.words) c.step-reply.ensures.list) ∙ (sym c.words.ensures ∙ (same ∙ c.words-2.ensures))) in
     considered-idle book next c.args.counts.now list (places_of c.args.choices.now.items) call c.op.result c.requires.wide (c.requires.open c.if-self.true) c.requires.sound
     c.from-number.ensures c.op.ensures (λ (answered : IsAnswered book call). absurd (omega (arith, c.answers.ensures))) stays
 
