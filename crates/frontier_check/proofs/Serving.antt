@@ -1,16 +1,16 @@
 -- Twins and idle calls: what needn't be tried after the calls of a cut.
-use Rattle.std.proofs.Common.{◌≡◌, ℕ, zero, suc, ◌+◌, ◌-◌, ◌<◌, ◌≤◌, ◌∙◌, ◌⊎◌, ◌↔◌, Bool, IsTrue, IsFalse, List, [], ◌∷◌, length, get_or, Option, Some, unwrap_or, refl, sym, ap, subst, inl, inr, arith}
+use Rattle.std.proofs.Common.{◌≡◌, ℕ, zero, suc, ◌+◌, ◌<◌, ◌≤◌, ◌∙◌, ◌⊎◌, ◌↔◌, Bool, IsTrue, IsFalse, List, [], ◌∷◌, length, get_or, Option, Some, unwrap_or, refl, sym, ap, subst, inl, inr, arith}
 use Rattle.std.specs.List.{AllByRecursion, insert, remove}
 use Rattle.std.proofs.lemmas.Bool.{cases_lt, cases_eq}
 use Rattle.std.proofs.lemmas.List.{get_or_read}
-use Rattle.std.proofs.lemmas.Option.{same_Some, slice_get_within}
+use Rattle.std.proofs.lemmas.Option.{slice_get_within}
 use Rattle.book_base.specs.declared.call.Call.{Call}
 use Rattle.book_base.specs.declared.call.Place.{Place}
 use Rattle.book_base.specs.declared.call.Record.{Record}
 use Rattle.book_base.specs.Cut.{IsWithin}
 use Rattle.book_base.specs.Book.{Page, IsValid, IsCall, IsAnswered, answers_of, operation_of, record_of}
 use Rattle.book_base.specs.Order.{call_at, step_at}
-use Rattle.book_base.specs.Next.{next_call, list_after, MayComeNext, MayStandNext, Continues}
+use Rattle.book_base.specs.Next.{list_after, MayStandNext, Continues}
 use Rattle.book_base.specs.Pruning.{HasOneOpen, ViewsAreWithin}
 use Rattle.book_base.proofs.PageLemmas.{caller_from_answer}
 use Rattle.book_base.proofs.ViewLemmas.{views_grow}

@@ -1,14 +1,11 @@
 -- The search for a legal order: where it stands, and what is known there.
-use Rattle.std.specs.Prelude.{◌≡◌, ℕ, zero, suc, ◌+◌, ◌*◌, ◌-◌, ◌<◌, ◌≤◌, ◌⊎◌, List, [], ◌∷◌, ◌++◌, length, map, Some}
+use Rattle.std.specs.Prelude.{◌≡◌, ℕ, zero, suc, ◌+◌, ◌*◌, ◌-◌, ◌<◌, ◌≤◌, ◌⊎◌, List, [], ◌∷◌, ◌++◌, length, map}
 use Rattle.std.specs.List.{AllByRecursion}
-use Rattle.book_base.specs.declared.call.Call.{Call}
-use Rattle.book_base.specs.declared.call.Record.{Record}
 use Rattle.book_base.specs.declared.call.Place.{Place}
 use Rattle.book_base.specs.declared.TheConstants.{MAX_CALLERS}
-use Rattle.book_base.specs.Cut.{IsWithin}
 use Rattle.book_base.specs.Order.{IsLegalOrder}
-use Rattle.book_base.specs.Book.{Page, IsAnswered, record_of}
-use Rattle.book_base.specs.Foresight.{Reaches, HasEarly}
+use Rattle.book_base.specs.Book.{Page}
+use Rattle.book_base.specs.Foresight.{HasEarly}
 use Rattle.book_base.specs.declared.marks.Marks.{Marks}
 use Rattle.book_base.specs.Pruning.{IsDeadEnd, IsMarked, MarksSuffice}
 use Rattle.book_base.specs.Next.{next_call, raised, list_after, HoldsAnswered, MayComeNext, MayStandNext, Continues}

@@ -1,4 +1,4 @@
-use Rattle.std.proofs.Common.{ℕ, ◌-◌, arith}
+use Rattle.std.proofs.Common.{◌-◌, arith}
 use Rattle.frontier_check.proofs.Serving.{open_more-none, open_more-last, open_all}
 use Rattle.frontier_check.proofs.one_open.has_one_open.Goals as goal
 use Rattle.frontier_check.proofs.one_open.has_one_open.Goals.{then-answers-gt0+else-not-holds_one_open, else-answers-gt0}

@@ -1,4 +1,3 @@
-use Rattle.frontier_check.specs.Search.{AreToTry}
 use Rattle.book_base.proofs.PruningLemmas.{all_next_suffice}
 use Rattle.frontier_check.proofs.search.Search.to_try.Goals as goal
 
