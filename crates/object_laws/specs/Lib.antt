@@ -1,0 +1,6 @@
+pub mod Runs
+pub mod CounterRuns
+pub mod RegisterRuns
+pub mod SetRuns
+pub mod Removals
+pub mod Worked

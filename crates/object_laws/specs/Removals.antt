@@ -1,0 +1,80 @@
+-- Runs of queues, stacks and priority queues: which of the values that were put in comes out next.
+use Rattle.std.specs.Prelude.{◌≡◌, ◌⊎◌, ℕ, ◌<◌, ◌≤◌, ◌^◌, true, List, ◌∷◌, ◌++◌, length, map, slice_get, Option, Some, None, if◌then◌else◌}
+use Rattle.std.specs.List.{filter_map}
+use Rattle.history_rules.specs.Container.{Deed, Puts, Takes, Neither, Reading, put_by, taken_by, times}
+use Rattle.seq_objects.specs.declared.kind.Kind.TheVariants.{Queue, Stack, Pqueue}
+use Rattle.seq_objects.specs.Words.{insert, deq, pop, min, is_operation_of, argument_of}
+use Rattle.seq_objects.specs.Replies.{reply_none, reply_value}
+use Rattle.seq_objects.specs.Readings.{value_of, shown_value, queue_reading, stack_reading}
+use Rattle.object_laws.specs.Runs.{IsRunOf, does}
+
+-- The values that the steps put in, and those that they give out, each in order.
+abbrev pub put_in : Reading → List (ℕ × ℕ) → List ℕ
+put_in reading steps = filter_map (put_by reading) steps
+
+abbrev pub given_out : Reading → List (ℕ × ℕ) → List ℕ
+given_out reading steps = filter_map (taken_by reading) steps
+
+-- The reply that gives a value, where there is one.
+abbrev pub reply_with : Option ℕ → ℕ
+reply_with (Some value) = reply_value value
+reply_with None = reply_none
+
+-- A dequeue gives the first of the values put in that isn't out, or none where each is out: as many values were put in before that
+-- one as were given out.
+abbrev pub DequeuesGiveTheOldest : Type 0
+DequeuesGiveTheOldest = (before rest : List (ℕ × ℕ)) (step : ℕ × ℕ) → IsRunOf Queue (before ++ step ∷ rest) → does deq step ≡ true
+    → step.1 ≡ reply_with (slice_get (put_in queue_reading before) (length (given_out queue_reading before)))
+
+-- The steps give out just what they put in, of the values of a stack: as many values, and in no first part of them more.
+pub record AreEven (steps : List (ℕ × ℕ)) : Type 0 where
+  pub all : length (given_out stack_reading steps) ≡ length (put_in stack_reading steps)
+  pub first : (front rest : List (ℕ × ℕ)) → steps ≡ front ++ rest → length (given_out stack_reading front) ≤ length (put_in stack_reading front)
+
+-- The last value put in that isn't out: what was put in after it is out.
+pub record IsNewest (steps : List (ℕ × ℕ)) (value : ℕ) : Type 0 where
+  pub before : List (ℕ × ℕ)
+  pub push : ℕ × ℕ
+  pub later : List (ℕ × ℕ)
+  pub steps_are : steps ≡ before ++ push ∷ later
+  pub puts : put_by stack_reading push ≡ Some value
+  pub even : AreEven later
+
+-- A pop gives the last value put in that isn't out, or none where the steps before it are even.
+abbrev pub GivesTheNewest : List (ℕ × ℕ) → ℕ → Type 0
+GivesTheNewest before reply = ((reply ≡ reply_none) × AreEven before) ⊎ ((value : ℕ) × (reply ≡ reply_value value) × IsNewest before value)
+
+abbrev pub PopsGiveTheNewest : Type 0
+PopsGiveTheNewest = (before rest : List (ℕ × ℕ)) (step : ℕ × ℕ) → IsRunOf Stack (before ++ step ∷ rest) → does pop step ≡ true
+    → GivesTheNewest before step.1
+
+-- How priority queues are read: an insert puts in, a min takes.
+abbrev pub pqueue_deed : ℕ → Deed
+pqueue_deed word =
+    if is_operation_of word insert then Puts (argument_of word) else if is_operation_of word min then Takes else Neither
+
+abbrev pub pqueue_reading : Reading
+pqueue_reading = record { deed = pqueue_deed; shown = shown_value; values = map value_of }
+
+-- A value is in a priority queue after these steps: it was put in more often than given out.
+abbrev pub IsIn : List (ℕ × ℕ) → ℕ → Type 0
+IsIn steps value = times value (given_out pqueue_reading steps) < times value (put_in pqueue_reading steps)
+
+-- The value is in, and no value that is in is less.
+pub record IsLeast (steps : List (ℕ × ℕ)) (value : ℕ) : Type 0 where
+  pub inside : IsIn steps value
+  pub least : (other : ℕ) → IsIn steps other → value ≤ other
+  pub small : value < 2 ^ 32
+
+-- A min gives the least value that is in, or none where no value is in.
+abbrev pub GivesTheLeast : List (ℕ × ℕ) → ℕ → Type 0
+GivesTheLeast before reply = ((reply ≡ reply_none) × ((value : ℕ) → IsIn before value → ⊥)) ⊎ ((value : ℕ) × (reply ≡ reply_value value) × IsLeast before value)
+
+abbrev pub MinsGiveTheLeast : Type 0
+MinsGiveTheLeast = (before rest : List (ℕ × ℕ)) (step : ℕ × ℕ) → IsRunOf Pqueue (before ++ step ∷ rest) → does min step ≡ true
+    → GivesTheLeast before step.1
+
+-- Each value comes out of a priority queue at most as often as it was put in.
+abbrev pub ComesOutAtMostAsOften : Type 0
+ComesOutAtMostAsOften = (steps : List (ℕ × ℕ)) (value : ℕ) → IsRunOf Pqueue steps
+    → times value (given_out pqueue_reading steps) ≤ times value (put_in pqueue_reading steps)

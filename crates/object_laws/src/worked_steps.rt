@@ -1,0 +1,109 @@
+//! Steps that are worked by hand, on lists that no run reaches too.
+
+ghost use Rattle.std.specs.Prelude.{◌≡◌, [], ◌∷◌, codes};
+ghost use Rattle.seq_objects.specs.declared.kind.Kind.TheVariants as kinds;
+ghost use Rattle.seq_objects.specs.Objects.{kind_init};
+ghost use Rattle.seq_objects.specs.WorkedSteps.{Makes};
+
+/// Steps of a register. A list without an item reads as 0.
+pub fn worked_register_steps()
+    ensures begins { kind_init kinds.Register ≡ 0 ∷ [] }
+    ensures writes { Makes kinds.Register 4294967303 (codes "write 7")
+        (4 ∷ 9 ∷ []) (7 ∷ []) (codes "done") }
+    ensures reads { Makes kinds.Register 8589934592 (codes "read")
+        (4 ∷ 9 ∷ []) (4 ∷ 9 ∷ []) (codes "=4") }
+    ensures reads_an_empty_list { Makes kinds.Register 8589934592 (codes "read")
+        [] [] (codes "=0") }
+    ensures reads_the_low_bits { Makes kinds.Register 8589934592 (codes "read")
+        (4294967301 ∷ []) (4294967301 ∷ []) (codes "=5") }
+    ensures leaves_an_unknown_word { Makes kinds.Register 12884901888 (codes "#12884901888")
+        (4 ∷ []) (4 ∷ []) (codes "bad") }
+{}
+
+/// Steps of a counter. The count goes on with 0 after the greatest number below 2^32.
+pub fn worked_counter_steps()
+    ensures begins { kind_init kinds.Counter ≡ 0 ∷ [] }
+    ensures counts { Makes kinds.Counter 4294967296 (codes "inc")
+        (5 ∷ 9 ∷ []) (6 ∷ []) (codes "=5") }
+    ensures counts_an_empty_list { Makes kinds.Counter 4294967296 (codes "inc")
+        [] (1 ∷ []) (codes "=0") }
+    ensures goes_on_with_zero { Makes kinds.Counter 4294967296 (codes "inc")
+        (4294967295 ∷ []) (0 ∷ []) (codes "=4294967295") }
+    ensures counts_the_low_bits { Makes kinds.Counter 4294967296 (codes "inc")
+        (4294967298 ∷ []) (3 ∷ []) (codes "=2") }
+    ensures leaves_an_argument { Makes kinds.Counter 4294967297 (codes "#4294967297")
+        (4 ∷ []) (4 ∷ []) (codes "bad") }
+    ensures leaves_an_unknown_word { Makes kinds.Counter 8589934592 (codes "#8589934592")
+        (4 ∷ []) (4 ∷ []) (codes "bad") }
+{}
+
+/// Steps of a set. A value is put before the first greater item.
+pub fn worked_set_steps()
+    ensures begins { kind_init kinds.IntSet ≡ [] }
+    ensures adds_in_order { Makes kinds.IntSet 4294967299 (codes "add 3")
+        (1 ∷ 5 ∷ []) (1 ∷ 3 ∷ 5 ∷ []) (codes "yes") }
+    ensures adds_before_the_first_greater { Makes kinds.IntSet 4294967299 (codes "add 3")
+        (2 ∷ 7 ∷ 1 ∷ []) (2 ∷ 3 ∷ 7 ∷ 1 ∷ []) (codes "yes") }
+    ensures adds_at_the_end { Makes kinds.IntSet 4294967299 (codes "add 3")
+        (2 ∷ []) (2 ∷ 3 ∷ []) (codes "yes") }
+    ensures adds_nothing_twice { Makes kinds.IntSet 4294967299 (codes "add 3")
+        (1 ∷ 3 ∷ []) (1 ∷ 3 ∷ []) (codes "no") }
+    ensures takes_out_the_first { Makes kinds.IntSet 8589934595 (codes "remove 3")
+        (1 ∷ 3 ∷ 2 ∷ 3 ∷ []) (1 ∷ 2 ∷ 3 ∷ []) (codes "yes") }
+    ensures takes_out_none { Makes kinds.IntSet 8589934596 (codes "remove 4")
+        (1 ∷ 3 ∷ []) (1 ∷ 3 ∷ []) (codes "no") }
+    ensures has { Makes kinds.IntSet 12884901891 (codes "has 3")
+        (1 ∷ 3 ∷ []) (1 ∷ 3 ∷ []) (codes "yes") }
+    ensures has_not { Makes kinds.IntSet 12884901892 (codes "has 4")
+        (1 ∷ 3 ∷ []) (1 ∷ 3 ∷ []) (codes "no") }
+    ensures has_not_by_the_low_bits { Makes kinds.IntSet 12884901891 (codes "has 3")
+        (4294967299 ∷ []) (4294967299 ∷ []) (codes "no") }
+    ensures leaves_an_unknown_word { Makes kinds.IntSet 17179869184 (codes "#17179869184")
+        (4 ∷ []) (4 ∷ []) (codes "bad") }
+{}
+
+/// Steps of a priority queue. A value is put before the first greater item, and the first leaves.
+pub fn worked_pqueue_steps()
+    ensures begins { kind_init kinds.Pqueue ≡ [] }
+    ensures inserts_in_order { Makes kinds.Pqueue 4294967300 (codes "insert 4")
+        (2 ∷ 4 ∷ 6 ∷ []) (2 ∷ 4 ∷ 4 ∷ 6 ∷ []) (codes "done") }
+    ensures inserts_before_the_first_greater { Makes kinds.Pqueue 4294967300 (codes "insert 4")
+        (1 ∷ 6 ∷ 2 ∷ []) (1 ∷ 4 ∷ 6 ∷ 2 ∷ []) (codes "done") }
+    ensures inserts_at_the_end { Makes kinds.Pqueue 4294967300 (codes "insert 4")
+        (2 ∷ []) (2 ∷ 4 ∷ []) (codes "done") }
+    ensures takes_the_first { Makes kinds.Pqueue 8589934592 (codes "min")
+        (4 ∷ 2 ∷ []) (2 ∷ []) (codes "=4") }
+    ensures takes_the_low_bits { Makes kinds.Pqueue 8589934592 (codes "min")
+        (4294967298 ∷ 9 ∷ []) (9 ∷ []) (codes "=2") }
+    ensures takes_none { Makes kinds.Pqueue 8589934592 (codes "min") [] [] (codes "none") }
+    ensures leaves_an_unknown_word { Makes kinds.Pqueue 12884901888 (codes "#12884901888")
+        (4 ∷ []) (4 ∷ []) (codes "bad") }
+{}
+
+/// Steps of a queue: items come in at the end, and leave at the front.
+pub fn worked_queue_steps()
+    ensures begins { kind_init kinds.Queue ≡ [] }
+    ensures puts_at_the_end { Makes kinds.Queue 4294967303 (codes "enq 7")
+        (4 ∷ 2 ∷ []) (4 ∷ 2 ∷ 7 ∷ []) (codes "done") }
+    ensures takes_the_first { Makes kinds.Queue 8589934592 (codes "deq")
+        (4 ∷ 2 ∷ 9 ∷ []) (2 ∷ 9 ∷ []) (codes "=4") }
+    ensures takes_the_low_bits { Makes kinds.Queue 8589934592 (codes "deq")
+        (4294967298 ∷ 9 ∷ []) (9 ∷ []) (codes "=2") }
+    ensures takes_none { Makes kinds.Queue 8589934592 (codes "deq") [] [] (codes "none") }
+    ensures leaves_an_unknown_word { Makes kinds.Queue 12884901888 (codes "#12884901888")
+        (4 ∷ []) (4 ∷ []) (codes "bad") }
+{}
+
+/// Steps of a stack: items come in at the end, and leave at the end.
+pub fn worked_stack_steps()
+    ensures begins { kind_init kinds.Stack ≡ [] }
+    ensures puts_at_the_end { Makes kinds.Stack 4294967303 (codes "push 7")
+        (4 ∷ 2 ∷ []) (4 ∷ 2 ∷ 7 ∷ []) (codes "done") }
+    ensures takes_the_last { Makes kinds.Stack 8589934592 (codes "pop")
+        (4 ∷ 2 ∷ 9 ∷ []) (4 ∷ 2 ∷ []) (codes "=9") }
+    ensures takes_the_low_bits { Makes kinds.Stack 8589934592 (codes "pop")
+        (9 ∷ 4294967298 ∷ []) (9 ∷ []) (codes "=2") }
+    ensures takes_none { Makes kinds.Stack 8589934592 (codes "pop") [] [] (codes "none") }
+    ensures leaves_an_unknown_word { Makes kinds.Stack 12884901888 (codes "#12884901888")
+        (4 ∷ []) (4 ∷ []) (codes "bad") }
+{}
