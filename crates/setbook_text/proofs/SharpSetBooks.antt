@@ -1,5 +1,5 @@
 -- The rules of a set book's text are sharp: bytes are read as one set book, or have one first fault.
-use Rattle.std.proofs.Common.{◌≡◌, ℕ, ◌⊎◌, List, [], ◌∷◌, map, decimal, Result, Ok, Err, refl, sym, ap, subst, ◌∙◌, arith, inl, inr}
+use Rattle.std.proofs.Common.{◌≡◌, ℕ, ◌⊎◌, List, [], ◌∷◌, ◌++◌, map, decimal, Result, refl, sym, ap, subst, ◌∙◌, arith, inl, inr}
 use Rattle.std.specs.Prelude.{codes, IfOk, IfErr, MatchResult}
 use Rattle.book_base.specs.declared.call.Call.{Call}
 use Rattle.book_base.specs.declared.fault.TextFault.{TextFault}
@@ -12,6 +12,7 @@ use Rattle.text_fields.specs.declared.version.Version.TheVariants.{Second}
 use Rattle.text_fields.specs.Lines.{Unread, AreSolid}
 use Rattle.text_fields.specs.Faults.{ALine, AreSharp, IsWrong, IsFirstFault, GoesTo, StopsFor}
 use Rattle.text_fields.proofs.Sharp as sharp
+use Rattle.text_fields.proofs.Readings as readings
 use Rattle.text_fields.proofs.NumberTexts.{same_first, same_number, solid_decimal}
 use Rattle.text_fields.proofs.HeadTexts.{plain, same_numbers, numbers_at_most, solid_numbers}
 use Rattle.book_text.specs.CallLines.{Progress, CallPasses, call_wanted, call_rules, no_call_read}
@@ -84,7 +85,7 @@ wanted (CountsDue n) after words h = refl
 wanted (InCalls book calls) after words h = refl
 wanted (AtEnd book) after words h = absurd h
 
-setbook_sharp : AreSharp setbook_rules
+pub setbook_sharp : AreSharp setbook_rules
 setbook_sharp = record { one_way = one_way; apart = apart; solid = solid; lines = wanted }
 
 -- ---- the lines of calls within the text
@@ -119,35 +120,33 @@ set_book_no_end book text fault h =
 
 -- ---- readings
 
-same_end : (a b : List Page) → AtEnd a ≡ AtEnd b → a ≡ b
+pub same_end : (a b : List Page) → AtEnd a ≡ AtEnd b → a ≡ b
 same_end a b e = cc
 
 -- what bytes are read as is one thing
 pub one_book : (bytes : List ℕ) (a b : List Page) → IsSetBookText bytes a → IsSetBookText bytes b → a ≡ b
-one_book bytes a b h j = same_end a b (sharp.one_reading setbook_rules setbook_sharp TitleDue (AtEnd a) (AtEnd b) (whole_text bytes) h.0 j.0 h.1 j.1).0
+one_book = readings.one_said setbook_rules setbook_sharp TitleDue AtEnd same_end (λ book. refl)
 
 -- bytes have one first fault
 pub one_first_fault : (bytes : List ℕ) (a b : TextFault) → IsFirstSetBookFault bytes a → IsFirstSetBookFault bytes b → a ≡ b
-one_first_fault bytes a b h k = sharp.one_fault setbook_rules setbook_sharp TitleDue (whole_text bytes) a b h k
+one_first_fault = readings.one_first setbook_rules setbook_sharp TitleDue AtEnd same_end (λ book. refl)
 
 -- bytes that are read have no fault
 pub no_first_fault : (bytes : List ℕ) (book : List Page) (fault : TextFault) → IsSetBookText bytes book → IsFirstSetBookFault bytes fault → ⊥
-no_first_fault bytes book fault h k = sharp.no_fault setbook_rules setbook_sharp TitleDue (AtEnd book) (whole_text bytes) h.0 fault h.1 k
+no_first_fault = readings.no_first setbook_rules setbook_sharp TitleDue AtEnd same_end (λ book. refl)
+
+-- where more bytes follow a text, the whole is none
+pub no_prefix : (bytes more : List ℕ) (a b : List Page) → IsSetBookText bytes a → IsSetBookText (bytes ++ more) b → more ≡ []
+no_prefix = readings.no_prefix setbook_rules setbook_sharp TitleDue AtEnd same_end (λ book. refl)
 
 pub only_read : (bytes : List ℕ) (result : Result (List Page) ReadFault) → IfOk result (λ x. IsSetBookText bytes x) → IfErr result (λ e. StopsFor setbook_rules TitleDue (whole_text bytes) e)
     → (book : List Page) → IsSetBookText bytes book → MatchResult result (λ x. x ≡ book) (λ e. e ≡ NoMemory)
-only_read bytes (Ok x) h k book read = one_book bytes x book h read
-only_read bytes (Err NoMemory) h k book read = refl
-only_read bytes (Err (Text fault)) h k book read = absurd (no_first_fault bytes book fault read k)
+only_read = readings.only_read setbook_rules setbook_sharp TitleDue AtEnd same_end (λ book. refl)
 
 pub refused_read : (bytes : List ℕ) (result : Result (List Page) ReadFault) → IfErr result (λ e. StopsFor setbook_rules TitleDue (whole_text bytes) e)
     → IfErr result (λ e. (e ≡ NoMemory) ⊎ ((fault : TextFault) × (e ≡ Text fault) × IsFirstSetBookFault bytes fault × IsNoSetBookText bytes))
-refused_read bytes (Ok x) k = tt
-refused_read bytes (Err NoMemory) k = inl refl
-refused_read bytes (Err (Text fault)) k = inr (fault, refl, k, λ book read. no_first_fault bytes book fault read k)
+refused_read = readings.refused_read setbook_rules setbook_sharp TitleDue AtEnd same_end (λ book. refl)
 
 pub first_read : (bytes : List ℕ) (result : Result (List Page) ReadFault) → IfOk result (λ x. IsSetBookText bytes x) → IfErr result (λ e. StopsFor setbook_rules TitleDue (whole_text bytes) e)
     → (fault : TextFault) → IsFirstSetBookFault bytes fault → MatchResult result (λ x. ⊥) (λ e. (e ≡ Text fault) ⊎ (e ≡ NoMemory))
-first_read bytes (Ok x) h k fault f = no_first_fault bytes x fault h f
-first_read bytes (Err NoMemory) h k fault f = inr refl
-first_read bytes (Err (Text other)) h k fault f = inl (ap Text (one_first_fault bytes other fault k f))
+first_read = readings.first_read setbook_rules setbook_sharp TitleDue AtEnd same_end (λ book. refl)

@@ -1,3 +1,4 @@
 pub mod JoinWords
 pub mod JoinLaws
 pub mod SetBookRules
+pub mod Grammar
