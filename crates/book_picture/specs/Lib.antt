@@ -1,3 +1,5 @@
 pub mod Escape
+pub mod Groups
+pub mod Titles
 pub mod Sheets
 pub mod Elements

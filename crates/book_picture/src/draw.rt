@@ -1,6 +1,7 @@
-ghost use Rattle.std.specs.Prelude.{◌≡◌, ℕ, ◌<◌, ◌++◌, List, length, string_bytes, IfOk, OnOk};
+ghost use Rattle.std.specs.Prelude.{◌≡◌, ℕ, ◌<◌, ◌++◌, List, length, is_some, string_bytes, IfOk, OnOk};
 ghost use Rattle.call_intervals.specs.Intervals.{rows_of};
 ghost use Rattle.book_picture.specs.Elements.{AreElementsOf, AreLanesElements, ShowsEachCall};
+ghost use Rattle.book_picture.specs.Titles.{is_legal, SaysVerdict};
 ghost use Rattle.book_picture.specs.Sheets.{AreDrawable, AreAllDrawable, EndBelow, AllEndBelow};
 
 use crate::columns::column_edges;
@@ -22,7 +23,9 @@ pub fn draw_book(
     book: &Book,
     verdict: &Verdict,
 ) -> Result<String, NoMemory>
-    ensures { IfOk result (λ text. ShowsEachCall book.now (string_bytes text)) }
+    ensures calls { IfOk result (λ text. ShowsEachCall book.now (string_bytes text)) }
+    ensures verdict { IfOk result (λ text.
+        SaysVerdict (is_legal verdict.now) (string_bytes text)) }
 {
     let events = sketch(alloc, book)?;
     let lanes = call_lanes(alloc, book, &events)?;
@@ -41,7 +44,9 @@ pub fn draw_book(
 }
 
 // The order that a verdict carries.
-fn order_of(verdict: &Verdict) -> Option<&[Place]> {
+fn order_of(verdict: &Verdict) -> Option<&[Place]>
+    ensures { is_some result ≡ is_legal verdict.now }
+{
     match verdict {
         Verdict::Legal(order) => Some(order.as_slice()),
         Verdict::Illegal => None,

@@ -1,5 +1,7 @@
-ghost use Rattle.std.specs.Prelude.{◌≡◌, ◌<◌, length, string_bytes, IfOk};
+ghost use Rattle.std.specs.Prelude.{◌≡◌, ◌<◌, ◌++◌, length, is_some, string_bytes, IsTrue, IfOk, OnOk};
 ghost use Rattle.book_picture.specs.Elements.{IsElementOf};
+ghost use Rattle.book_picture.specs.Groups.{HasNoGroup, is_plain, GrowsPlain};
+ghost use Rattle.book_picture.specs.Titles.{line_text, IsOpening, GrowsByTitle, SaysVerdict};
 ghost use Rattle.book_picture.specs.Sheets.{IsDrawable};
 
 use crate::escape::put_escaped;
@@ -59,9 +61,23 @@ struct Bar {
 
 impl Sheet<'_> {
     /// What stands before the bars: the legend, and the lanes with their callers.
-    pub fn head(&self) -> Result<String, NoMemory> {
+    pub fn head(&self) -> Result<String, NoMemory>
+        ensures plain { IfOk result (λ text. HasNoGroup (string_bytes text)) }
+        ensures verdict { IfOk result (λ text.
+            SaysVerdict (is_some self.now.order) (string_bytes text)) }
+    {
         let last = self.edges.last().copied().unwrap_or(0);
         let width = last.saturating_add(MARGIN).max(LEAST_WIDTH);
+        let mut out = self.opening(width)?;
+        self.put_legend(&mut out)?;
+        put_lanes(&mut out, self.book.callers(), width.saturating_sub(MARGIN))?;
+        Ok(out)
+    }
+
+    // What stands before the legend of a sheet of this width: the style, and the ground.
+    fn opening(&self, width: usize) -> Result<String, NoMemory>
+        ensures { IfOk result (λ text. IsOpening (string_bytes text)) }
+    {
         let height = top_of(self.book.callers());
         let mut out = String::new(self.alloc);
         write!(
@@ -70,29 +86,20 @@ impl Sheet<'_> {
         )?;
         out.push_str(STYLE)?;
         out.push_str("<rect width=\"100%\" height=\"100%\" fill=\"#ffffff\"/>\n")?;
-        self.put_legend(&mut out)?;
-        for caller in 0..self.book.callers() {
-            put_lane(&mut out, caller, width.saturating_sub(MARGIN))?;
-        }
         Ok(out)
     }
 
     // Appends what the picture says of the book, and how it is read.
-    fn put_legend(&self, out: &mut String) -> Result<(), NoMemory> {
-        let kind = self.kind.name();
+    fn put_legend(&self, out: &mut String) -> Result<(), NoMemory>
+        ensures { OnOk result (GrowsByTitle (is_some self.now.order)
+            (string_bytes out.old) (string_bytes out.new)) }
+    {
         let verdict = match self.order {
             Some(_) => "legal: the numbers give an order of the calls that explains all replies",
             None => "illegal: no order explains these replies",
         };
         put_line(out, "title", MARGIN, 24, verdict.as_bytes())?;
-        write!(
-            out,
-            "<text class=\"note\" x=\"{MARGIN}\" y=\"44\">{kind}: a bar begins where its call is first \
-             seen invoked, and ends with its return.</text>\n\
-             <text class=\"note\" x=\"{MARGIN}\" y=\"62\">Where a bar with a reply ends left of another, \
-             its call precedes the other.</text>\n"
-        )?;
-        Ok(())
+        put_notes(out, self.kind)
     }
 
     /// The element of a call.
@@ -112,6 +119,7 @@ impl Sheet<'_> {
     fn inside(&self, interval: &Interval) -> Result<String, NoMemory>
         requires drawable { IsDrawable self.now.book.now interval.now }
         requires end { interval.now.end < length self.now.edges.now }
+        ensures { IfOk result (λ text. IsTrue (is_plain (string_bytes text))) }
     {
         let bar = Bar {
             left: self.edges[interval.begin].saturating_add(GAP),
@@ -134,20 +142,52 @@ fn top_of(caller: u32) -> usize {
     (caller as usize).saturating_mul(LANE).saturating_add(TOP)
 }
 
+// Appends how a picture of an object of this kind is read.
+fn put_notes(out: &mut String, kind: Kind) -> Result<(), NoMemory>
+    ensures { OnOk result (GrowsPlain (string_bytes out.old) (string_bytes out.new)) }
+{
+    let kind = kind.name();
+    write!(
+        out,
+        "<text class=\"note\" x=\"{MARGIN}\" y=\"44\">{kind}: a bar begins where its call is first \
+         seen invoked, and ends with its return.</text>\n\
+         <text class=\"note\" x=\"{MARGIN}\" y=\"62\">Where a bar with a reply ends left of another, \
+         its call precedes the other.</text>\n"
+    )?;
+    Ok(())
+}
+
+// Appends the lanes of so many callers.
+fn put_lanes(out: &mut String, callers: u32, right: usize) -> Result<(), NoMemory>
+    ensures { OnOk result (GrowsPlain (string_bytes out.old) (string_bytes out.new)) }
+{
+    for caller in 0..callers {
+        put_lane(out, caller, right)?;
+    }
+    Ok(())
+}
+
 // Appends the line and the name of a lane.
-fn put_lane(out: &mut String, caller: u32, right: usize) -> Result<(), NoMemory> {
+fn put_lane(out: &mut String, caller: u32, right: usize) -> Result<(), NoMemory>
+    ensures { OnOk result (GrowsPlain (string_bytes out.old) (string_bytes out.new)) }
+{
     let middle = top_of(caller).saturating_add(BAR / 2);
     let base = middle.saturating_add(4);
     write!(
         out,
-        "<line class=\"lane\" x1=\"100\" y1=\"{middle}\" x2=\"{right}\" y2=\"{middle}\"/>\n\
-         <text class=\"note\" x=\"{MARGIN}\" y=\"{base}\">caller {caller}</text>\n"
+        "<line class=\"lane\" x1=\"100\" y1=\"{middle}\" x2=\"{right}\" y2=\"{middle}\"/>\n"
+    )?;
+    write!(
+        out,
+        "<text class=\"note\" x=\"{MARGIN}\" y=\"{base}\">caller {caller}</text>\n"
     )?;
     Ok(())
 }
 
 // Appends the outline of a bar. That of an open one has no right edge.
-fn put_outline(out: &mut String, bar: Bar, is_open: bool) -> Result<(), NoMemory> {
+fn put_outline(out: &mut String, bar: Bar, is_open: bool) -> Result<(), NoMemory>
+    ensures { OnOk result (GrowsPlain (string_bytes out.old) (string_bytes out.new)) }
+{
     let Bar { left, right, top } = bar;
     let bottom = top.saturating_add(BAR);
     if is_open {
@@ -165,14 +205,18 @@ fn put_outline(out: &mut String, bar: Bar, is_open: bool) -> Result<(), NoMemory
 }
 
 // Appends the operation and the reply of a bar.
-fn put_label(out: &mut String, bar: Bar, label: &Label) -> Result<(), NoMemory> {
+fn put_label(out: &mut String, bar: Bar, label: &Label) -> Result<(), NoMemory>
+    ensures { OnOk result (GrowsPlain (string_bytes out.old) (string_bytes out.new)) }
+{
     let x = bar.left.saturating_add(9);
     put_line(out, "call", x, bar.top.saturating_add(18), &label.operation)?;
     put_line(out, "call", x, bar.top.saturating_add(36), &label.reply)
 }
 
 // Appends the number of a call in the order, where it stands in it.
-fn put_number(out: &mut String, bar: Bar, number: Option<usize>) -> Result<(), NoMemory> {
+fn put_number(out: &mut String, bar: Bar, number: Option<usize>) -> Result<(), NoMemory>
+    ensures { OnOk result (GrowsPlain (string_bytes out.old) (string_bytes out.new)) }
+{
     if let Some(number) = number {
         let x = bar.right.saturating_sub(15);
         let y = bar.top.saturating_add(15);
@@ -187,13 +231,10 @@ fn put_number(out: &mut String, bar: Bar, number: Option<usize>) -> Result<(), N
 }
 
 // Appends a line of text.
-fn put_line(
-    out: &mut String,
-    class: &str,
-    x: usize,
-    y: usize,
-    text: &[u8],
-) -> Result<(), NoMemory> {
+fn put_line(out: &mut String, class: &str, x: usize, y: usize, text: &[u8]) -> Result<(), NoMemory>
+    ensures { OnOk result (string_bytes out.new
+        ≡ string_bytes out.old ++ line_text class.now x y text.now) }
+{
     write!(out, "<text class=\"{class}\" x=\"{x}\" y=\"{y}\">")?;
     put_escaped(out, text)?;
     out.push_str("</text>\n")?;
