@@ -1,23 +1,34 @@
 -- What the program writes of an input.
-use Rattle.std.specs.Prelude.{◌≡◌, ◌⊎◌, ℕ, ◌<◌, ◌≤◌, List, length}
+use Rattle.std.specs.Prelude.{◌≡◌, ◌⊎◌, ℕ, ◌<◌, ◌≤◌, Bool, true, false, List, length}
 use Rattle.book_base.specs.declared.fault.TextFault.{TextFault}
 use Rattle.book_base.specs.declared.fault.ReadFault.{ReadFault}
 use Rattle.book_base.specs.declared.fault.ReadFault.TheVariants.{Text, NoMemory}
 use Rattle.book_base.specs.declared.fault.What.TheVariants.{Long}
 use Rattle.book_base.specs.Book.{Page}
+use Rattle.book_base.specs.Order.{HasLegalOrder}
 use Rattle.seq_objects.specs.declared.kind.Kind.{Kind}
+use Rattle.seq_objects.specs.Objects.{kind_init, kind_next}
 use Rattle.text_fields.specs.declared.version.Version.TheVariants.{Second}
 use Rattle.book_text.specs.BookRules.{IsBookText, IsFirstBookFault}
 use Rattle.byte_streams.specs.declared.TheConstants.{INPUT_LIMIT}
 use Rattle.book_picture.specs.Elements.{ShowsEachCall}
+use Rattle.book_picture.specs.Titles.{SaysVerdict}
 
--- the bytes are the text of a book, and the text is a picture of it
+-- a book of this kind is legal, or it isn't
+abbrev pub IsJudged : Kind → List Page → Bool → Type 0
+IsJudged kind book true = HasLegalOrder (kind_init kind) (kind_next kind) book
+IsJudged kind book false = HasLegalOrder (kind_init kind) (kind_next kind) book → ⊥
+
+-- The bytes are the text of a book, and the text is a picture of it: its first line of text says whether the book is legal.
 pub record IsPictureOf (bytes text : List ℕ) : Type 0 where
   pub kind : Kind
   pub book : List Page
   pub short : length bytes ≤ INPUT_LIMIT
   pub told : IsBookText Second bytes kind book
   pub shown : ShowsEachCall book text
+  pub legal : Bool
+  pub judged : IsJudged kind book legal
+  pub says : SaysVerdict legal text
 
 -- The input is refused for this fault: there are too many bytes, or else it is the first fault of the bytes as a book's text.
 abbrev pub IsRefusedFor : List ℕ → TextFault → Type 0
