@@ -1,0 +1,2 @@
+pub mod OneWordReplies
+pub mod FreshRuns

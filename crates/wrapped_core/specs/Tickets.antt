@@ -1,0 +1,39 @@
+-- A dispenser of tickets: what a call does to its list, and which step it makes on its word.
+use Rattle.std.specs.Prelude.{◌≡◌, ℕ, ◌+◌, ◌%◌, ◌^◌, ◌==◌, if◌then◌else◌, List, [], ◌∷◌}
+use Rattle.book_base.specs.declared.TheConstants.{BAD}
+use Rattle.seq_objects.specs.Items.{first_or_zero}
+use Rattle.seq_objects.specs.Replies.{reply_value}
+use Rattle.world_core.specs.Local.{Object_step}
+use Rattle.object_orders.specs.OneWord.{OneWord}
+use Rattle.wrapped_core.specs.declared.ticket_pass.TicketPass.{TicketPass}
+
+-- The operation word of taking a ticket.
+abbrev pub take : ℕ
+take = 2 ^ 32
+
+-- The reply that gives the ticket behind so many taken ones.
+abbrev pub ticket : ℕ → ℕ → ℕ
+ticket first taken = reply_value (first + taken)
+
+-- A dispenser as a sequential object. Its one item says how many tickets were taken, modulo 2 ^ 64.
+abbrev pub after_call : ℕ → List ℕ → ℕ → List ℕ × ℕ
+after_call first list op =
+    if op == take then ((first_or_zero list + 1) % 2 ^ 64 ∷ [], ticket first (first_or_zero list))
+    else (list, BAD)
+
+-- A dispenser as an object of one word, which says how many tickets were taken: taking one adds 1.
+abbrev pub dispenser : ℕ → OneWord
+dispenser first =
+    record {
+      makes_step = λ op. op == take;
+      leaves = λ op taken. (taken + 1) % 2 ^ 64;
+      replies = λ op taken. ticket first taken;
+    }
+
+-- The list that a word stands for.
+abbrev pub taken_by : ℕ → List ℕ
+taken_by taken = taken ∷ []
+
+-- The pass is that of a caller, whatever the number of callers and the cap, and whatever object steps the caller has made.
+abbrev pub IsHeldBy : TicketPass → ℕ → ℕ → ℕ → List Object_step → Type 0
+IsHeldBy pass caller n cap steps = pass.caller ≡ caller
