@@ -23,13 +23,14 @@ use Rattle.run_writer.specs.declared.form.Form.{Form}
 use Rattle.run_writer.specs.declared.form.Form.TheVariants.{Report, Counts, Certificate}
 use Rattle.byte_streams.specs.declared.status.Status.{Status}
 use Rattle.byte_streams.proofs.WritingLemmas.{EndsWriting-weaker}
-use Rattle.run_writer.specs.Runs.{IsWitnessText, IsRunOutput, RunEnds, FormsWriteOneText, CertificatesAreLegal, CertificatesTellOneBook}
+use Rattle.call_phases.specs.Ends.{Sequential}
+use Rattle.run_writer.specs.Runs.{IsWitnessText, IsRunOutput, RunEnds, object_of_kind, FormsWriteOneText, CertificatesAreLegal, CertificatesAreOfTheirKind, CertificatesTellOneBook}
 
 -- what is written of a report is written of a run with such a report
-pub RunEnds-from_report : (IsReportOf : Findings → Type 0) (form : Form) (report : Findings) (result : Status) (taken taken' : Option (List ℕ)) → IsReportOf report
-    → RunEnds (λ other. other ≡ report) form result taken taken' → RunEnds IsReportOf form result taken taken'
-RunEnds-from_report IsReportOf form report result taken taken' is ends =
-    EndsWriting-weaker (IsRunOutput (λ other. other ≡ report) form) (IsRunOutput IsReportOf form) result taken taken'
+pub RunEnds-from_report : (object : Sequential) (IsReportOf : Findings → Type 0) (form : Form) (report : Findings) (result : Status) (taken taken' : Option (List ℕ)) → IsReportOf report
+    → RunEnds object (λ other. other ≡ report) form result taken taken' → RunEnds object IsReportOf form result taken taken'
+RunEnds-from_report object IsReportOf form report result taken taken' is ends =
+    EndsWriting-weaker (IsRunOutput object (λ other. other ≡ report) form) (IsRunOutput object IsReportOf form) result taken taken'
     (λ status text output. (output.0, subst IsReportOf (sym output.1) is, output.2, output.3)) ends
 
 -- ---- a form but the certificate writes one text of a report
@@ -78,23 +79,26 @@ one_witness_text report a b (inr one) (inr other) =
 
 -- a form but the certificate writes one text of a report
 pub forms_write_one_text : FormsWriteOneText
-forms_write_one_text Report report a b other_form one other =
+forms_write_one_text object Report report a b other_form one other =
     let shown : one.0 ≡ other.0 = one.2.text ∙ sym other.2.text in
     one.4 ∙ ap (λ (text : List ℕ). text ++ one.1) shown ∙ ap (λ (text : List ℕ). other.0 ++ text) (one_witness_text report one.1 other.1 one.3 other.3) ∙ sym other.4
-forms_write_one_text Counts report a b other_form one other = one ∙ sym other
-forms_write_one_text Certificate report a b other_form one other = absurd (other_form refl)
+forms_write_one_text object Counts report a b other_form one other = one ∙ sym other
+forms_write_one_text object Certificate report a b other_form one other = absurd (other_form refl)
 
 -- ---- certificates are legal, and tell one book
 
 pub certificates_are_legal : CertificatesAreLegal
-certificates_are_legal report text kind book order written read =
-    let told = certificates_are_read (kind_init report.kind) (kind_next report.kind) report text kind book order written read in
-    subst (λ (k : Kind). IsLegalOrder (kind_init k) (kind_next k) book order) (sym told.kinds) told.legal
+certificates_are_legal object report text kind book order written read =
+    let told = certificates_are_read object.init object.next report text kind book order written read in
+    (told.kinds, told.legal)
+
+pub certificates_are_of_their_kind : CertificatesAreOfTheirKind
+certificates_are_of_their_kind report text kind book order written read =
+    let told = certificates_are_legal (object_of_kind report.kind) report text kind book order written read in
+    subst (λ (k : Kind). IsLegalOrder (kind_init k) (kind_next k) book order) (sym told.0) told.1
 
 pub certificates_tell_one_book : CertificatesTellOneBook
-certificates_tell_one_book report a b k l p q order other one two read read_too =
-    let init : List ℕ = kind_init report.kind in
-    let next : List ℕ → ℕ → List ℕ × ℕ = kind_next report.kind in
-    let first = certificates_are_read init next report a k p order one read in
-    let second = certificates_are_read init next report b l q other two read_too in
-    (first.kinds ∙ sym second.kinds, certificates_have_one_book init next report k l p q order other first second)
+certificates_tell_one_book object report a b k l p q order other one two read read_too =
+    let first = certificates_are_read object.init object.next report a k p order one read in
+    let second = certificates_are_read object.init object.next report b l q other two read_too in
+    (first.kinds ∙ sym second.kinds, certificates_have_one_book object.init object.next report k l p q order other first second)

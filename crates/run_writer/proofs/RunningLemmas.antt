@@ -12,16 +12,14 @@ use Rattle.client_scripts.specs.Plans.{Plan}
 use Rattle.reports.specs.Findings.{Findings}
 use Rattle.row_table.specs.declared.rows.Rows.{Rows}
 use Rattle.row_table.specs.declared.bench.Bench.{Bench}
-use Rattle.call_phases.specs.Asking.{fits_own, own_count}
-use Rattle.bench_clients.specs.Returns.{IsBackOn}
-use Rattle.bench_clients.specs.Starts.{course_of}
+use Rattle.call_phases.specs.Ends.{Sequential}
 use Rattle.run_report.specs.Reporting.{IsReportOf}
-use Rattle.report_certificates.specs.Certificates.{HasDeliveredOrder}
 use Rattle.report_certificates.proofs.CertificateLaws.{lawful_reports_have_an_order}
 use Rattle.run_writer.specs.declared.form.Form.{Form}
 use Rattle.run_writer.specs.declared.form.Form.TheVariants.{Report, Counts, Certificate}
+use Rattle.byte_streams.specs.declared.status.Status.{Status}
 use Rattle.run_writer.specs.Running.{IsBackOf}
-use Rattle.run_writer.specs.Runs.{HasForm}
+use Rattle.run_writer.specs.Runs.{HasForm, RunEnds, object_by, object_of_kind}
 
 module _ (s : Shape) (locals : List Local) (plan : Plan) (allotments : List ℕ) where
   -- the report by the object of the script's kind
@@ -36,17 +34,23 @@ module _ (s : Shape) (locals : List Local) (plan : Plan) (allotments : List ℕ)
       ap (λ (lines : List (List Line)). list_any any_error lines) (locals_determine_lines init next locals f.lines g.lines a.lines b.lines)
 
   -- a lawful report has each form
-  pub has_form : (form : Form) (f : Findings) → IsReportOf (kind_init plan.kind) (kind_next plan.kind) s locals plan allotments f → HasForm form f
-  has_form Report f is = tt
-  has_form Counts f is = tt
-  has_form Certificate f is =
-      subst (λ (kind : Kind). HasDeliveredOrder (kind_init kind) (kind_next kind) f.lines) (sym is.kind)
-      (lawful_reports_have_an_order (kind_init plan.kind) (kind_next plan.kind) s plan.operations allotments f.lines is.lawful)
+  pub has_form : (object : Sequential) (form : Form) (f : Findings) → IsReportOf object.init object.next s locals plan allotments f → HasForm object form f
+  has_form object Report f is = tt
+  has_form object Counts f is = tt
+  has_form object Certificate f is = lawful_reports_have_an_order object.init object.next s plan.operations allotments f.lines is.lawful
 
--- a caller is back on the bench whatever object judges
-pub back_by_kind : {P T : Type 0} (meaning : P → ℕ → ℕ → Meaning) (rows : Rows P) (is_own : T → Type 0) (caller made cap : T → ℕ) (told : T → Option (List (ℕ × ℕ))) (plan : Plan) (allotments : List ℕ) (bench : Bench P)
-    (passes : List T) (i : ℕ) (kind : Kind) → kind ≡ plan.kind
-    → IsBackOn meaning rows (fits_own is_own caller) (own_count made cap told) (course_of plan allotments (record { init = kind_init kind; next = kind_next kind })) bench passes i
-    → IsBackOf meaning rows is_own caller made cap told plan allotments bench passes i
-back_by_kind meaning rows is_own caller made cap told plan allotments bench passes i kind same back =
-    subst (λ (k : Kind). IsBackOn meaning rows (fits_own is_own caller) (own_count made cap told) (course_of plan allotments (record { init = kind_init k; next = kind_next k })) bench passes i) same back
+-- what is written by an object is written by one that is the same
+pub ends_by_object : {S : Type 0} (init : S → List ℕ) (next : S → List ℕ → ℕ → List ℕ × ℕ) (s t : S) → s ≡ t → (IsOne : Findings → Type 0) (form : Form) (result : Status) (taken taken' : Option (List ℕ))
+    → RunEnds (object_by init next s) IsOne form result taken taken' → RunEnds (object_by init next t) IsOne form result taken taken'
+ends_by_object init next s t same IsOne form result taken taken' ends = subst (λ (x : _). RunEnds (object_by init next x) IsOne form result taken taken') same ends
+
+-- a report has its forms by an object that is the same
+pub form_by_object : {S : Type 0} (init : S → List ℕ) (next : S → List ℕ → ℕ → List ℕ × ℕ) (s t : S) → s ≡ t → (form : Form) (f : Findings) → HasForm (object_by init next s) form f → HasForm (object_by init next t) form f
+form_by_object init next s t same form f has = subst (λ (x : _). HasForm (object_by init next x) form f) same has
+
+-- a caller is back by the object of a kind that is the script's
+pub back_by_kind : {P T : Type 0} (kind own : Kind) → kind ≡ own → (meaning : P → ℕ → ℕ → Meaning) (rows : Rows P) (is_own : T → Type 0) (caller made cap : T → ℕ) (told : T → Option (List (ℕ × ℕ))) (plan : Plan)
+    (allotments : List ℕ) (bench : Bench P) (passes : List T) (i : ℕ) → IsBackOf (object_of_kind kind) meaning rows is_own caller made cap told plan allotments bench passes i
+    → IsBackOf (object_of_kind own) meaning rows is_own caller made cap told plan allotments bench passes i
+back_by_kind kind own same meaning rows is_own caller made cap told plan allotments bench passes i back =
+    subst (λ (k : Kind). IsBackOf (object_of_kind k) meaning rows is_own caller made cap told plan allotments bench passes i) same back

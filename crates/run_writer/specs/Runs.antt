@@ -8,6 +8,7 @@ use Rattle.book_text.specs.Grammar as books
 use Rattle.call_lines.specs.Lines.{any_error}
 use Rattle.seq_objects.specs.declared.kind.Kind.{Kind}
 use Rattle.seq_objects.specs.Objects.{kind_init, kind_next}
+use Rattle.call_phases.specs.Ends.{Sequential}
 use Rattle.reports.specs.declared.counts.Counts.{Counts}
 use Rattle.reports.specs.Findings.{Findings, IsWitness}
 use Rattle.reports.specs.Grammar as reports
@@ -32,41 +33,54 @@ abbrev pub counts_text : Counts → List ℕ
 counts_text counts =
     codes "calls " ++ decimal counts.calls ++ codes " delivered " ++ decimal counts.delivered ++ codes " errors " ++ decimal counts.errors ++ codes "\n"
 
--- What a form writes of a report.
-abbrev pub IsWritten : Form → Findings → List ℕ → Type 0
-IsWritten Report report text = (shown : List ℕ) × (rest : List ℕ) × reports.IsWrittenText shown report × IsWitnessText report rest × (text ≡ shown ++ rest)
-IsWritten Numbers report text = text ≡ counts_text (counts_of report.lines)
-IsWritten Certificate report text = IsCertificate (kind_init report.kind) (kind_next report.kind) report text
+-- A sequential object of some type, by how that begins and goes on; that of a kind is one of them.
+abbrev pub object_by : {S : Type 0} → (S → List ℕ) → (S → List ℕ → ℕ → List ℕ × ℕ) → S → Sequential
+object_by init next sequential = record { init = init sequential; next = next sequential }
+
+abbrev pub object_of_kind : Kind → Sequential
+object_of_kind kind = object_by kind_init kind_next kind
+
+-- What a form writes of a report whose lines are judged by a sequential object.
+abbrev pub IsWritten : Sequential → Form → Findings → List ℕ → Type 0
+IsWritten object Report report text = (shown : List ℕ) × (rest : List ℕ) × reports.IsWrittenText shown report × IsWitnessText report rest × (text ≡ shown ++ rest)
+IsWritten object Numbers report text = text ≡ counts_text (counts_of report.lines)
+IsWritten object Certificate report text = IsCertificate object.init object.next report text
 
 -- A report has a form: a certificate wants a legal order of what was delivered, as every lawful report has.
-abbrev pub HasForm : Form → Findings → Type 0
-HasForm Report report = Unit {0}
-HasForm Numbers report = Unit {0}
-HasForm Certificate report = HasDeliveredOrder (kind_init report.kind) (kind_next report.kind) report.lines
+abbrev pub HasForm : Sequential → Form → Findings → Type 0
+HasForm object Report report = Unit {0}
+HasForm object Numbers report = Unit {0}
+HasForm object Certificate report = HasDeliveredOrder object.init object.next report.lines
 
 -- the status that comes with a report: whether a line of it is an error
 abbrev pub status_of : Findings → Status
 status_of report = if list_any any_error report.lines then Found else Fine
 
--- The output of a run with one of these reports: a status and a text.
-abbrev pub IsRunOutput : (Findings → Type 0) → Form → Status → List ℕ → Type 0
-IsRunOutput IsReportOf form status text = (report : Findings) × IsReportOf report × IsWritten form report text × (status ≡ status_of report)
+-- The output of a run with one of these reports, whose lines are judged by a sequential object: a status and a text.
+abbrev pub IsRunOutput : Sequential → (Findings → Type 0) → Form → Status → List ℕ → Type 0
+IsRunOutput object IsReportOf form status text = (report : Findings) × IsReportOf report × IsWritten object form report text × (status ≡ status_of report)
 
 -- A call that writes what a form shows of a run with one of these reports has ended with a status: what it wrote, after the bytes
 -- that the sink had taken.
-abbrev pub RunEnds : (Findings → Type 0) → Form → Status → Option (List ℕ) → Option (List ℕ) → Type 0
-RunEnds IsReportOf form status taken taken' = EndsWriting (IsRunOutput IsReportOf form) status taken taken'
+abbrev pub RunEnds : Sequential → (Findings → Type 0) → Form → Status → Option (List ℕ) → Option (List ℕ) → Type 0
+RunEnds object IsReportOf form status taken taken' = EndsWriting (IsRunOutput object IsReportOf form) status taken taken'
 
 -- A form but the certificate writes one text of a report.
 abbrev pub FormsWriteOneText : Type 0
-FormsWriteOneText = (form : Form) (report : Findings) (a b : List ℕ) → form ≢ Certificate → IsWritten form report a → IsWritten form report b → a ≡ b
+FormsWriteOneText = (object : Sequential) (form : Form) (report : Findings) (a b : List ℕ)
+    → form ≢ Certificate → IsWritten object form report a → IsWritten object form report b → a ≡ b
 
--- Whoever reads a certificate reads a legal order of its book, for the kind that it names.
+-- Whoever reads a certificate reads the report's kind, and an order of its book that is legal for the object.
 abbrev pub CertificatesAreLegal : Type 0
-CertificatesAreLegal = (report : Findings) (text : List ℕ) (kind : Kind) (book : List Page) (order : List Place)
-    → IsWritten Certificate report text → IsCertificateText text kind book order → IsLegalOrder (kind_init kind) (kind_next kind) book order
+CertificatesAreLegal = (object : Sequential) (report : Findings) (text : List ℕ) (kind : Kind) (book : List Page) (order : List Place)
+    → IsWritten object Certificate report text → IsCertificateText text kind book order → (kind ≡ report.kind) × IsLegalOrder object.init object.next book order
+
+-- Where that is the object of the report's kind, the order is legal for the kind that the certificate names.
+abbrev pub CertificatesAreOfTheirKind : Type 0
+CertificatesAreOfTheirKind = (report : Findings) (text : List ℕ) (kind : Kind) (book : List Page) (order : List Place)
+    → IsWritten (object_of_kind report.kind) Certificate report text → IsCertificateText text kind book order → IsLegalOrder (kind_init kind) (kind_next kind) book order
 
 -- Certificates of a report may differ in their orders alone: whoever reads two of them reads one kind and one book.
 abbrev pub CertificatesTellOneBook : Type 0
-CertificatesTellOneBook = (report : Findings) (a b : List ℕ) (k l : Kind) (p q : List Page) (order other : List Place)
-    → IsWritten Certificate report a → IsWritten Certificate report b → IsCertificateText a k p order → IsCertificateText b l q other → (k ≡ l) × (p ≡ q)
+CertificatesTellOneBook = (object : Sequential) (report : Findings) (a b : List ℕ) (k l : Kind) (p q : List Page) (order other : List Place)
+    → IsWritten object Certificate report a → IsWritten object Certificate report b → IsCertificateText a k p order → IsCertificateText b l q other → (k ≡ l) × (p ≡ q)

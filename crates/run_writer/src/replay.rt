@@ -5,12 +5,11 @@ ghost use Rattle.std.specs.List.{list_any};
 ghost use Rattle.call_lines.specs.Lines.{any_error};
 ghost use Rattle.row_table.specs.Callers.{IsBenchOf, HoldsAll};
 ghost use Rattle.bench_clients.specs.Places.{AreInOrder};
-ghost use Rattle.bench_clients.specs.Starts.{AreRowsFor, IsUnused};
 ghost use Rattle.run_report.specs.Passes.{IsOwnPass, IsUnusedPass};
 ghost use Rattle.reports.specs.Findings.{Findings};
-ghost use Rattle.byte_streams.specs.Fault.{Rose};
-ghost use Rattle.run_writer.specs.Runs.{RunEnds};
-ghost use Rattle.run_writer.specs.Running.{replay_allotments, IsBackOf, IsBenchReport, IsToldBenchReport};
+ghost use Rattle.byte_streams.specs.Fault.{LeavesSink};
+ghost use Rattle.run_writer.specs.Runs.{RunEnds, object_of_kind};
+ghost use Rattle.run_writer.specs.Running.{replay_allotments, MayBegin, IsBackOf, IsBenchReport, IsToldBenchReport};
 
 use crate::form::Form;
 use crate::report_output::write_report;
@@ -38,9 +37,7 @@ pub fn replay_and_write<B: BlackBox, K: Sink>(
     form: Form,
     sink: &mut K,
 ) -> Status
-    requires rows { AreRowsFor script.now rows.now }
-    requires bench { IsBenchOf ⟦<Outside as Program>⟧.meaning rows.now bench.old }
-    requires unused { (i : ℕ) → i < length script.now.operations → IsUnused bench.old i }
+    requires begins { MayBegin ⟦<Outside as Program>⟧.meaning script.now rows.now bench.old }
     requires all_passes { vec_len passes.old ≡ length script.now.operations }
     requires passes { AreInOrder (IsUnusedPass (B.is_own object.now) B.Pass.caller B.Pass.made
         B.Pass.cap script.now.operations) passes.old.items }
@@ -50,37 +47,34 @@ pub fn replay_and_write<B: BlackBox, K: Sink>(
     ensures all_passes { vec_len passes.new ≡ length script.now.operations }
     ensures passes { AreInOrder (IsOwnPass (B.is_own object.now) B.Pass.caller) passes.new.items }
     ensures back { (i : ℕ) → i < length script.now.operations
-        → IsBackOf ⟦<Outside as Program>⟧.meaning rows.now (B.is_own object.now)
-        B.Pass.caller B.Pass.made B.Pass.cap B.Pass.told script.now
+        → IsBackOf (object_of_kind script.now.kind) ⟦<Outside as Program>⟧.meaning rows.now
+        (B.is_own object.now) B.Pass.caller B.Pass.made B.Pass.cap B.Pass.told script.now
         (replay_allotments script.now) bench.new passes.new.items i }
 
     // The headline: what was written, by the status, is of a lawful report of the locals on the bench.
-    ensures ends { RunEnds
-        (IsToldBenchReport ⟦<Outside as Program>⟧.meaning rows.now bench.new
+    ensures ends { RunEnds (object_of_kind script.now.kind)
+        (IsToldBenchReport (object_of_kind script.now.kind) ⟦<Outside as Program>⟧.meaning rows.now bench.new
         B.Pass.made B.Pass.told passes.new.items script.now (replay_allotments script.now))
         form result (K.taken sink.old) (K.taken sink.new) }
 
     // Whether a line of that report is an error decides the status, failed writes and want of memory aside.
     ensures found { (report : Findings)
-        → IsBenchReport ⟦<Outside as Program>⟧.meaning rows.now bench.new script.now
-        (replay_allotments script.now) report
+        → IsBenchReport (object_of_kind script.now.kind) ⟦<Outside as Program>⟧.meaning rows.now
+        bench.new script.now (replay_allotments script.now) report
         → list_any any_error report.lines ≡ true
         → (result ≡ Status.Found) ⊎ (result ≡ Status.WriteFault) ⊎ (result ≡ Status.NoMemory) }
     ensures fine { (report : Findings)
-        → IsBenchReport ⟦<Outside as Program>⟧.meaning rows.now bench.new script.now
-        (replay_allotments script.now) report
+        → IsBenchReport (object_of_kind script.now.kind) ⟦<Outside as Program>⟧.meaning rows.now
+        bench.new script.now (replay_allotments script.now) report
         → list_any any_error report.lines ≡ false
         → (result ≡ Status.Fine) ⊎ (result ≡ Status.WriteFault) ⊎ (result ≡ Status.NoMemory) }
 
     // A fault has its cause in a count that rose in this call, and every other answer comes where none rose.
-    ensures fault { result ≡ Status.WriteFault → Rose (K.faults sink.old) (K.faults sink.new) }
-    ensures calm { ¬ (result ≡ Status.WriteFault) → K.faults sink.new ≡ K.faults sink.old }
-    ensures unwritten { result ≡ Status.NoMemory → sink.new ≡ sink.old }
-    ensures later { K.faults sink.old ≤ K.faults sink.new }
+    ensures faults { LeavesSink K.faults result sink.old sink.new }
 {
     let kind = script.kind();
     match replay_over(alloc, rows, bench, &kind, object, passes, script) {
-        Ok(report) => write_report(alloc, form, &report, sink),
+        Ok(report) => write_report(alloc, form, &kind, &report, sink),
         Err(NoMemory) => Status::NoMemory,
     }
 }

@@ -3,11 +3,11 @@
 ghost use Rattle.std.specs.Prelude.{◌≡◌, ◌⊎◌, ◌≤◌, ◌++◌, ℕ, List, true, false, IfOk, OnOk};
 ghost use Rattle.std.specs.List.{list_any};
 ghost use Rattle.call_lines.specs.Lines.{any_error};
-ghost use Rattle.byte_streams.specs.Fault.{Rose};
-ghost use Rattle.run_writer.specs.Runs.{IsWitnessText, IsWritten, HasForm, IsRunOutput, RunEnds, counts_text, status_of};
+ghost use Rattle.byte_streams.specs.Fault.{LeavesSink};
+ghost use Rattle.run_writer.specs.Runs.{IsWitnessText, IsWritten, HasForm, IsRunOutput, RunEnds, counts_text, object_by, status_of};
 
 use crate::form::Form;
-use book_base::NoMemory;
+use book_base::{NoMemory, SeqObject};
 use book_writer::write_book;
 use byte_streams::{Sink, Status, write_text};
 use report_certificates::report_certificate;
@@ -16,14 +16,20 @@ use reports::{Counts, Report};
 use seq_objects::put_number;
 use std::alloc::Global;
 
-/// Writes what a form shows of a report, which every lawful report has. All of it is built before
-/// its first byte is written.
-pub fn write_report<K: Sink>(alloc: Global, form: Form, report: &Report, sink: &mut K) -> Status
-    requires form { HasForm form report.now }
+/// Writes what a form shows of a report that was judged by a sequential object, which every lawful
+/// report has. All of it is built before its first byte is written.
+pub fn write_report<S: SeqObject, K: Sink>(
+    alloc: Global,
+    form: Form,
+    sequential: &S,
+    report: &Report,
+    sink: &mut K,
+) -> Status
+    requires form { HasForm (object_by S.init S.next sequential.now) form report.now }
 
     // What was written, by the status.
-    ensures ends { RunEnds (λ other. other ≡ report.now) form result
-        (K.taken sink.old) (K.taken sink.new) }
+    ensures ends { RunEnds (object_by S.init S.next sequential.now)
+        (λ other. other ≡ report.now) form result (K.taken sink.old) (K.taken sink.new) }
 
     // Whether a line is an error decides the status, failed writes and want of memory aside.
     ensures found { list_any any_error report.now.lines ≡ true →
@@ -32,12 +38,9 @@ pub fn write_report<K: Sink>(alloc: Global, form: Form, report: &Report, sink: &
         (result ≡ Status.Fine) ⊎ (result ≡ Status.WriteFault) ⊎ (result ≡ Status.NoMemory) }
 
     // A fault has its cause in a count that rose in this call, and every other answer comes where none rose.
-    ensures fault { result ≡ Status.WriteFault → Rose (K.faults sink.old) (K.faults sink.new) }
-    ensures calm { ¬ (result ≡ Status.WriteFault) → K.faults sink.new ≡ K.faults sink.old }
-    ensures unwritten { result ≡ Status.NoMemory → sink.new ≡ sink.old }
-    ensures later { K.faults sink.old ≤ K.faults sink.new }
+    ensures faults { LeavesSink K.faults result sink.old sink.new }
 {
-    match shown(alloc, form, report) {
+    match shown(alloc, form, sequential, report) {
         Ok(text) => write_text(sink, status_of(report), &text),
         Err(NoMemory) => Status::NoMemory,
     }
@@ -55,9 +58,15 @@ fn status_of(report: &Report) -> Status
 }
 
 /// What a form shows of a report.
-fn shown(alloc: Global, form: Form, report: &Report) -> Result<Vec<u8>, NoMemory>
-    requires { HasForm form report.now }
-    ensures { IfOk result (λ text. IsWritten form report.now text.items) }
+fn shown<S: SeqObject>(
+    alloc: Global,
+    form: Form,
+    sequential: &S,
+    report: &Report,
+) -> Result<Vec<u8>, NoMemory>
+    requires { HasForm (object_by S.init S.next sequential.now) form report.now }
+    ensures { IfOk result (λ text.
+        IsWritten (object_by S.init S.next sequential.now) form report.now text.items) }
 {
     match form {
         Form::Report => {
@@ -66,7 +75,7 @@ fn shown(alloc: Global, form: Form, report: &Report) -> Result<Vec<u8>, NoMemory
             Ok(text)
         }
         Form::Counts => counts_text(alloc, report.counts()),
-        Form::Certificate => certificate(alloc, report),
+        Form::Certificate => certificate(alloc, sequential, report),
     }
 }
 
@@ -83,11 +92,16 @@ fn put_witness(alloc: Global, text: &mut Vec<u8>, report: &Report) -> Result<(),
 }
 
 /// A certificate of a report that has one.
-fn certificate(alloc: Global, report: &Report) -> Result<Vec<u8>, NoMemory>
-    requires { HasForm Form.Certificate report.now }
-    ensures { IfOk result (λ text. IsWritten Form.Certificate report.now text.items) }
+fn certificate<S: SeqObject>(
+    alloc: Global,
+    sequential: &S,
+    report: &Report,
+) -> Result<Vec<u8>, NoMemory>
+    requires { HasForm (object_by S.init S.next sequential.now) Form.Certificate report.now }
+    ensures { IfOk result (λ text.
+        IsWritten (object_by S.init S.next sequential.now) Form.Certificate report.now text.items) }
 {
-    match report_certificate(alloc, &report.kind(), report)? {
+    match report_certificate(alloc, sequential, report)? {
         Some(text) => Ok(text),
         None => unreachable!(),
     }

@@ -1,0 +1,79 @@
+//! Whole runs of a script over an object inside the world, and what is written of them.
+
+ghost use Rattle.std.specs.Prelude.{◌≡◌, ◌⊎◌, ◌<◌, ℕ, None, length, vec_len};
+ghost use Rattle.row_table.specs.Callers.{IsBenchOf, HoldsAll};
+ghost use Rattle.core_objects.specs.CoreObjects.{AreOpenedWith, ArePassesFor};
+ghost use Rattle.bench_clients.specs.Starts.{course_of};
+ghost use Rattle.bench_clients.specs.Returns.{IsBackOn};
+ghost use Rattle.core_runs.specs.Inside.{fits_inside};
+ghost use Rattle.byte_streams.specs.Fault.{LeavesSink};
+ghost use Rattle.run_writer.specs.Runs.{RunEnds, object_by};
+ghost use Rattle.run_writer.specs.Running.{run_allotments, MayBegin, IsCoreReport};
+
+use crate::form::Form;
+use crate::report_output::write_report;
+use book_base::NoMemory;
+use byte_streams::{Sink, Status};
+use client_scripts::Script;
+use core_objects::CoreObject;
+use core_runs::run_core;
+use row_table::{Bench, Rows};
+use std::alloc::Global;
+use std::thread::Threads;
+
+/// Runs all callers of a script over an object inside the world, each in a thread of its own where
+/// one can be had, and writes what the form shows of their report, which is lawful and has no error
+/// line: every run of the object's program is linearizable (Herlihy and Wing 1990), and no such run
+/// leaves published records without a legal order (Castañeda and Rodríguez 2023). So the answer is
+/// never that an error was found.
+///
+/// The rows were opened with the object's program. The bench holds all callers, unused, and each has
+/// its pass of the object, which fits it; afterwards the bench holds them all again, and each pass
+/// fits the object steps that its caller has made, whatever the answer.
+pub fn core_and_write<R: Threads + Sync, O: CoreObject + Sync, K: Sink>(
+    rt: &R,
+    alloc: Global,
+    rows: &Rows<O::P>,
+    bench: &mut Bench<O::P>,
+    object: &O,
+    passes: &mut Vec<O::Pass>,
+    script: &Script,
+    form: Form,
+    sink: &mut K,
+) -> Status
+where
+    O::S: Sync,
+    O::P: Send + Sync,
+    O::Pass: Send,
+    requires program { AreOpenedWith O.P.meaning (O.program_of object.now) rows.now }
+    requires begins { MayBegin O.P.meaning script.now rows.now bench.old }
+    requires passes { ArePassesFor O.fits rows.now.callers rows.now.cap passes.old.items }
+
+    // What stands afterwards, whatever the answer.
+    ensures bench { IsBenchOf O.P.meaning rows.now bench.new × HoldsAll bench.new }
+    ensures all_passes { vec_len passes.new ≡ length script.now.operations }
+    ensures back { (i : ℕ) → i < length script.now.operations
+        → IsBackOn O.P.meaning rows.now (fits_inside O.fits) (λ pass. None)
+        (course_of script.now (run_allotments script.now)
+        (object_by O.S.init O.S.next (O.sequential_of object.now))) bench.new passes.new.items i }
+
+    // The headline: what was written, by the status, is of a lawful report of the locals on the
+    // bench, which has no error line.
+    ensures ends { RunEnds (object_by O.S.init O.S.next (O.sequential_of object.now))
+        (IsCoreReport (object_by O.S.init O.S.next (O.sequential_of object.now)) O.P.meaning
+        rows.now bench.new script.now (run_allotments script.now))
+        form result (K.taken sink.old) (K.taken sink.new) }
+
+    // So no error is found, and all is fine, failed writes and want of memory aside.
+    ensures right { ¬ (result ≡ Status.Found) }
+    ensures fine { (result ≡ Status.Fine) ⊎ (result ≡ Status.WriteFault) ⊎ (result ≡ Status.NoMemory) }
+
+    // A fault has its cause in a count that rose in this call, and every other answer comes where
+    // none rose.
+    ensures faults { LeavesSink K.faults result sink.old sink.new }
+{
+    match run_core(rt, alloc, rows, bench, object, passes, script) {
+        Ok(report) => write_report(alloc, form, object.sequential(), &report, sink),
+        Err(NoMemory) => Status::NoMemory,
+    }
+}
