@@ -1,5 +1,5 @@
 -- Runs that open the table of rows themselves.
-use Rattle.std.proofs.Common.{◌≡◌, ℕ, zero, suc, ◌≤◌, List, [], ◌∷◌, Option, Some, length, get_or, refl, sym, subst, arith}
+use Rattle.std.proofs.Common.{◌≡◌, ◌∙◌, ℕ, zero, suc, ◌<◌, ◌≤◌, List, [], ◌∷◌, Option, Some, length, get_or, refl, sym, subst, arith}
 use Rattle.world_core.specs.Shape.{Shape, Meaning}
 use Rattle.world_core.specs.Programs.{outside}
 use Rattle.world_core.specs.Local.{fresh}
@@ -10,7 +10,7 @@ use Rattle.text_fields.specs.declared.version.Version.TheVariants.{Second}
 use Rattle.client_scripts.specs.Plans.{Plan, IsPlan, sizes}
 use Rattle.seq_objects.specs.Objects.{kind_init, kind_next}
 use Rattle.row_table.specs.Benches.{fresh_stance}
-use Rattle.row_table.specs.Callers.{shape_of, on_bench, stance_on}
+use Rattle.row_table.specs.Callers.{shape_of, locals_on, on_bench, stance_on, IsBenchOf}
 use Rattle.row_table.specs.declared.rows.Rows.{Rows}
 use Rattle.row_table.specs.declared.bench.Bench.{Bench}
 use Rattle.bench_clients.specs.Places.{AreInOrder}
@@ -19,9 +19,13 @@ use Rattle.reports.specs.Findings.{Findings}
 use Rattle.run_report.specs.Passes.{IsOwnPass, IsUnusedPass}
 use Rattle.run_writer.specs.declared.form.Form.{Form}
 use Rattle.byte_streams.specs.declared.status.Status.{Status}
-use Rattle.run_writer.specs.Running.{IsToldBenchReport}
-use Rattle.run_writer.specs.Runs.{RunEnds, IsRunOutput}
-use Rattle.named_runs.specs.BehaviourRuns.{outside_shape, IsToldReport}
+use Rattle.core_objects.specs.CoreObjects.{shape_with}
+use Rattle.run_report.specs.Reporting.{IsReportOf}
+use Rattle.run_writer.specs.Running.{run_allotments, MayBegin, IsToldBenchReport, IsCoreReport}
+use Rattle.call_phases.specs.Ends.{Sequential}
+use Rattle.run_writer.specs.Runs.{RunEnds, IsRunOutput, object_of_kind}
+use Rattle.named_runs.specs.Worlds.{outside_shape}
+use Rattle.named_runs.specs.BehaviourRuns.{IsToldReport, IsInsideReport}
 use Rattle.byte_streams.proofs.WritingLemmas.{EndsWriting-weaker}
 
 -- a caller has at most so many calls where all have
@@ -32,13 +36,22 @@ calls_within most (own ∷ operations) (suc i) h = calls_within most operations 
 
 module _ {P : Type 0} where
   -- rows with the greatest cap are wide enough
-  pub wide_rows : (plan : Plan) (r : Rows P) → r.callers ≡ length plan.operations → r.cap ≡ 256 → IsPlan Second plan → AreRowsFor plan r
+  wide_rows : (plan : Plan) (r : Rows P) → r.callers ≡ length plan.operations → r.cap ≡ 256 → IsPlan Second plan → AreRowsFor plan r
   wide_rows plan r callers cap h =
       record { callers = callers; cap = λ i. subst (λ (n : ℕ). length (operations_at plan.operations i) ≤ n) (sym cap) (calls_within 256 plan.operations i h.calls) }
 
   -- a caller that is on the bench as it was opened is unused
-  pub opened_unused : (b : Bench P) (i : ℕ) → (on_bench b i ≡ Some fresh) × (stance_on b i ≡ Some fresh_stance) → IsUnused b i
+  opened_unused : (b : Bench P) (i : ℕ) → (on_bench b i ≡ Some fresh) × (stance_on b i ≡ Some fresh_stance) → IsUnused b i
   opened_unused b i h = record { local = fresh; here = h.0; stance = h.1; idle = record { announcing = refl; unstaged = refl }; none = refl }
+
+-- a run may begin on rows that were opened for a plan with the greatest cap, with their bench
+pub may_begin : {P : Type 0} (meaning : P → ℕ → ℕ → Meaning) (plan : Plan) (n : ℕ) (r : Rows P) (b : Bench P) → n ≡ length plan.operations → IsPlan Second plan → r.callers ≡ n → r.cap ≡ 256 → IsBenchOf meaning r b
+    → ((i : ℕ) → i < n → (on_bench b i ≡ Some fresh) × (stance_on b i ≡ Some fresh_stance)) → MayBegin meaning plan r b
+may_begin meaning plan n r b all is callers cap of opened = record {
+  rows_for = wide_rows plan r (callers ∙ all) cap is;
+  bench_of = of;
+  unused = λ i low. opened_unused b i (opened i (omega (arith, low, all)));
+}
 
 -- unused passes are own
 pub unused_own : {T : Type 0} (is_own : T → Type 0) (caller made cap : T → ℕ) (operations : List (List ℕ)) (passes : List T)
@@ -52,23 +65,40 @@ pub outside_shapes : (callers cap n : ℕ) → callers ≡ n → cap ≡ 256 →
 outside_shapes callers cap n all most = λ i. record { callers = all i; cap = most i; program = outside }
 
 -- a run with one of some reports is a run with one of any reports that have them among them
-pub RunEnds-weaker : (A B : Findings → Type 0) (form : Form) (result : Status) (taken taken' : Option (List ℕ)) → ((report : Findings) → A report → B report)
-    → RunEnds A form result taken taken' → RunEnds B form result taken taken'
-RunEnds-weaker A B form result taken taken' weaker ends =
-    EndsWriting-weaker (IsRunOutput A form) (IsRunOutput B form) result taken taken'
+pub RunEnds-weaker : (object : Sequential) (A B : Findings → Type 0) (form : Form) (result : Status) (taken taken' : Option (List ℕ)) → ((report : Findings) → A report → B report)
+    → RunEnds object A form result taken taken' → RunEnds object B form result taken taken'
+RunEnds-weaker object A B form result taken taken' weaker ends =
+    EndsWriting-weaker (IsRunOutput object A form) (IsRunOutput object B form) result taken taken'
     (λ status text output. (output.0, weaker output.0 output.1, output.2, output.3)) ends
 
 -- what is written of a run over rows that were opened for it is of a lawful report
 pub fresh_ends : {P T : Type 0} (meaning : P → ℕ → ℕ → Meaning) (rows : Rows P) (bench : Bench P) (made : T → ℕ) (told : T → Option (List (ℕ × ℕ))) (passes : List T) (plan : Plan) (allotments : List ℕ)
     (form : Form) (result : Status) (taken taken' : Option (List ℕ)) → shape_of meaning rows ≡ outside_shape (length plan.operations)
-    → RunEnds (IsToldBenchReport meaning rows bench made told passes plan allotments) form result taken taken' → RunEnds (IsToldReport made told passes plan allotments) form result taken taken'
+    → RunEnds (object_of_kind plan.kind) (IsToldBenchReport (object_of_kind plan.kind) meaning rows bench made told passes plan allotments) form result taken taken'
+    → RunEnds (object_of_kind plan.kind) (IsToldReport made told passes plan allotments) form result taken taken'
 fresh_ends meaning rows bench made told passes plan allotments form result taken taken' shape ends =
-    RunEnds-weaker _ _ form result taken taken'
+    RunEnds-weaker _ _ _ form result taken taken'
     (λ findings is. record {
       report = record {
         kind = is.report.kind;
         lawful = subst (λ (s : Shape). IsLawful (kind_init plan.kind) (kind_next plan.kind) s plan.operations allotments findings.lines) shape is.report.lawful;
       };
       told_in = is.told_in;
+    })
+    ends
+
+-- what is written of a run over rows that were opened for it, with the program of an object inside the world, is of a report of its world
+pub inside_fresh_ends : {P : Type 0} (object : Sequential) (meaning : P → ℕ → ℕ → Meaning) (program : P) (rows : Rows P) (bench : Bench P) (plan : Plan) (form : Form) (result : Status) (taken taken' : Option (List ℕ))
+    → rows.program ≡ program → rows.callers ≡ length plan.operations → rows.cap ≡ 256
+    → RunEnds object (IsCoreReport object meaning rows bench plan (run_allotments plan)) form result taken taken'
+    → RunEnds object (IsInsideReport object (shape_with (meaning program) (length plan.operations) 256) plan (run_allotments plan)) form result taken taken'
+inside_fresh_ends object meaning program rows bench plan form result taken taken' same all most ends =
+    let shape : ◌≡◌ {A = Shape} (shape_of meaning rows) (shape_with (meaning program) (length plan.operations) 256) =
+    λ i. record { callers = all i; cap = most i; program = meaning (same i) (all i) (most i) } in
+    RunEnds-weaker _ _ _ form result taken taken'
+    (λ findings is. record {
+      locals = locals_on bench;
+      report = subst (λ (s : Shape). IsReportOf object.init object.next s (locals_on bench) plan (run_allotments plan) findings) shape is.report;
+      no_error = is.no_error;
     })
     ends

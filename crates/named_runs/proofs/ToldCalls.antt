@@ -6,6 +6,8 @@ use Rattle.std.proofs.lemmas.List.Elements.{All-take}
 use Rattle.std.proofs.lemmas.Option.{slice_get_cases}
 use Rattle.shared_log.specs.declared.entry.Entry.{Entry}
 use Rattle.world_core.specs.Calls.{Made}
+use Rattle.world_core.specs.Shape.{Shape}
+use Rattle.call_phases.specs.Ends.{Sequential}
 use Rattle.call_lines.specs.Phases.{IsTold, answered}
 use Rattle.seq_objects.specs.declared.kind.Kind.{Kind}
 use Rattle.client_scripts.specs.Plans.{Plan}
@@ -17,7 +19,9 @@ use Rattle.run_writer.specs.declared.form.Form.{Form}
 use Rattle.byte_streams.specs.declared.status.Status.{Status}
 use Rattle.run_writer.specs.Runs.{RunEnds}
 use Rattle.logged_calls.specs.Logged.{IsLoggedBy, AreFormed}
-use Rattle.named_runs.specs.NamedObjects.{calls_of_caller, phases_made, AreTold, TellsFormed, IsOfBehaviour}
+use Rattle.core_runs.specs.LoggedReports.{phases_in, calls_of_lines}
+use Rattle.named_runs.specs.NamedObjects.{AreTold, TellsFormed}
+use Rattle.named_runs.specs.Worlds.{outside_shape}
 use Rattle.named_runs.specs.BehaviourRuns.{IsToldReport, IsExplainedReport, IsNamedReport}
 use Rattle.named_runs.proofs.FreshRuns.{RunEnds-weaker}
 use Rattle.named_runs.proofs.OpenedPasses.{passes_count, pass_at}
@@ -72,22 +76,23 @@ module _ {T : Type 0} (made : T → ℕ) (told : T → Option (List (ℕ × ℕ)
     (explains : Kind → ℕ → (ℕ → ℕ) → (ℕ → List Made) → Type 0) (n : ℕ) (all : n ≡ length plan.operations) (kind : Kind) (same : kind ≡ plan.kind)
     (closed : (phases : ℕ → ℕ) (calls : ℕ → List Made) → AreTold told phases calls passes → explains kind n phases calls) where
   -- an object explains the calls of a report in which its passes are told
-  explained_from_told : (findings : Findings) → IsToldReport made told passes plan allotments findings → IsExplainedReport explains plan allotments findings
+  explained_from_told : (findings : Findings) → IsToldReport made told passes plan allotments findings
+      → IsExplainedReport (outside_shape (length plan.operations)) explains plan allotments findings
   explained_from_told findings is = record {
     report = is.report;
     object =
-        subst (λ (k : Kind). explains k (length findings.lines) (phases_made allotments findings) (calls_of_caller findings)) same
-        (subst (λ (m : ℕ). explains kind m (phases_made allotments findings) (calls_of_caller findings)) (all ∙ sym is.report.lawful.callers)
-        (closed (phases_made allotments findings) (calls_of_caller findings) (λ i pass there. (is.told_in i pass there).told_is)));
+        subst (λ (k : Kind). explains k (length findings.lines) (phases_in allotments findings) (calls_of_lines findings)) same
+        (subst (λ (m : ℕ). explains kind m (phases_in allotments findings) (calls_of_lines findings)) (all ∙ sym is.report.lawful.callers)
+        (closed (phases_in allotments findings) (calls_of_lines findings) (λ i pass there. (is.told_in i pass there).told_is)));
   }
 
   -- so what is written of a run is of an explained report
-  pub explained_ends : (form : Form) (result : Status) (taken taken' : Option (List ℕ)) → RunEnds (IsToldReport made told passes plan allotments) form result taken taken'
-      → RunEnds (IsExplainedReport explains plan allotments) form result taken taken'
-  explained_ends form result taken taken' ends = RunEnds-weaker _ _ form result taken taken' explained_from_told ends
+  pub explained_ends : (object : Sequential) (form : Form) (result : Status) (taken taken' : Option (List ℕ)) → RunEnds object (IsToldReport made told passes plan allotments) form result taken taken'
+      → RunEnds object (IsExplainedReport (outside_shape (length plan.operations)) explains plan allotments) form result taken taken'
+  explained_ends object form result taken taken' ends = RunEnds-weaker _ _ _ form result taken taken' explained_from_told ends
 
 -- what is written of a run over an object is of a report of the behaviour that names it
-pub named_ends : (behaviour known : Behaviour) → behaviour ≡ known → (plan : Plan) (allotments : List ℕ) (form : Form) (result : Status) (taken taken' : Option (List ℕ))
-    → RunEnds (IsNamedReport known plan allotments) form result taken taken' → RunEnds (IsNamedReport behaviour plan allotments) form result taken taken'
-named_ends behaviour known is plan allotments form result taken taken' ends =
-    subst (λ (b : Behaviour). RunEnds (IsNamedReport b plan allotments) form result taken taken') (sym is) ends
+pub named_ends : (behaviour known : Behaviour) → behaviour ≡ known → (s : Shape) (plan : Plan) (allotments : List ℕ) (object : Sequential) (form : Form) (result : Status) (taken taken' : Option (List ℕ))
+    → RunEnds object (IsNamedReport s known plan allotments) form result taken taken' → RunEnds object (IsNamedReport s behaviour plan allotments) form result taken taken'
+named_ends behaviour known is s plan allotments object form result taken taken' ends =
+    subst (λ (b : Behaviour). RunEnds object (IsNamedReport s b plan allotments) form result taken taken') (sym is) ends

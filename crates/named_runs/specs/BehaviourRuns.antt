@@ -1,47 +1,57 @@
 -- What a run reports that opens the table of rows itself.
-use Rattle.std.specs.Prelude.{◌≡◌, ℕ, List, Option, length}
-use Rattle.book_base.specs.declared.TheConstants.{MAX_CALLS}
+use Rattle.std.specs.Prelude.{◌≡◌, ℕ, false, List, Option, IsSome, length}
+use Rattle.std.specs.List.{list_any}
 use Rattle.seq_objects.specs.declared.kind.Kind.{Kind}
 use Rattle.seq_objects.specs.Objects.{kind_init, kind_next}
 use Rattle.world_core.specs.Calls.{Made}
+use Rattle.world_core.specs.Local.{Local}
 use Rattle.world_core.specs.Shape.{Shape}
-use Rattle.world_core.specs.Programs.{outside}
 use Rattle.call_lines.specs.Lawful.{IsLawful}
+use Rattle.call_lines.specs.Lines.{any_error}
 use Rattle.client_scripts.specs.Plans.{Plan}
+use Rattle.call_phases.specs.Ends.{Sequential}
 use Rattle.bench_clients.specs.Places.{AreInOrder}
 use Rattle.reports.specs.Findings.{Findings}
-use Rattle.run_report.specs.Reporting.{IsToldIn}
+use Rattle.run_report.specs.Reporting.{IsReportOf, IsToldIn}
 use Rattle.faulty_objects.specs.declared.behaviour.Behaviour.{Behaviour}
 use Rattle.run_writer.specs.Running.{run_allotments, replay_allotments}
-use Rattle.named_runs.specs.NamedObjects.{calls_of_caller, phases_made, IsOfBehaviour}
+use Rattle.core_runs.specs.LoggedReports.{phases_in, calls_of_lines}
+use Rattle.named_runs.specs.NamedObjects.{IsOfBehaviour}
+use Rattle.named_runs.specs.Worlds.{inside_of, outside_shape, world_of}
 
--- The shape of the world of n callers with the greatest cap, whose object is outside.
-abbrev pub outside_shape : ℕ → Shape
-outside_shape n = record { callers = n; cap = MAX_CALLS; program = outside }
-
--- A report of a plan's callers that had these allotments: of the plan's kind, and lawful by the object of that kind.
-pub record IsLawfulReport (plan : Plan) (allotments : List ℕ) (findings : Findings) : Type 0 where
+-- A report of a plan's callers in a world of this shape that had these allotments: of the plan's kind, and lawful by the object of that
+-- kind.
+pub record IsLawfulReport (s : Shape) (plan : Plan) (allotments : List ℕ) (findings : Findings) : Type 0 where
   pub kind : findings.kind ≡ plan.kind
-  pub lawful : IsLawful (kind_init plan.kind) (kind_next plan.kind) (outside_shape (length plan.operations)) plan.operations allotments findings.lines
+  pub lawful : IsLawful (kind_init plan.kind) (kind_next plan.kind) s plan.operations allotments findings.lines
 
--- So it is, and these passes, in order, are told in it.
+-- The report of a run over an object outside the world, and these passes, in order, are told in it.
 pub record IsToldReport {T : Type 0} (made : T → ℕ) (told : T → Option (List (ℕ × ℕ))) (passes : List T) (plan : Plan) (allotments : List ℕ) (findings : Findings) : Type 0 where
-  pub report : IsLawfulReport plan allotments findings
+  pub report : IsLawfulReport (outside_shape (length plan.operations)) plan allotments findings
   pub told_in : AreInOrder (IsToldIn made told allotments findings) passes
 
--- So it is, and its calls were answered as this says of the calls of callers, of a script of this kind.
-pub record IsExplainedReport (explains : Kind → ℕ → (ℕ → ℕ) → (ℕ → List Made) → Type 0) (plan : Plan) (allotments : List ℕ) (findings : Findings) : Type 0 where
-  pub report : IsLawfulReport plan allotments findings
-  pub object : explains plan.kind (length findings.lines) (phases_made allotments findings) (calls_of_caller findings)
+-- The report of a run over an object inside the world, by which its lines are judged: of the locals of the callers in a world of this
+-- shape, and without an error line.
+pub record IsInsideReport (object : Sequential) (s : Shape) (plan : Plan) (allotments : List ℕ) (findings : Findings) : Type 0 where
+  pub locals : List Local
+  pub report : IsReportOf object.init object.next s locals plan allotments findings
+  pub no_error : list_any any_error findings.lines ≡ false
 
--- So it is, and the object of a behaviour answered its calls.
-abbrev pub IsNamedReport : Behaviour → Plan → List ℕ → Findings → Type 0
-IsNamedReport behaviour plan allotments findings = IsExplainedReport (IsOfBehaviour behaviour) plan allotments findings
+-- A lawful report of a world of this shape, whose calls were answered as this says of the calls of callers of a script of its kind.
+pub record IsExplainedReport (s : Shape) (explains : Kind → ℕ → (ℕ → ℕ) → (ℕ → List Made) → Type 0) (plan : Plan) (allotments : List ℕ) (findings : Findings) : Type 0 where
+  pub report : IsLawfulReport s plan allotments findings
+  pub object : explains plan.kind (length findings.lines) (phases_in allotments findings) (calls_of_lines findings)
 
--- A report of a plan's callers that each went on by themselves, over the object of a behaviour.
-abbrev pub IsNamedRunReport : Behaviour → Plan → Findings → Type 0
-IsNamedRunReport behaviour plan findings = IsNamedReport behaviour plan (run_allotments plan) findings
+-- A lawful report of a world of this shape, whose calls the object of a behaviour answered.
+abbrev pub IsNamedReport : Shape → Behaviour → Plan → List ℕ → Findings → Type 0
+IsNamedReport s behaviour plan allotments findings = IsExplainedReport s (IsOfBehaviour behaviour) plan allotments findings
 
--- A report of a plan's callers that took its turns, over the object of a behaviour.
+-- A report of a plan's callers that each went on by themselves, over the object of a behaviour: of the world of that object, and
+-- without an error line where that is inside the world.
+pub record IsNamedRunReport (behaviour : Behaviour) (plan : Plan) (findings : Findings) : Type 0 where
+  pub named : IsNamedReport (world_of behaviour plan.kind (length plan.operations)) behaviour plan (run_allotments plan) findings
+  pub no_error : IsSome (inside_of behaviour plan.kind) → list_any any_error findings.lines ≡ false
+
+-- A report of a plan's callers that took its turns, over the object of a behaviour, outside the world.
 abbrev pub IsNamedReplayReport : Behaviour → Plan → Findings → Type 0
-IsNamedReplayReport behaviour plan findings = IsNamedReport behaviour plan (replay_allotments plan) findings
+IsNamedReplayReport behaviour plan findings = IsNamedReport (outside_shape (length plan.operations)) behaviour plan (replay_allotments plan) findings

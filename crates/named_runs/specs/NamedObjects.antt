@@ -1,13 +1,10 @@
 -- Which object answered the calls of its callers.
-use Rattle.std.specs.Prelude.{◌≡◌, ℕ, List, Option, Some, IfSome, map, slice_index, All}
+use Rattle.std.specs.Prelude.{◌≡◌, ℕ, List, Option, Some, IfSome, map, All}
 use Rattle.std.specs.List.{range_with_len}
 use Rattle.world_core.specs.Calls.{Made}
-use Rattle.call_lines.specs.Lines.{made_of, lines_at}
 use Rattle.call_lines.specs.Phases.{IsTold}
-use Rattle.call_lines.specs.Allotments.{phases_of}
 use Rattle.seq_objects.specs.declared.kind.Kind.{Kind}
 use Rattle.seq_objects.specs.Objects.{kind_init, kind_next}
-use Rattle.reports.specs.Findings.{Findings}
 use Rattle.lawful_objects.specs.Replays.{last_reply}
 use Rattle.lawful_objects.specs.Forms.{IsTallyReply, IsCellReply}
 use Rattle.faulty_machines.specs.Lossy.{lossy_reply}
@@ -19,13 +16,6 @@ use Rattle.faulty_objects.specs.declared.behaviour.Behaviour.{Behaviour}
 use Rattle.faulty_objects.specs.declared.behaviour.Behaviour.TheVariants.{Lawful, Tally, Cell, Lossy, Twice, Late, Invent, Split, Onepass}
 use Rattle.bench_clients.specs.Places.{AreInOrder}
 use Rattle.logged_calls.specs.Logged.{IsLoggedBy, AreFormed}
-
--- The calls of a caller's lines, and how many phases the caller made.
-abbrev pub calls_of_caller : Findings → ℕ → List Made
-calls_of_caller findings i = map made_of (lines_at findings.lines i)
-
-abbrev pub phases_made : List ℕ → Findings → ℕ → ℕ
-phases_made allotments findings i = phases_of (slice_index allotments i) (lines_at findings.lines i)
 
 -- These are the passes of n callers, in order, and each is the object's own.
 pub record AreOwnPasses {T : Type 0} (is_own : T → Type 0) (caller : T → ℕ) (n : ℕ) (passes : List T) : Type 0 where

@@ -1,9 +1,10 @@
 //! Replays of a script over an object of a name.
 
-ghost use Rattle.std.specs.Prelude.{◌≡◌, ◌≤◌};
-ghost use Rattle.byte_streams.specs.Fault.{Rose};
-ghost use Rattle.run_writer.specs.Runs.{RunEnds};
+ghost use Rattle.std.specs.Prelude.{length};
+ghost use Rattle.byte_streams.specs.Fault.{LeavesSink};
+ghost use Rattle.run_writer.specs.Runs.{RunEnds, object_of_kind};
 ghost use Rattle.run_writer.specs.Running.{replay_allotments};
+ghost use Rattle.named_runs.specs.Worlds.{outside_shape};
 ghost use Rattle.named_runs.specs.BehaviourRuns.{IsExplainedReport, IsNamedReplayReport};
 
 use crate::fresh_replay::replay_fresh;
@@ -24,12 +25,10 @@ fn replay_named<O: NamedObject, K: Sink>(
     form: Form,
     sink: &mut K,
 ) -> Status
-    ensures ends { RunEnds (IsExplainedReport O.explains script.now (replay_allotments script.now))
-        form result (K.taken sink.old) (K.taken sink.new) }
-    ensures fault { result ≡ Status.WriteFault → Rose (K.faults sink.old) (K.faults sink.new) }
-    ensures calm { ¬ (result ≡ Status.WriteFault) → K.faults sink.new ≡ K.faults sink.old }
-    ensures unwritten { result ≡ Status.NoMemory → sink.new ≡ sink.old }
-    ensures later { K.faults sink.old ≤ K.faults sink.new }
+    ensures ends { RunEnds (object_of_kind script.now.kind)
+        (IsExplainedReport (outside_shape (length script.now.operations)) O.explains script.now
+        (replay_allotments script.now)) form result (K.taken sink.old) (K.taken sink.new) }
+    ensures faults { LeavesSink K.faults result sink.old sink.new }
 {
     let (object, mut passes) = match O::open_for(
         alloc,
@@ -57,14 +56,11 @@ pub fn replay_behaviour<K: Sink>(
     sink: &mut K,
 ) -> Status
     // The headline: what was written, by the status, is of a lawful report, whose calls the object of the behaviour answered.
-    ensures ends { RunEnds (IsNamedReplayReport behaviour script.now)
+    ensures ends { RunEnds (object_of_kind script.now.kind) (IsNamedReplayReport behaviour script.now)
         form result (K.taken sink.old) (K.taken sink.new) }
 
     // A fault has its cause in a count that rose in this call, and every other answer comes where none rose.
-    ensures fault { result ≡ Status.WriteFault → Rose (K.faults sink.old) (K.faults sink.new) }
-    ensures calm { ¬ (result ≡ Status.WriteFault) → K.faults sink.new ≡ K.faults sink.old }
-    ensures unwritten { result ≡ Status.NoMemory → sink.new ≡ sink.old }
-    ensures later { K.faults sink.old ≤ K.faults sink.new }
+    ensures faults { LeavesSink K.faults result sink.old sink.new }
 {
     match behaviour {
         Behaviour::Lawful => replay_named::<LogBox<Plain<Kind>>, K>(alloc, script, form, sink),

@@ -3,8 +3,8 @@
 ghost use Rattle.std.specs.Prelude.{◌≡◌, ◌≤◌, length, vec_len};
 ghost use Rattle.bench_clients.specs.Places.{AreInOrder};
 ghost use Rattle.run_report.specs.Passes.{IsOwnPass, IsUnusedPass};
-ghost use Rattle.byte_streams.specs.Fault.{Rose};
-ghost use Rattle.run_writer.specs.Runs.{RunEnds};
+ghost use Rattle.byte_streams.specs.Fault.{LeavesSink};
+ghost use Rattle.run_writer.specs.Runs.{RunEnds, object_of_kind};
 ghost use Rattle.run_writer.specs.Running.{replay_allotments};
 ghost use Rattle.named_runs.specs.BehaviourRuns.{IsToldReport};
 
@@ -38,16 +38,13 @@ pub fn replay_fresh<B: BlackBox, K: Sink>(
     ensures passes { AreInOrder (IsOwnPass (B.is_own object.now) B.Pass.caller) passes.new.items }
 
     // The headline: what was written, by the status, is of a lawful report, in which the passes are told.
-    ensures ends { RunEnds
+    ensures ends { RunEnds (object_of_kind script.now.kind)
         (IsToldReport B.Pass.made B.Pass.told passes.new.items script.now
         (replay_allotments script.now))
         form result (K.taken sink.old) (K.taken sink.new) }
 
     // A fault has its cause in a count that rose in this call, and every other answer comes where none rose.
-    ensures fault { result ≡ Status.WriteFault → Rose (K.faults sink.old) (K.faults sink.new) }
-    ensures calm { ¬ (result ≡ Status.WriteFault) → K.faults sink.new ≡ K.faults sink.old }
-    ensures unwritten { result ≡ Status.NoMemory → sink.new ≡ sink.old }
-    ensures later { K.faults sink.old ≤ K.faults sink.new }
+    ensures faults { LeavesSink K.faults result sink.old sink.new }
 {
     let (rows, mut bench) = match Rows::open(alloc, Outside, script.callers(), MAX_CALLS) {
         Ok(opened) => opened,

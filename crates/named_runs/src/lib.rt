@@ -5,6 +5,8 @@ mod behaviour_replay;
 mod behaviour_run;
 mod fresh_replay;
 mod fresh_run;
+mod inside;
+mod inside_run;
 mod laws;
 mod named_machine;
 mod named_object;

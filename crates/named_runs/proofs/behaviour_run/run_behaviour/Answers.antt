@@ -1,30 +1,30 @@
-use Rattle.faulty_objects.specs.declared.behaviour.Behaviour.TheVariants.{Lawful, Tally, Cell, Lossy, Twice, Late, Invent, Split, Onepass}
-use Rattle.named_runs.proofs.ToldCalls.{named_ends}
+use Rattle.std.proofs.Common.{◌∙◌, ap, sym, refl, Some}
+use Rattle.faulty_objects.specs.declared.behaviour.Behaviour.{Behaviour}
+use Rattle.seq_objects.specs.declared.kind.Kind.{Kind}
+use Rattle.named_runs.specs.declared.inside.Inside.{Inside}
+use Rattle.named_runs.specs.Worlds.{inside_of}
+use Rattle.named_runs.proofs.InsideRuns.{log_ends, tally_ends, cell_ends, outside_ends}
 use Rattle.named_runs.proofs.behaviour_run.run_behaviour.Goals as goal
 
-pub returns-in-Lawful-clause-ends : goal.returns-in-Lawful-clause-ends
-returns-in-Lawful-clause-ends g c = named_ends _ Lawful c.in-Lawful.is c.args.script.now _ _ _ _ _ c.run_named.ensures.ends
+pub returns-in-Ok-clause-ends : goal.returns-in-Ok-clause-ends
+returns-in-Ok-clause-ends g c =
+    log_ends c.args.behaviour c.args.script.now _ _ _ _
+    (ap (λ (k : Kind). inside_of c.args.behaviour k) (sym c.kind-kind.ensures) ∙ sym c.object_inside.ensures ∙ c.in-Some-Log.is ∙ ap (λ (x : Inside). Some x) c.in-Some-Log.field-0-is)
+    _ (c.in-Ok.ensures.object ∙ c.kind-kind.ensures) c.run_inside.ensures.ends
 
-pub returns-in-Tally-clause-ends : goal.returns-in-Tally-clause-ends
-returns-in-Tally-clause-ends g c = named_ends _ Tally c.in-Tally.is c.args.script.now _ _ _ _ _ c.run_named-in-Tally.ensures.ends
+pub returns-in-Ok-open-clause-ends : goal.returns-in-Ok-open-clause-ends
+returns-in-Ok-open-clause-ends g c =
+    tally_ends c.args.behaviour c.args.script.now _ _ _ _
+    (ap (λ (k : Kind). inside_of c.args.behaviour k) (sym c.kind-kind.ensures) ∙ sym c.object_inside.ensures ∙ c.in-Some-Tally.is ∙ ap (λ (x : Inside). Some x) c.in-Some-Tally.field-0-is)
+    _ refl c.run_inside-in-Ok-open.ensures.ends
 
-pub returns-in-Cell-clause-ends : goal.returns-in-Cell-clause-ends
-returns-in-Cell-clause-ends g c = named_ends _ Cell c.in-Cell.is c.args.script.now _ _ _ _ _ c.run_named-in-Cell.ensures.ends
+pub returns-in-Ok-open-2-clause-ends : goal.returns-in-Ok-open-2-clause-ends
+returns-in-Ok-open-2-clause-ends g c =
+    cell_ends c.args.behaviour c.args.script.now _ _ _ _
+    (ap (λ (k : Kind). inside_of c.args.behaviour k) (sym c.kind-kind.ensures) ∙ sym c.object_inside.ensures ∙ c.in-Some-Cell.is ∙ ap (λ (x : Inside). Some x) c.in-Some-Cell.field-0-is)
+    _ refl c.run_inside-in-Ok-open-2.ensures.ends
 
-pub returns-in-Lossy-clause-ends : goal.returns-in-Lossy-clause-ends
-returns-in-Lossy-clause-ends g c = named_ends _ Lossy c.in-Lossy.is c.args.script.now _ _ _ _ _ c.run_named-in-Lossy.ensures.ends
-
-pub returns-in-Twice-clause-ends : goal.returns-in-Twice-clause-ends
-returns-in-Twice-clause-ends g c = named_ends _ Twice c.in-Twice.is c.args.script.now _ _ _ _ _ c.run_named-in-Twice.ensures.ends
-
-pub returns-in-Late-clause-ends : goal.returns-in-Late-clause-ends
-returns-in-Late-clause-ends g c = named_ends _ Late c.in-Late.is c.args.script.now _ _ _ _ _ c.run_named-in-Late.ensures.ends
-
-pub returns-in-Invent-clause-ends : goal.returns-in-Invent-clause-ends
-returns-in-Invent-clause-ends g c = named_ends _ Invent c.in-Invent.is c.args.script.now _ _ _ _ _ c.run_named-in-Invent.ensures.ends
-
-pub returns-in-Split-clause-ends : goal.returns-in-Split-clause-ends
-returns-in-Split-clause-ends g c = named_ends _ Split c.in-Split.is c.args.script.now _ _ _ _ _ c.run_named-in-Split.ensures.ends
-
-pub returns-in-Onepass-clause-ends : goal.returns-in-Onepass-clause-ends
-returns-in-Onepass-clause-ends g c = named_ends _ Onepass c.in-Onepass.is c.args.script.now _ _ _ _ _ c.run_named-in-Onepass.ensures.ends
+pub returns-in-None-clause-ends : goal.returns-in-None-clause-ends
+returns-in-None-clause-ends g c =
+    outside_ends c.args.behaviour c.args.script.now
+    (ap (λ (k : Kind). inside_of c.args.behaviour k) (sym c.kind-kind.ensures) ∙ sym c.object_inside.ensures ∙ c.in-None.is) _ _ _ _ _ c.run_outside.ensures.ends

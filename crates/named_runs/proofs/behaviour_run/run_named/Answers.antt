@@ -19,4 +19,4 @@ close_with-requires g c =
 pub returns-clause-ends : goal.returns-clause-ends
 returns-clause-ends g c =
     explained_ends _ _ _ c.args.script.now _ _ _ (c.in-Ok.ensures.callers ∙ c.callers.ensures.count) _ c.kind.ensures
-    (λ phases calls told. c.close_with.ensures _ phases calls c.in-Ok.ensures.serves told) _ _ _ _ c.run_fresh-status.ensures.ends
+    (λ phases calls told. c.close_with.ensures _ phases calls c.in-Ok.ensures.serves told) _ _ _ _ _ c.run_fresh-status.ensures.ends
