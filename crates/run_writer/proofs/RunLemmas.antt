@@ -41,7 +41,7 @@ no_error_in [] k none = refl
 no_error_in (line ∷ own) zero none = none_from_is_some (error_in line.end) (or_parts (is_error line) (any_error own) none).0
 no_error_in (line ∷ own) (suc k) none = no_error_in own k (or_parts (is_error line) (any_error own) none).1
 
-no_error_of : (lines : List (List Line)) (i : ℕ) → list_any any_error lines ≡ false → any_error (lines_at lines i) ≡ false
+pub no_error_of : (lines : List (List Line)) (i : ℕ) → list_any any_error lines ≡ false → any_error (lines_at lines i) ≡ false
 no_error_of [] i none = refl
 no_error_of (own ∷ lines) zero none = (or_parts (any_error own) (list_any any_error lines) none).0
 no_error_of (own ∷ lines) (suc i) none = no_error_of lines i (or_parts (any_error own) (list_any any_error lines) none).1

@@ -5,5 +5,6 @@ pub mod InputLemmas
 pub mod OutputLemmas
 mod SetLemmas
 mod ScriptLemmas
+mod SoakLemmas
 mod TaskLemmas
 pub mod UpgradeLemmas

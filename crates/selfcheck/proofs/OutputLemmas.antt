@@ -7,6 +7,7 @@ use Rattle.book_base.specs.Book.{Page}
 use Rattle.book_text.proofs.Readings.{one_book, one_first_fault}
 use Rattle.book_writer.specs.Sketches.{sketch_lines}
 use Rattle.seq_objects.specs.declared.kind.Kind.{Kind}
+use Rattle.seq_objects.specs.declared.kind.Kind.TheVariants.{Queue}
 use Rattle.sketch.specs.declared.event.Event.{Event}
 use Rattle.sketch.specs.Sketch.{IsSketch}
 use Rattle.sketch.proofs.Orderly.{books_have_one_sketch}
@@ -20,10 +21,11 @@ use Rattle.byte_streams.specs.declared.TheConstants.{INPUT_LIMIT}
 use Rattle.selfcheck.specs.Command.{command_of}
 use Rattle.faulty_objects.specs.declared.behaviour.Behaviour.TheVariants.{Lawful}
 use Rattle.run_writer.specs.declared.form.Form.TheVariants.{Report, Counts, Certificate}
+use Rattle.run_writer.specs.Runs.{counts_text, object_of_kind}
 use Rattle.named_runs.specs.BehaviourRuns.{IsNamedRunReport, IsNamedReplayReport}
 use Rattle.selfcheck.specs.ScriptInput.{soak_plan}
 use Rattle.text_refusals.specs.Refusal.{refusal_text}
-use Rattle.selfcheck.specs.Output.{Form, BookForm, CertificateForm, OldForm, SetForm, ScriptForm, NoForm, form_of, IsTextOf, IsFirstFaultOf, IsTaken, IsVerdict, IsSketchText, IsDrawn, IsJudgement, IsRewritten, IsSetVerdict, IsAnswerOf, IsRefusal, IsOutputOf, HasOneStatus, IsDetermined, RefuseWhatIsNotTaken, IsOutput, ReadsFor, Reads, Ends, IsUnfinished, input_of}
+use Rattle.selfcheck.specs.Output.{Form, BookForm, CertificateForm, OldForm, SetForm, ScriptForm, NoForm, form_of, IsTextOf, IsFirstFaultOf, IsTaken, IsVerdict, IsSketchText, IsDrawn, IsJudgement, IsRewritten, IsSetVerdict, IsAnswerOf, IsRefusal, IsOutputOf, HasOneStatus, RunsInside, SoaksDeliverAll, IsDetermined, RefuseWhatIsNotTaken, IsOutput, ReadsFor, Reads, Ends, IsUnfinished, input_of}
 use Rattle.selfcheck.specs.Orders.{order_fault_text}
 use Rattle.byte_streams.specs.Told.{AppendsPart}
 use Rattle.byte_streams.specs.Writing.{EndsWriting}
@@ -36,7 +38,8 @@ use Rattle.certificate_text.proofs.Readings.{one_fault}
 use Rattle.client_scripts.proofs.Readings as scripts
 use Rattle.setbook_text.proofs.SharpSetBooks as set_books
 use Rattle.selfcheck.proofs.SetLemmas.{IsSetInput-from_legal, IsSetInput-from_illegal, set_input_or_fault, legal_or_illegal_sets}
-use Rattle.selfcheck.proofs.ScriptLemmas.{IsScriptInput-from_shown, script_input_or_fault, run_statuses}
+use Rattle.selfcheck.proofs.ScriptLemmas.{IsScriptInput-from_shown, script_input_or_fault, run_statuses, fine_without_error}
+use Rattle.selfcheck.proofs.SoakLemmas.{soak_counts, soak_line}
 use Rattle.selfcheck.proofs.UpgradeLemmas.{old_or_fault, one_old_fault, old-from_upgraded, one_upgraded, says_the_same, one_order}
 
 -- ---- forms of texts: one case a form
@@ -76,10 +79,10 @@ answer_statuses Upgrade bytes _ text answer = absurd answer
 answer_statuses Sets bytes Fine text answer = inl refl
 answer_statuses Sets bytes Found text answer = inr refl
 answer_statuses Sets bytes _ text answer = absurd answer
-answer_statuses (Run behaviour) bytes status text answer = run_statuses (IsNamedRunReport behaviour answer.0) Report status text answer.2
-answer_statuses (Replay behaviour) bytes status text answer = run_statuses (IsNamedReplayReport behaviour answer.0) Report status text answer.2
-answer_statuses (Certify behaviour) bytes status text answer = run_statuses (IsNamedRunReport behaviour answer.0) Certificate status text answer.2
-answer_statuses (Soak number) bytes status text answer = run_statuses (IsNamedRunReport Lawful (soak_plan number)) Counts status text answer.1
+answer_statuses (Run behaviour) bytes status text answer = run_statuses (object_of_kind answer.0.kind) (IsNamedRunReport behaviour answer.0) Report status text answer.2
+answer_statuses (Replay behaviour) bytes status text answer = run_statuses (object_of_kind answer.0.kind) (IsNamedReplayReport behaviour answer.0) Report status text answer.2
+answer_statuses (Certify behaviour) bytes status text answer = run_statuses (object_of_kind answer.0.kind) (IsNamedRunReport behaviour answer.0) Certificate status text answer.2
+answer_statuses (Soak number) bytes status text answer = run_statuses (object_of_kind Queue) (IsNamedRunReport Lawful (soak_plan number)) Counts status text answer.1
 
 -- what is answered is an input of the wanted form
 answered_is_wanted : (command : Command) (bytes : List ℕ) (status : Status) (text : List ℕ) → IsAnswerOf command bytes status text → IsTextOf (form_of command) bytes
@@ -230,6 +233,51 @@ one_set_verdict bytes _ other text text' h k = absurd h
 pub sets_is_determined : IsDetermined Sets
 sets_is_determined = IsDetermined-from_answers Sets one_set_verdict
 
+-- ---- runs over objects inside the world
+
+-- what is said of such a run is fine: one case a command that makes one
+fine_answer : (command : Command) (bytes : List ℕ) (status : Status) (text : List ℕ) → RunsInside command bytes → IsAnswerOf command bytes status text → status ≡ Fine
+fine_answer (Run behaviour) bytes status text inside answer =
+    fine_without_error (object_of_kind answer.0.kind) (IsNamedRunReport behaviour answer.0) Report status text (λ report is. is.no_error (inside answer.0 answer.1)) answer.2
+fine_answer (Certify behaviour) bytes status text inside answer =
+    fine_without_error (object_of_kind answer.0.kind) (IsNamedRunReport behaviour answer.0) Certificate status text (λ report is. is.no_error (inside answer.0 answer.1)) answer.2
+fine_answer (Soak number) bytes status text inside answer =
+    fine_without_error (object_of_kind Queue) (IsNamedRunReport Lawful (soak_plan number)) Counts status text (λ report is. is.no_error refl) answer.1
+fine_answer command bytes status text inside answer = absurd inside
+
+-- so all outputs for a script that is taken are fine
+pub inside_is_fine : (command : Command) (bytes : List ℕ) → IsTaken command bytes → RunsInside command bytes → HasOneStatus command bytes Fine
+inside_is_fine command bytes taken inside other text output =
+    elim (output_cases command bytes other text output) [
+      | inl a ↦ fine_answer command bytes other text inside a.1
+      | inr a ↦ absurd (taken_or_refused command bytes text taken a.1)
+    ]
+
+soak_is_taken : (number : ℕ) → IsTaken (Soak number) []
+soak_is_taken number = (omega arith, refl)
+
+-- what a soak says is that all calls of its script are delivered
+soak_says : (number : ℕ) (bytes : List ℕ) (status : Status) (text : List ℕ) → IsAnswerOf (Soak number) bytes status text → (status ≡ Fine) × (text ≡ codes "calls 128 delivered 128 errors 0\n")
+soak_says number bytes status text answer =
+    (fine_answer (Soak number) bytes status text tt answer, answer.1.2 ∙ ap counts_text (soak_counts number answer.1.0 answer.1.1) ∙ soak_line)
+
+one_soak : (number : ℕ) (bytes : List ℕ) (status other : Status) (text text' : List ℕ) → IsAnswerOf (Soak number) bytes status text → IsAnswerOf (Soak number) bytes other text'
+    → (status ≡ other) × (text ≡ text')
+one_soak number bytes status other text text' a b =
+    let one = soak_says number bytes status text a in
+    let also = soak_says number bytes other text' b in
+    (one.0 ∙ sym also.0, one.1 ∙ sym also.1)
+
+pub soak_is_determined : (number : ℕ) → IsDetermined (Soak number)
+soak_is_determined number = IsDetermined-from_answers (Soak number) (one_soak number)
+
+pub soaks_deliver_all : SoaksDeliverAll
+soaks_deliver_all number status text output =
+    elim (output_cases (Soak number) [] status text output) [
+      | inl a ↦ soak_says number [] status text a.1
+      | inr a ↦ absurd (taken_or_refused (Soak number) [] text (soak_is_taken number) a.1)
+    ]
+
 -- ---- how a call that writes an output ends
 
 EndsWriting-whole : (IsOne : Status → List ℕ → Type 0) (status : Status) (taken taken' : Option (List ℕ)) (text : List ℕ)
@@ -366,3 +414,12 @@ pub complete-from_ends : (command : Command) (left left' taken taken' : Option (
 complete-from_ends command left left' taken taken' bytes held result reads ends told wanted calm =
     let same : bytes ≡ input_of command held = input_is command held left' bytes (subst (λ l. ReadsFor command l left' bytes) told reads) in
     done command bytes result taken taken' ends (subst (λ b. IsTaken command b) (sym same) wanted) calm
+
+-- a soak is fine, where its output was written whole
+pub soak-from_ends : (number : ℕ) (command : Command) (left left' taken taken' : Option (List ℕ)) (bytes : List ℕ) (result : Status) → command ≡ Soak number
+    → ReadsFor command left left' bytes → EndsWriting (IsOutputOf command bytes) result taken taken' → (result ≡ Fine) ⊎ IsUnfinished result
+soak-from_ends number command left left' taken taken' bytes result is reads ends =
+    let none : bytes ≡ [] = (subst (λ (c : Command). ReadsFor c left left' bytes) is reads).1 in
+    let own : EndsWriting (IsOutputOf (Soak number) bytes) result taken taken' = subst (λ (c : Command). EndsWriting (IsOutputOf c bytes) result taken taken') is ends in
+    one_status (IsOutputOf (Soak number) []) Fine result taken taken' (subst (λ (b : List ℕ). EndsWriting (IsOutputOf (Soak number) b) result taken taken') none own)
+    (inside_is_fine (Soak number) [] (soak_is_taken number) tt)

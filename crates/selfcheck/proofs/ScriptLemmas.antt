@@ -1,8 +1,9 @@
 -- Lemmas on the texts of scripts and what is written of their runs.
-use Rattle.std.proofs.Common.{◌≡◌, ◌⊎◌, ℕ, Bool, true, false, List, inl, inr, if◌then◌else◌}
+use Rattle.std.proofs.Common.{◌≡◌, ◌∙◌, ap, ◌⊎◌, ℕ, Bool, true, false, List, inl, inr, if◌then◌else◌}
 use Rattle.std.specs.List.{list_any}
 use Rattle.book_base.specs.declared.fault.TextFault.{TextFault}
 use Rattle.call_lines.specs.Lines.{any_error}
+use Rattle.call_phases.specs.Ends.{Sequential}
 use Rattle.client_scripts.specs.Plans.{Plan}
 use Rattle.client_scripts.specs.ScriptRules.{IsFirstScriptFault}
 use Rattle.client_scripts.proofs.Readings.{no_first_fault}
@@ -30,5 +31,11 @@ by_error true status e = inr e
 by_error false status e = inl e
 
 -- a run that is told of has found an error, or none
-pub run_statuses : (IsOne : Findings → Type 0) (form : Form) (status : Status) (text : List ℕ) → IsRunOutput IsOne form status text → (status ≡ Fine) ⊎ (status ≡ Found)
-run_statuses IsOne form status text output = by_error (list_any any_error output.0.lines) status output.3
+pub run_statuses : (object : Sequential) (IsOne : Findings → Type 0) (form : Form) (status : Status) (text : List ℕ) → IsRunOutput object IsOne form status text → (status ≡ Fine) ⊎ (status ≡ Found)
+run_statuses object IsOne form status text output = by_error (list_any any_error output.0.lines) status output.3
+
+-- where no line of its report is an error, all is fine
+pub fine_without_error : (object : Sequential) (IsOne : Findings → Type 0) (form : Form) (status : Status) (text : List ℕ) → ((report : Findings) → IsOne report → list_any any_error report.lines ≡ false)
+    → IsRunOutput object IsOne form status text → status ≡ Fine
+fine_without_error object IsOne form status text none output =
+    output.3 ∙ ap (λ (error : Bool). if error then Found else Fine) (none output.0 output.1)

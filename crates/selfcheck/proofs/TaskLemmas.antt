@@ -9,7 +9,7 @@ use Rattle.byte_streams.specs.Writing.{EndsWriting}
 use Rattle.faulty_objects.specs.declared.behaviour.Behaviour.{Behaviour}
 use Rattle.faulty_objects.specs.declared.behaviour.Behaviour.TheVariants.{Lawful}
 use Rattle.run_writer.specs.declared.form.Form.TheVariants.{Counts}
-use Rattle.run_writer.specs.Runs.{IsRunOutput, RunEnds}
+use Rattle.run_writer.specs.Runs.{IsRunOutput, RunEnds, object_of_kind}
 use Rattle.selfcheck.specs.declared.command.Command.TheVariants.{Soak}
 use Rattle.selfcheck.specs.declared.script_task.ScriptTask.{ScriptTask}
 use Rattle.selfcheck.specs.declared.script_task.ScriptTask.TheVariants.{Run, Replay, Certify}
@@ -21,20 +21,20 @@ use Rattle.selfcheck.proofs.OutputLemmas.{EndsWriting-answer}
 
 -- what is written of a task with an input's script is an answer of its command: one case a task
 task_answer : (task : ScriptTask) (behaviour : Behaviour) (bytes : List ℕ) (plan : Plan) → IsScriptText Second bytes plan
-    → (status : Status) (text : List ℕ) → IsRunOutput (IsReportBy task behaviour plan) (form_by task) status text → IsAnswerOf (command_for task behaviour) bytes status text
+    → (status : Status) (text : List ℕ) → IsRunOutput (object_of_kind plan.kind) (IsReportBy task behaviour plan) (form_by task) status text → IsAnswerOf (command_for task behaviour) bytes status text
 task_answer Run behaviour bytes plan told status text output = (plan, told, output)
 task_answer Replay behaviour bytes plan told status text output = (plan, told, output)
 task_answer Certify behaviour bytes plan told status text output = (plan, told, output)
 
 pub EndsWriting-task : (task : ScriptTask) (behaviour : Behaviour) (bytes : List ℕ) (plan : Plan) (result : Status) (taken taken' : Option (List ℕ))
-    → length bytes ≤ INPUT_LIMIT → IsScriptText Second bytes plan → RunEnds (IsReportBy task behaviour plan) (form_by task) result taken taken'
+    → length bytes ≤ INPUT_LIMIT → IsScriptText Second bytes plan → RunEnds (object_of_kind plan.kind) (IsReportBy task behaviour plan) (form_by task) result taken taken'
     → EndsWriting (IsOutputOf (command_for task behaviour) bytes) result taken taken'
 EndsWriting-task task behaviour bytes plan result taken taken' short told ends =
-    EndsWriting-answer (command_for task behaviour) bytes (IsRunOutput (IsReportBy task behaviour plan) (form_by task)) result taken taken' short
+    EndsWriting-answer (command_for task behaviour) bytes (IsRunOutput (object_of_kind plan.kind) (IsReportBy task behaviour plan) (form_by task)) result taken taken' short
     (task_answer task behaviour bytes plan told) ends
 
 pub EndsWriting-soak : (number : ℕ) (plan : Plan) (result : Status) (taken taken' : Option (List ℕ)) → plan ≡ soak_plan number
-    → RunEnds (IsNamedRunReport Lawful plan) Counts result taken taken' → EndsWriting (IsOutputOf (Soak number) []) result taken taken'
+    → RunEnds (object_of_kind plan.kind) (IsNamedRunReport Lawful plan) Counts result taken taken' → EndsWriting (IsOutputOf (Soak number) []) result taken taken'
 EndsWriting-soak number plan result taken taken' same ends =
-    EndsWriting-answer (Soak number) [] (IsRunOutput (IsNamedRunReport Lawful plan) Counts) result taken taken' (omega arith)
-    (λ status text output. (refl, subst (λ (p : Plan). IsRunOutput (IsNamedRunReport Lawful p) Counts status text) same output)) ends
+    EndsWriting-answer (Soak number) [] (IsRunOutput (object_of_kind plan.kind) (IsNamedRunReport Lawful plan) Counts) result taken taken' (omega arith)
+    (λ status text output. (refl, subst (λ (p : Plan). IsRunOutput (object_of_kind p.kind) (IsNamedRunReport Lawful p) Counts status text) same output)) ends

@@ -26,7 +26,7 @@ use Rattle.book_verdicts.specs.Books.{Tells, IsTextOfBook, IsLegalBook, IsIllega
 use Rattle.book_verdicts.specs.Certificates.{IsTextOfCertificate, IsLegalCertificate, IsFaultyCertificate}
 use Rattle.selfcheck.specs.Input.{IsRefusedFor}
 use Rattle.selfcheck.specs.Orders.{order_fault_text}
-use Rattle.selfcheck.specs.ScriptInput.{IsScriptInput, IsRunOf, IsReplayOf, IsCertifiedOf, IsSoakOf}
+use Rattle.selfcheck.specs.ScriptInput.{IsScriptInput, IsRunInside, IsRunOf, IsReplayOf, IsCertifiedOf, IsSoakOf}
 use Rattle.selfcheck.specs.SetInput.{IsSetInput, IsLegalSetInput, IsIllegalSetInput}
 use Rattle.byte_streams.specs.Told.{HasRead, AppendsPart, read_of}
 use Rattle.selfcheck.specs.Upgrade.{IsOldInput, IsFirstOldFault, IsUpgraded}
@@ -132,6 +132,13 @@ abbrev pub IsOutputOf : Command → List ℕ → Status → List ℕ → Type 0
 IsOutputOf command bytes Refused text = IsRefusal command bytes text
 IsOutputOf command bytes status text = (length bytes ≤ INPUT_LIMIT) × IsAnswerOf command bytes status text
 
+-- The command runs a script over an object inside the world, that of these bytes or, where it is a soak, its own.
+abbrev pub RunsInside : Command → List ℕ → Type 0
+RunsInside (Run behaviour) bytes = IsRunInside behaviour bytes
+RunsInside (Certify behaviour) bytes = IsRunInside behaviour bytes
+RunsInside (Soak number) bytes = Unit {0}
+RunsInside command bytes = ⊥
+
 -- all outputs of the command for these bytes have this status
 abbrev pub HasOneStatus : Command → List ℕ → Status → Type 0
 HasOneStatus command bytes status = (other : Status) (text : List ℕ) → IsOutputOf command bytes other text → other ≡ status
@@ -140,6 +147,11 @@ HasOneStatus command bytes status = (other : Status) (text : List ℕ) → IsOut
 abbrev pub IsDetermined : Command → Type 0
 IsDetermined command = (bytes : List ℕ) (status other : Status) (text text' : List ℕ)
     → IsOutputOf command bytes status text → IsOutputOf command bytes other text' → (status ≡ other) × (text ≡ text')
+
+-- Whatever number a soak has, all calls of its script are delivered, and none is an error.
+abbrev pub SoaksDeliverAll : Type 0
+SoaksDeliverAll = (number : ℕ) (status : Status) (text : List ℕ) → IsOutputOf (Soak number) [] status text
+    → (status ≡ Fine) × (text ≡ codes "calls 128 delivered 128 errors 0\n")
 
 -- An output refuses the input exactly where the command doesn't take it.
 abbrev pub RefuseWhatIsNotTaken : Type 0

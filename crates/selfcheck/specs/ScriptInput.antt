@@ -1,5 +1,5 @@
 -- What the bytes of an input say of a script, and what is written of a script's run.
-use Rattle.std.specs.Prelude.{ℕ, List}
+use Rattle.std.specs.Prelude.{ℕ, List, IsSome}
 use Rattle.client_scripts.specs.Generator.{generated}
 use Rattle.client_scripts.specs.Plans.{Plan}
 use Rattle.client_scripts.specs.ScriptRules.{IsScriptText}
@@ -11,8 +11,9 @@ use Rattle.faulty_objects.specs.declared.behaviour.Behaviour.TheVariants.{Lawful
 use Rattle.run_writer.specs.declared.form.Form.{Form}
 use Rattle.run_writer.specs.declared.form.Form.TheVariants.{Report, Counts, Certificate}
 use Rattle.byte_streams.specs.declared.status.Status.{Status}
+use Rattle.named_runs.specs.Worlds.{inside_of}
 use Rattle.named_runs.specs.BehaviourRuns.{IsNamedRunReport, IsNamedReplayReport}
-use Rattle.run_writer.specs.Runs.{IsRunOutput}
+use Rattle.run_writer.specs.Runs.{IsRunOutput, object_of_kind}
 
 -- the bytes are the text of a script
 unfoldable pub IsScriptInput : List ℕ → Type 0
@@ -20,7 +21,12 @@ IsScriptInput bytes = (plan : Plan) × IsScriptText Second bytes plan
 
 -- What a form shows of the script that the bytes are the text of: a status and a text, of a report that is one for this script.
 abbrev pub IsShownOf : (Plan → Findings → Type 0) → Form → List ℕ → Status → List ℕ → Type 0
-IsShownOf IsReportFor form bytes status text = (plan : Plan) × IsScriptText Second bytes plan × IsRunOutput (IsReportFor plan) form status text
+IsShownOf IsReportFor form bytes status text =
+    (plan : Plan) × IsScriptText Second bytes plan × IsRunOutput (object_of_kind plan.kind) (IsReportFor plan) form status text
+
+-- The object of a behaviour is inside the world in a run of the script that the bytes are the text of.
+abbrev pub IsRunInside : Behaviour → List ℕ → Type 0
+IsRunInside behaviour bytes = (plan : Plan) → IsScriptText Second bytes plan → IsSome (inside_of behaviour plan.kind)
 
 -- What `run` says of the text of a script: a status and a text, of a lawful report of its callers, each in a thread,
 -- whose calls the object of the behaviour answered.
@@ -43,4 +49,4 @@ soak_plan number = generated number 4 32 Queue
 
 -- What `soak` says: a status and the three counts of a lawful report of the script made from its number.
 abbrev pub IsSoakOf : ℕ → Status → List ℕ → Type 0
-IsSoakOf number status text = IsRunOutput (IsNamedRunReport Lawful (soak_plan number)) Counts status text
+IsSoakOf number status text = IsRunOutput (object_of_kind Queue) (IsNamedRunReport Lawful (soak_plan number)) Counts status text

@@ -1,8 +1,9 @@
 //! Laws of the commands.
 
-ghost use Rattle.selfcheck.specs.declared.command.Command.TheVariants.{Order, Sets, Sketch, Upgrade, Verify};
+ghost use Rattle.std.specs.Prelude.{ℕ};
+ghost use Rattle.selfcheck.specs.declared.command.Command.TheVariants.{Order, Sets, Sketch, Soak, Upgrade, Verify};
 ghost use Rattle.selfcheck.specs.Command.{HaveTheirCommand};
-ghost use Rattle.selfcheck.specs.Output.{IsDetermined, RefuseWhatIsNotTaken};
+ghost use Rattle.selfcheck.specs.Output.{IsDetermined, RefuseWhatIsNotTaken, SoaksDeliverAll};
 ghost use Rattle.selfcheck.specs.UpgradeLaws.{UpgradesSayTheSame, UpgradesKeepOrders};
 
 /// Words name a command exactly where they are its words.
@@ -55,4 +56,11 @@ pub fn an_upgrade_keeps_the_legal_orders()
 #[tactic(auto, using(crate::proofs::OutputLemmas::sets_is_determined))]
 pub fn sets_has_one_output()
     ensures { IsDetermined Sets }
+{}
+
+/// A number determines the output of its soak: its 128 calls are all delivered.
+#[tactic(auto, using(crate::proofs::OutputLemmas::soak_is_determined, crate::proofs::OutputLemmas::soaks_deliver_all))]
+pub fn soak_has_one_output()
+    ensures determined { (number : ℕ) → IsDetermined (Soak number) }
+    ensures delivered { SoaksDeliverAll }
 {}

@@ -26,12 +26,12 @@ pub use byte_streams::{
 pub use command::Command;
 pub use laws::{
     an_upgrade_keeps_the_legal_orders, an_upgrade_says_the_same, order_has_one_output,
-    sets_has_one_output, sketch_has_one_output, upgrade_has_one_output, verify_has_one_output,
-    what_is_not_taken_is_refused, words_have_their_command,
+    sets_has_one_output, sketch_has_one_output, soak_has_one_output, upgrade_has_one_output,
+    verify_has_one_output, what_is_not_taken_is_refused, words_have_their_command,
 };
 pub use named_runs::{replay_behaviour, replay_fresh, run_behaviour, run_fresh};
 pub use run_writer::{
     Form, a_report_and_its_counts_have_one_text, certificates_are_legal_and_tell_one_book,
-    replay_and_write, run_and_write, write_report,
+    core_and_write, replay_and_write, run_and_write, write_report,
 };
 pub use top::selfcheck;

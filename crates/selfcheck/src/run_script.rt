@@ -2,7 +2,7 @@ ghost use Rattle.std.specs.Prelude.{◌≡◌, ◌≤◌, length, IfOk, IfErr};
 ghost use Rattle.client_scripts.specs.ScriptRules.{IsFirstScriptFault, IsScriptText};
 ghost use Rattle.text_fields.specs.declared.version.Version.TheVariants.{Second};
 ghost use Rattle.byte_streams.specs.declared.TheConstants.{INPUT_LIMIT};
-ghost use Rattle.byte_streams.specs.Fault.{Rose};
+ghost use Rattle.byte_streams.specs.Fault.{LeavesSink};
 ghost use Rattle.selfcheck.specs.Output.{IsOutputOf};
 ghost use Rattle.selfcheck.specs.ScriptTasks.{command_for};
 ghost use Rattle.selfcheck.specs.Refusal.{IsReadFault};
@@ -30,10 +30,7 @@ pub(crate) fn run_script<R: Threads + Sync, K: Sink>(
 ) -> Status
     ensures ends { EndsWriting (IsOutputOf (command_for task behaviour) bytes.now)
         result (K.taken sink.old) (K.taken sink.new) }
-    ensures fault { result ≡ Status.WriteFault → Rose (K.faults sink.old) (K.faults sink.new) }
-    ensures calm { ¬ (result ≡ Status.WriteFault) → K.faults sink.new ≡ K.faults sink.old }
-    ensures unwritten { result ≡ Status.NoMemory → sink.new ≡ sink.old }
-    ensures later { K.faults sink.old ≤ K.faults sink.new }
+    ensures faults { LeavesSink K.faults result sink.old sink.new }
 {
     match read_input_script(alloc, bytes) {
         Ok(script) => task.carry_out(rt, alloc, behaviour, &script, sink),

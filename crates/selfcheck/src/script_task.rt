@@ -1,6 +1,6 @@
 ghost use Rattle.std.specs.Prelude.{◌≡◌, ◌≤◌};
-ghost use Rattle.byte_streams.specs.Fault.{Rose};
-ghost use Rattle.run_writer.specs.Runs.{RunEnds};
+ghost use Rattle.byte_streams.specs.Fault.{LeavesSink};
+ghost use Rattle.run_writer.specs.Runs.{RunEnds, object_of_kind};
 ghost use Rattle.selfcheck.specs.ScriptTasks.{IsReportBy, form_by};
 
 use byte_streams::{Sink, Status};
@@ -32,12 +32,9 @@ impl ScriptTask {
         script: &Script,
         sink: &mut K,
     ) -> Status
-        ensures ends { RunEnds (IsReportBy self behaviour script.now) (form_by self)
-            result (K.taken sink.old) (K.taken sink.new) }
-        ensures fault { result ≡ Status.WriteFault → Rose (K.faults sink.old) (K.faults sink.new) }
-        ensures calm { ¬ (result ≡ Status.WriteFault) → K.faults sink.new ≡ K.faults sink.old }
-        ensures unwritten { result ≡ Status.NoMemory → sink.new ≡ sink.old }
-        ensures later { K.faults sink.old ≤ K.faults sink.new }
+        ensures ends { RunEnds (object_of_kind script.now.kind)
+            (IsReportBy self behaviour script.now) (form_by self) result (K.taken sink.old) (K.taken sink.new) }
+        ensures faults { LeavesSink K.faults result sink.old sink.new }
     {
         match self {
             ScriptTask::Run => run_behaviour(rt, alloc, behaviour, script, Form::Report, sink),

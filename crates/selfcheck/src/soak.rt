@@ -1,5 +1,5 @@
 ghost use Rattle.std.specs.Prelude.{◌≡◌, ◌≤◌, []};
-ghost use Rattle.byte_streams.specs.Fault.{Rose};
+ghost use Rattle.byte_streams.specs.Fault.{LeavesSink};
 ghost use Rattle.byte_streams.specs.Writing.{EndsWriting};
 ghost use Rattle.selfcheck.specs.Output.{IsOutputOf};
 
@@ -30,10 +30,7 @@ pub(crate) fn soak<R: Threads + Sync, K: Sink>(
 ) -> Status
     ensures ends { EndsWriting (IsOutputOf (Command.Soak number) [])
         result (K.taken sink.old) (K.taken sink.new) }
-    ensures fault { result ≡ Status.WriteFault → Rose (K.faults sink.old) (K.faults sink.new) }
-    ensures calm { ¬ (result ≡ Status.WriteFault) → K.faults sink.new ≡ K.faults sink.old }
-    ensures unwritten { result ≡ Status.NoMemory → sink.new ≡ sink.old }
-    ensures later { K.faults sink.old ≤ K.faults sink.new }
+    ensures faults { LeavesSink K.faults result sink.old sink.new }
 {
     match make_script(alloc, number, CALLERS, CALLS, Kind::Queue) {
         Ok(script) => run_behaviour(rt, alloc, Behaviour::Lawful, &script, Form::Counts, sink),

@@ -4,8 +4,8 @@ ghost use Rattle.selfcheck.specs.declared.command.Command.{Command};
 ghost use Rattle.byte_streams.specs.declared.status.Status.{Status};
 ghost use Rattle.selfcheck.specs.Command.{command_of, reads_source};
 ghost use Rattle.selfcheck.specs.CommandLine.{is_parsed};
-ghost use Rattle.byte_streams.specs.Fault.{Rose};
-ghost use Rattle.selfcheck.specs.Output.{IsTaken, IsOutputOf, HasOneStatus, ReadsFor, Ends, IsUnfinished, input_of};
+ghost use Rattle.byte_streams.specs.Fault.{Rose, LeavesSink};
+ghost use Rattle.selfcheck.specs.Output.{IsTaken, IsOutputOf, HasOneStatus, RunsInside, ReadsFor, Ends, IsUnfinished, input_of};
 ghost use Rattle.byte_streams.specs.Told.{AppendsPart};
 ghost use Rattle.byte_streams.specs.Writing.{EndsWriting};
 
@@ -57,10 +57,7 @@ fn answer<R: Threads + Sync, K: Sink>(
 ) -> Status
     requires { ¬ IsTrue (reads_source command) → bytes.now ≡ [] }
     ensures ends { EndsWriting (IsOutputOf command bytes.now) result (K.taken sink.old) (K.taken sink.new) }
-    ensures fault { result ≡ Status.WriteFault → Rose (K.faults sink.old) (K.faults sink.new) }
-    ensures calm { ¬ (result ≡ Status.WriteFault) → K.faults sink.new ≡ K.faults sink.old }
-    ensures unwritten { result ≡ Status.NoMemory → sink.new ≡ sink.old }
-    ensures later { K.faults sink.old ≤ K.faults sink.new }
+    ensures faults { LeavesSink K.faults result sink.old sink.new }
 {
     match command {
         Command::Verify => write_told(verify(alloc, bytes), sink),
@@ -103,6 +100,13 @@ pub fn selfcheck<R: Threads + Sync, S: Source, K: Sink>(
     ensures exact { (command : Command) (held : List ℕ) (status : Status) → command_of words.now ≡ Some command →
         S.left source.old ≡ Some held → HasOneStatus command (input_of command held) status →
         (result ≡ status) ⊎ IsUnfinished result }
+
+    // A run over an object inside the world is fine, faults and want of memory aside.
+    ensures right { (command : Command) (held : List ℕ) → command_of words.now ≡ Some command →
+        S.left source.old ≡ Some held → IsTaken command (input_of command held) →
+        RunsInside command (input_of command held) → (result ≡ Status.Fine) ⊎ IsUnfinished result }
+    ensures soak { (number : ℕ) → command_of words.now ≡ Some (Command.Soak number) →
+        (result ≡ Status.Fine) ⊎ IsUnfinished result }
 
     // An input that the command takes is answered.
     ensures complete { (command : Command) (held : List ℕ) → command_of words.now ≡ Some command →
