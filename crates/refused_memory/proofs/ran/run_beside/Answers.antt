@@ -1,5 +1,4 @@
-use Rattle.std.proofs.Common.{◌∙◌, arith}
-use Rattle.named_runs.proofs.FreshRuns.{wide_rows, opened_unused, unused_own}
+use Rattle.named_runs.proofs.FreshRuns.{may_begin, unused_own}
 use Rattle.refused_memory.proofs.ran.run_beside.Goals as goal
 
 pub returns-in_err-rows-clause-passes : goal.returns-in_err-rows-clause-passes
@@ -7,8 +6,10 @@ returns-in_err-rows-clause-passes g c = unused_own _ _ _ _ _ _ c.requires.passes
 
 pub run_over-report-requires-clause-rows : goal.run_over-report-requires-clause-rows
 run_over-report-requires-clause-rows g c κs within =
-    wide_rows c.args.script.now _ (c.in_ok-rows.ensures.rows.0 ∙ c.callers.ensures.count) c.in_ok-rows.ensures.rows.1 c.callers.ensures.plan
+    let opened = c.in_ok-rows.ensures in
+    (may_begin _ c.args.script.now _ _ _ c.callers.ensures.count c.callers.ensures.plan opened.rows.0 opened.rows.1 opened.bench opened.fresh).rows_for
 
 pub run_over-report-requires-clause-unused : goal.run_over-report-requires-clause-unused
-run_over-report-requires-clause-unused g c κs within i low =
-    opened_unused _ i (c.in_ok-rows.ensures.fresh i (omega (arith, low, c.callers.ensures.count)))
+run_over-report-requires-clause-unused g c κs within =
+    let opened = c.in_ok-rows.ensures in
+    (may_begin _ c.args.script.now _ _ _ c.callers.ensures.count c.callers.ensures.plan opened.rows.0 opened.rows.1 opened.bench opened.fresh).unused

@@ -1,5 +1,5 @@
 use Rattle.std.proofs.Common.{arith}
-use Rattle.named_runs.proofs.OpenedPasses.{passes_count, opened_passes, own_passes, callers_in_order}
+use Rattle.named_runs.proofs.OpenedPasses.{passes_count, opened_passes, passes_back}
 use Rattle.refused_memory.proofs.ran.run_box.Goals as goal
 
 pub run_beside-came-requires-clause-all_passes : goal.run_beside-came-requires-clause-all_passes
@@ -16,7 +16,7 @@ close-requires g c =
     let after = c.run_beside-came.ensures in
     record {
       passes = record {
-        callers = callers_in_order _ _ _ _ (omega (arith, after.all_passes, c.callers.ensures.count, c.in_ok-object.ensures.log.0)) after.passes;
-        each = own_passes _ _ _ after.passes;
+        callers = (passes_back _ _ _ _ (omega (arith, after.all_passes, c.callers.ensures.count, c.in_ok-object.ensures.log.0)) after.passes).callers;
+        each = (passes_back _ _ _ c.callers.result (omega (arith, after.all_passes, c.callers.ensures.count)) after.passes).own;
       };
     }
