@@ -22,10 +22,6 @@ module _ {P : Type 0} where
     pub stance : stance_on b i ≡ Some ready
     pub idle : IsIdle l
 
-  -- The bench holds a caller, live and idle, with whatever local.
-  abbrev pub IsFree : Bench P → ℕ → Type 0
-  IsFree b i = (l : Local) × IsFreeOn b i l
-
   -- Caller i of one bench is as it is on the other.
   pub record IsUnmoved (b c : Bench P) (i : ℕ) : Type 0 where
     pub local : on_bench c i ≡ on_bench b i

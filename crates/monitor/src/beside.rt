@@ -1,10 +1,9 @@
 ghost use Rattle.std.specs.Prelude.{◌≡◌, ◌≢◌, ℕ, true, is_some, None, Some};
 ghost use Rattle.std.specs.List.{All, AllZip};
-ghost use Rattle.std.specs.Thread.{IsSend, IsSync};
 ghost use Rattle.world_core.specs.Local.{Local};
-ghost use Rattle.row_table.specs.Callers.{on_bench, IsBenchOf};
+ghost use Rattle.row_table.specs.Callers.{on_bench, IsBenchOf, HoldsFree};
 ghost use Rattle.monitor.specs.Watching.{IsReady, HasWatched};
-ghost use Rattle.monitor.specs.Beside.{IsFree, IsUnmoved, IsWatchOf, IsAtHand, ComesBack, IsBackFrom};
+ghost use Rattle.monitor.specs.Beside.{IsUnmoved, IsWatchOf, IsAtHand, ComesBack, IsBackFrom};
 
 use crate::board::Board;
 use crate::monitor::Monitor;
@@ -13,8 +12,8 @@ use crate::witness::Witness;
 use book_base::SeqObject;
 use row_table::{Bench, Rows};
 use std::alloc::Global;
-use std::thread::{Threads, join_mut};
-use work_halves::{Work, work_all};
+use std::thread::Threads;
+use work_halves::{Work, work_with_two};
 use world_core::Program;
 
 /// What a monitor leaves: its own witness, whether the board took a copy of it, and whether the monitor wanted memory.
@@ -34,7 +33,7 @@ fn take_off<P: Program>(
     rounds: u64,
 ) -> Watch<P>
     requires bench { IsBenchOf P.meaning rows.now bench.old }
-    requires free { IsFree bench.old caller }
+    requires free { HoldsFree bench.old caller }
     ensures bench { IsBenchOf P.meaning rows.now bench.new }
     ensures gone { on_bench bench.new caller ≡ None }
     ensures others { (i : ℕ) → i ≢ caller → IsUnmoved bench.old bench.new i }
@@ -69,51 +68,6 @@ fn bring_back<P: Program>(rows: &Rows<P>, bench: &mut Bench<P>, watch: Watch<P>)
         placed,
         wants_memory,
     }
-}
-
-// Two workers work side by side, over what both share.
-fn work_two<R: Threads, C: Sync, W: Work<C>>(rt: &R, shared: &C, one: &mut W, other: &mut W)
-    requires one { W.ready one.old shared.now }
-    requires other { W.ready other.old shared.now }
-    ensures one { W.done one.old shared.now one.new }
-    ensures other { W.done other.old shared.now other.new }
-{
-    let mut first = ||
-        requires { IsSync C.row × IsSend W.row × W.ready one.now shared.now }
-        ensures { W.done one.entry.now shared.entry.now one.exit.now }
-    { one.work(shared) };
-    let mut second = ||
-        requires { IsSync C.row × IsSend W.row × W.ready other.now shared.now }
-        ensures { W.done other.entry.now shared.entry.now other.exit.now }
-    { other.work(shared) };
-    join_mut(rt, &mut first, &mut second);
-}
-
-// The workers of a list work, and beside them two workers of another kind, over what these two share.
-fn work_with_two<R: Threads + Sync, C: Sync, W: Work<C>, D: Sync, V: Work<D>>(
-    rt: &R,
-    shared: &C,
-    all: &mut [W],
-    aside: &D,
-    one: &mut V,
-    other: &mut V,
-)
-    requires all { All (λ w. W.ready w shared.now) all.old }
-    requires one { V.ready one.old aside.now }
-    requires other { V.ready other.old aside.now }
-    ensures all { AllZip (λ w d. W.done w shared.now d) all.old all.new }
-    ensures one { V.done one.old aside.now one.new }
-    ensures other { V.done other.old aside.now other.new }
-{
-    let mut list = ||
-        requires { IsSync R.row × IsSync C.row × IsSend W.row × All (λ w. W.ready w shared.now) all.now }
-        ensures { AllZip (λ w d. W.done w shared.entry.now d) all.entry.now all.exit.now }
-    { work_all(rt, shared, all) };
-    let mut two = ||
-        requires { IsSync R.row × IsSync D.row × IsSend V.row × V.ready one.now aside.now × V.ready other.now aside.now }
-        ensures { V.done one.entry.now aside.entry.now one.exit.now × V.done other.entry.now aside.entry.now other.exit.now }
-    { work_two(rt, aside, one, other) };
-    join_mut(rt, &mut list, &mut two);
 }
 
 // Two watches work while workers work, all side by side.
@@ -168,7 +122,7 @@ pub fn watch_beside<
     requires bench { IsBenchOf P.meaning rows.now bench.old }
     requires ready { All (λ w. W.ready w shared.now) all.old }
     requires apart { one ≢ other }
-    requires free { IsFree bench.old one × IsFree bench.old other }
+    requires free { HoldsFree bench.old one × HoldsFree bench.old other }
     ensures bench { IsBenchOf P.meaning rows.now bench.new }
     ensures done { AllZip (λ w d. W.done w shared.now d) all.old all.new }
     ensures others { (i : ℕ) → i ≢ one → i ≢ other → IsUnmoved bench.old bench.new i }

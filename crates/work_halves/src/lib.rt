@@ -65,28 +65,49 @@ fn work_beside<R: Threads + Sync, C: Sync, W: Work<C>>(
     join_mut(rt, &mut in_front, &mut from_behind);
 }
 
-/// The workers of two lists work, each over what those of its list share: all of both side by side.
+/// The workers of a list work, and beside them two workers of another kind, each kind over what its own share.
 ///
 /// All have worked when it returns.
-pub fn work_both<R: Threads + Sync, C: Sync, W: Work<C>, D: Sync, V: Work<D>>(
+pub fn work_with_two<R: Threads + Sync, C: Sync, W: Work<C>, D: Sync, V: Work<D>>(
     rt: &R,
     shared: &C,
     all: &mut [W],
     aside: &D,
-    others: &mut [V],
+    one: &mut V,
+    other: &mut V,
 )
     requires all { All (λ w. W.ready w shared.now) all.old }
-    requires others { All (λ v. V.ready v aside.now) others.old }
+    requires one { V.ready one.old aside.now }
+    requires other { V.ready other.old aside.now }
     ensures all { AllZip (λ before after. W.done before shared.now after) all.old all.new }
-    ensures others { AllZip (λ before after. V.done before aside.now after) others.old others.new }
+    ensures one { V.done one.old aside.now one.new }
+    ensures other { V.done other.old aside.now other.new }
 {
-    let mut one = ||
+    let mut list = ||
         requires { IsSync R.row × IsSync C.row × IsSend W.row × All (λ w. W.ready w shared.now) all.now }
         ensures { AllZip (λ before after. W.done before shared.entry.now after) all.entry.now all.exit.now }
     { work_all(rt, shared, all) };
-    let mut other = ||
-        requires { IsSync R.row × IsSync D.row × IsSend V.row × All (λ v. V.ready v aside.now) others.now }
-        ensures { AllZip (λ before after. V.done before aside.entry.now after) others.entry.now others.exit.now }
-    { work_all(rt, aside, others) };
-    join_mut(rt, &mut one, &mut other);
+    let mut two = ||
+        requires { IsSync R.row × IsSync D.row × IsSend V.row × V.ready one.now aside.now × V.ready other.now aside.now }
+        ensures { V.done one.entry.now aside.entry.now one.exit.now × V.done other.entry.now aside.entry.now other.exit.now }
+    { work_two(rt, aside, one, other) };
+    join_mut(rt, &mut list, &mut two);
+}
+
+// Two workers work side by side.
+fn work_two<R: Threads, C: Sync, W: Work<C>>(rt: &R, shared: &C, one: &mut W, other: &mut W)
+    requires one { W.ready one.old shared.now }
+    requires other { W.ready other.old shared.now }
+    ensures one { W.done one.old shared.now one.new }
+    ensures other { W.done other.old shared.now other.new }
+{
+    let mut first = ||
+        requires { IsSync C.row × IsSend W.row × W.ready one.now shared.now }
+        ensures { W.done one.entry.now shared.entry.now one.exit.now }
+    { one.work(shared) };
+    let mut second = ||
+        requires { IsSync C.row × IsSend W.row × W.ready other.now shared.now }
+        ensures { W.done other.entry.now shared.entry.now other.exit.now }
+    { other.work(shared) };
+    join_mut(rt, &mut first, &mut second);
 }
