@@ -15,7 +15,7 @@ use Rattle.call_lines.specs.Lawful.{delivered_cut}
 use Rattle.report_laws.proofs.Lines.{caller_within}
 use Rattle.report_laws.proofs.Fitting.{lines_before_the_last_are_delivered}
 use Rattle.reports.specs.Filling.{answer_in}
-use Rattle.reports.proofs.Filling.{page_of-lines, record_at}
+use Rattle.reports.proofs.Filling.{page_of-lines, delivered_led, record_at}
 use Rattle.certificate_text.proofs.Readings.{one_certificate}
 use Rattle.certificate_text.proofs.ReadTexts.{a_text_is_its_lines}
 use Rattle.report_certificates.specs.Certificates.{delivered_cut_of, IsDeliveredBook}
@@ -40,7 +40,7 @@ delivered_replies_stand_in_the_order init next s operations allotments lines law
     let d = lines_before_the_last_are_delivered (operations_at operations call.caller) (slice_index allotments call.caller) own k l (lawful.allotted call.caller inside) here low in
     subst (λ (end : LineEnd). IsSome (delivered_in end)) (sym d.2) refl in
     let told : record_of (book_of_lines lines) call ≡ Some r =
-    ap (λ (p : Page). slice_get p.records call.number) (page_of-lines lines call.caller) ∙ record_at own led call.number line there ∙ ap answer_in delivered in
+    ap (λ (p : Page). slice_get p.records call.number) (page_of-lines lines call.caller) ∙ record_at own (delivered_led own led) call.number line there ∙ ap answer_in delivered in
     let saw : delivered_at lines call ≡ Some cut = ap (λ (o : Option Line). option_and_then (λ (l : Line). delivered_in l.end) o) there ∙ ap delivered_in delivered in
     let held : Holds (delivered_cut_of lines) call = subst (λ (n : ℕ). Holds (delivered_cut n lines) call) (sym lawful.callers) (lawful.holds call cut saw) in
     legal.answered call r (record_of-part (book_of_lines lines) (delivered_cut_of lines) book at call held ∙ told)

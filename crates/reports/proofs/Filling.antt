@@ -15,8 +15,8 @@ use Rattle.call_lines.specs.declared.line.LineEnd.{LineEnd}
 use Rattle.call_lines.specs.declared.line.LineEnd.TheVariants.{Pending, Unchecked, Delivered, Error}
 use Rattle.call_lines.specs.declared.line.Line.{Line}
 use Rattle.call_lines.specs.Lines.{reached_of, made_of, book_of_lines, lines_at, delivered_in}
-use Rattle.reports.specs.Findings.{sizes, AreDelivered}
-use Rattle.reports.specs.Filling.{answer_in, with_line_of, MayTake, filled_to}
+use Rattle.reports.specs.Findings.{sizes, Findings, IsReport}
+use Rattle.reports.specs.Filling.{answer_in, with_line_of, HaveRecords, AreOfABook, MayTake, filled_to}
 
 -- the page of a caller's lines
 abbrev own_page : List Line → Page
@@ -29,23 +29,43 @@ page_of-lines (own ∷ lines) (suc i) = page_of-lines lines i
 
 -- ---- the record of a line has the line's number
 
--- each line but the last is delivered
+-- each line but the last has its record
 abbrev IsLed : List Line → Type 0
-IsLed own = (k : ℕ) (line : Line) → slice_get own k ≡ Some line → k + 1 < length own → IsSome (delivered_in line.end)
+IsLed own = (k : ℕ) (line : Line) → slice_get own k ≡ Some line → k + 1 < length own → IsSome (answer_in line.end)
 
-led_lines : (lines : List (List Line)) (i : ℕ) → AreDelivered lines → IsLed (lines_at lines i)
-led_lines lines i delivered = λ k line e low. delivered (record { caller = i; number = k }) line e low
+led_lines : (lines : List (List Line)) (i : ℕ) → HaveRecords lines → IsLed (lines_at lines i)
+led_lines lines i answered = λ k line e low. answered (record { caller = i; number = k }) line e low
 
-one_record : (end : LineEnd) → IsSome (delivered_in end) → (r : Record) × (records_of (reached_of end) ≡ r ∷ [])
+-- a delivered line has its record
+delivered_answer : (end : LineEnd) → IsSome (delivered_in end) → IsSome (answer_in end)
+delivered_answer Pending some = absurd cc
+delivered_answer (Unchecked r) some = absurd cc
+delivered_answer (Delivered r cut) some = refl
+delivered_answer (Error r cut) some = absurd cc
+
+pub delivered_led : (own : List Line) → ((k : ℕ) (line : Line) → slice_get own k ≡ Some line → k + 1 < length own → IsSome (delivered_in line.end)) → IsLed own
+delivered_led own led k line e low = delivered_answer line.end (led k line e low)
+
+-- so the lines of a report are those of a book
+pub report_of_a_book : (findings : Findings) → IsReport findings → AreOfABook findings.lines
+report_of_a_book findings h = record {
+  some = h.some;
+  callers = h.callers;
+  calls = h.calls;
+  answered = λ call line e low. delivered_answer line.end (h.delivered call line e low);
+  valid = h.valid;
+}
+
+one_record : (end : LineEnd) → IsSome (answer_in end) → (r : Record) × (records_of (reached_of end) ≡ r ∷ [])
 one_record Pending some = absurd cc
-one_record (Unchecked r) some = absurd cc
+one_record (Unchecked r) some = (r, refl)
 one_record (Delivered r cut) some = (r, refl)
-one_record (Error r cut) some = absurd cc
+one_record (Error r cut) some = (r, refl)
 
-record_behind : (first : Line) (tail : List Record) (k : ℕ) → IsSome (delivered_in first.end) → slice_get (records_of (reached_of first.end) ++ tail) (suc k) ≡ slice_get tail k
+record_behind : (first : Line) (tail : List Record) (k : ℕ) → IsSome (answer_in first.end) → slice_get (records_of (reached_of first.end) ++ tail) (suc k) ≡ slice_get tail k
 record_behind first tail k some = let one = one_record first.end some in ap (λ (rs : List Record). slice_get (rs ++ tail) (suc k)) one.1
 
-record_first : (first : Line) (tail : List Record) → IsSome (delivered_in first.end) → slice_get (records_of (reached_of first.end) ++ tail) 0 ≡ answer_in first.end
+record_first : (first : Line) (tail : List Record) → IsSome (answer_in first.end) → slice_get (records_of (reached_of first.end) ++ tail) 0 ≡ answer_in first.end
 record_first first tail some = let one = one_record first.end some in ap (λ (rs : List Record). slice_get (rs ++ tail) 0) one.1 ∙ sym (ap (λ (rs : List Record). slice_get rs 0) one.1)
 
 pub record_at : (own : List Line) → IsLed own → (k : ℕ) (line : Line) → slice_get own k ≡ Some line → slice_get (own_page own).records k ≡ answer_in line.end
@@ -108,16 +128,16 @@ filling_ends lines n k low all valid =
     let more : book_of_lines (take (n + 1) lines) ≡ done ++ own_page own ∷ [] = ap book_of_lines (take_more lines n [] low) ∙ book-append (take n lines) (own ∷ []) in
     ap (λ (p : Page). done ++ p ∷ later) whole ∙ (sym (append_assoc done (own_page own ∷ []) later) ∙ ap (λ (pages : List Page). pages ++ later) (sym more))
 
-pub filling_more : (lines : List (List Line)) (n k : ℕ) (line : Line) → n < length lines → AreDelivered lines → slice_get (lines_at lines n) k ≡ Some line
+pub filling_more : (lines : List (List Line)) (n k : ℕ) (line : Line) → n < length lines → HaveRecords lines → slice_get (lines_at lines n) k ≡ Some line
     → with_line_of (filling lines n k) (record { caller = n; number = k }) line ≡ filling lines n (k + 1)
-filling_more lines n k line low delivered e =
+filling_more lines n k line low answered e =
     let done : List Page = book_of_lines (take n lines) in
     let own : List Line = lines_at lines n in
     let later : List Page = unanswered_book (sizes (drop (n + 1) lines)) in
     ap (λ (m : ℕ). with_line (filling lines n k) (record { caller = m; number = k }) line.op (answer_in line.end)) (sym (length-front lines n low))
     ∙ with_line-middle done (page_to k (own_page own)) later k line.op (answer_in line.end)
     ∙ ap (λ (p : Page). done ++ p ∷ later)
-    (page_to-more (own_page own) k line.op (answer_in line.end) (operation_at own k line e) (record_at own (led_lines lines n delivered) k line e))
+    (page_to-more (own_page own) k line.op (answer_in line.end) (operation_at own k line e) (record_at own (led_lines lines n answered) k line e))
 
 pub filled_none : (lines : List (List Line)) → unanswered_book (sizes lines) ≡ filled_to 0 lines
 filled_none lines = refl
@@ -200,16 +220,16 @@ calls_of-filling lines n k low =
     ap (λ (p : Page). length p.operations) (page_of-filling lines n k low)
     ∙ (length-operations_to k (own_page (lines_at lines n)).operations ∙ length-own_page (lines_at lines n))
 
-pub may_take : (lines : List (List Line)) (n k : ℕ) (line : Line) → n < length lines → IsValid (book_of_lines lines) → AreDelivered lines → slice_get (lines_at lines n) k ≡ Some line
+pub may_take : (lines : List (List Line)) (n k : ℕ) (line : Line) → n < length lines → IsValid (book_of_lines lines) → HaveRecords lines → slice_get (lines_at lines n) k ≡ Some line
     → MayTake (filling lines n k) (record { caller = n; number = k }) line
-may_take lines n k line low valid delivered e =
+may_take lines n k line low valid answered e =
     let now : List Page = filling lines n k in
     let whole : List Page = book_of_lines lines in
     let call : Call = record { caller = n; number = k } in
     let page : Page = own_page (lines_at lines n) in
     let fronts = filling_is_front lines n k low in
     let in_page : (r : Record) → answer_in line.end ≡ Some r → slice_get page.records k ≡ Some r
-    = λ r is. record_at (lines_at lines n) (led_lines lines n delivered) k line e ∙ is in
+    = λ r is. record_at (lines_at lines n) (led_lines lines n answered) k line e ∙ is in
     let there : (r : Record) → answer_in line.end ≡ Some r → record_of whole call ≡ Some r
     = λ r is. ap (λ (p : Page). slice_get p.records k) (page_of-lines lines n) ∙ in_page r is in
     record {

@@ -1,19 +1,34 @@
--- A book into which lines are put one by one.
-use Rattle.std.specs.Prelude.{◌≡◌, ℕ, List, ◌++◌, length, take, drop, Option, Some, slice_get}
+-- The book of lines, into which they are put one by one.
+use Rattle.std.specs.Prelude.{◌≡◌, ℕ, ◌+◌, ◌<◌, ◌≤◌, List, ◌++◌, length, take, drop, Option, Some, IsSome, slice_get}
 use Rattle.book_base.specs.declared.call.Call.{Call}
 use Rattle.book_base.specs.declared.call.Record.{Record}
-use Rattle.book_base.specs.Book.{Page, unanswered_book}
+use Rattle.book_base.specs.declared.TheConstants.{MAX_CALLERS, MAX_CALLS}
+use Rattle.book_base.specs.Book.{Page, IsValid, unanswered_book}
 use Rattle.book_base.specs.Refusal.{MayAnswer}
+use Rattle.text_fields.specs.Counts.{AreAtMost}
 use Rattle.book_text.specs.CallLines.{with_line}
 use Rattle.world_core.specs.Calls.{records_of}
 use Rattle.call_lines.specs.declared.line.LineEnd.{LineEnd}
 use Rattle.call_lines.specs.declared.line.Line.{Line}
-use Rattle.call_lines.specs.Lines.{reached_of, book_of_lines}
+use Rattle.call_lines.specs.Lines.{reached_of, book_of_lines, lines_at, line_at}
 use Rattle.reports.specs.Findings.{sizes}
 
 -- the record that the end of a line tells, where it tells one
 abbrev pub answer_in : LineEnd → Option Record
 answer_in end = slice_get (records_of (reached_of end)) 0
+
+-- Each line but a caller's last has its record.
+abbrev pub HaveRecords : List (List Line) → Type 0
+HaveRecords lines = (call : Call) (line : Line) → line_at lines call ≡ Some line → call.number + 1 < length (lines_at lines call.caller) → IsSome (answer_in line.end)
+
+-- The lines are those of a book: of no more callers and calls than there may be, each with its record but a caller's last, and their book
+-- is valid.
+pub record AreOfABook (lines : List (List Line)) : Type 0 where
+  pub some : 1 ≤ length lines
+  pub callers : length lines ≤ MAX_CALLERS
+  pub calls : AreAtMost MAX_CALLS (sizes lines)
+  pub answered : HaveRecords lines
+  pub valid : IsValid (book_of_lines lines)
 
 -- the book with what the line of a call says
 abbrev pub with_line_of : List Page → Call → Line → List Page

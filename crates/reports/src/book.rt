@@ -1,13 +1,15 @@
-//! The book of a report: the calls and the records of its lines.
+//! The book of lines: their calls and their records.
 
-ghost use Rattle.std.specs.Prelude.{◌≡◌, ◌+◌, ◌<◌, length, IfOk, OnOk};
+ghost use Rattle.std.specs.Prelude.{◌≡◌, ◌+◌, ◌<◌, ◌≤◌, length, IfOk, OnOk};
+ghost use Rattle.book_base.specs.declared.TheConstants.{MAX_CALLERS};
 ghost use Rattle.book_base.specs.Book.{IsCall, with_answer};
 ghost use Rattle.book_base.specs.Refusal.{MayAnswer};
-ghost use Rattle.call_lines.specs.Lines.{book_of_lines};
+ghost use Rattle.call_lines.specs.Lines.{book_of_lines, lines_at};
 ghost use Rattle.reports.specs.Findings.{sizes, IsReport};
-ghost use Rattle.reports.specs.Filling.{answer_in, with_line_of, MayTake, filled_to};
+ghost use Rattle.reports.specs.ReportLayout.{lines_in};
+ghost use Rattle.reports.specs.Filling.{answer_in, with_line_of, AreOfABook, MayTake, filled_to};
 
-use crate::report::Report;
+use crate::report::{Own, Report};
 use book_base::{Book, BookFault, Call, Cut, NoMemory, Record};
 use call_lines::{Line, LineEnd};
 use std::alloc::Global;
@@ -18,37 +20,67 @@ impl Report {
         ensures counts { result ≡ sizes self.now.lines }
         ensures report { IsReport self.now }
     {
-        let mut counts = Cut::zero(self.callers());
-        for caller in 0..self.callers() {
-            counts.set(caller, self.lines(caller));
-        }
-        counts
+        sizes_of(self.all())
     }
 
     /// The book of its lines: their calls, and the records of those that have one.
     pub fn book(&self, alloc: Global) -> Result<Book, NoMemory>
         ensures { IfOk result (λ book. book ≡ book_of_lines self.now.lines) }
     {
-        let mut book = Book::with_calls(alloc, &self.sizes())?;
-        for caller in 0..self.callers() {
-            self.put_caller(&mut book, caller)?;
-        }
-        Ok(book)
+        book_of(alloc, self.all())
     }
+}
 
-    /// Puts in the lines of a caller, behind those of all callers before it.
-    fn put_caller(&self, book: &mut Book, caller: u32) -> Result<(), NoMemory>
-        requires report { IsReport self.now }
-        requires caller { caller < length self.now.lines }
-        requires filled { book.old ≡ filled_to caller self.now.lines }
-        ensures { OnOk result (book.new ≡ filled_to (caller + 1) self.now.lines) }
-    {
-        for number in 0..self.lines(caller) {
-            let call = Call { caller, number };
-            put_line(book, call, self.line(call))?;
-        }
-        Ok(())
+/// How many lines each caller has.
+fn sizes_of(callers: &[Own]) -> Cut
+    requires some { 1 ≤ length callers.now }
+    requires few { length callers.now ≤ MAX_CALLERS }
+    ensures { result ≡ sizes (lines_in callers.now) }
+{
+    let count = callers.len() as u32;
+    let mut counts = Cut::zero(count);
+    for caller in 0..count {
+        counts.set(caller, callers[caller as usize].lines.len() as u64);
     }
+    counts
+}
+
+/// The book of lines, each caller's by number: their calls, and the records of those that have one.
+///
+/// There are no more callers and calls than a book may have, and each line has its record, but for a
+/// caller's last, which may have none.
+pub fn book_of(alloc: Global, callers: &[Own]) -> Result<Book, NoMemory>
+    requires { AreOfABook (lines_in callers.now) }
+    ensures { IfOk result (λ book. book ≡ book_of_lines (lines_in callers.now)) }
+{
+    let mut book = Book::with_calls(alloc, &sizes_of(callers))?;
+    for caller in 0..callers.len() as u32 {
+        put_caller(&mut book, callers, caller)?;
+    }
+    Ok(book)
+}
+
+/// The lines of a caller, by number.
+fn lines_of(callers: &[Own], i: u32) -> &[Line]
+    requires { i < length callers.now }
+    ensures { result.now ≡ lines_at (lines_in callers.now) i }
+{
+    &callers[i as usize].lines
+}
+
+/// Puts in the lines of a caller, after those of all callers before it.
+fn put_caller(book: &mut Book, callers: &[Own], caller: u32) -> Result<(), NoMemory>
+    requires lines { AreOfABook (lines_in callers.now) }
+    requires caller { caller < length callers.now }
+    requires filled { book.old ≡ filled_to caller (lines_in callers.now) }
+    ensures { OnOk result (book.new ≡ filled_to (caller + 1) (lines_in callers.now)) }
+{
+    let own = lines_of(callers, caller);
+    for number in 0..own.len() as u64 {
+        let call = Call { caller, number };
+        put_line(book, call, &own[number as usize])?;
+    }
+    Ok(())
 }
 
 /// Puts in the line of a call.

@@ -8,5 +8,6 @@ pub mod laws;
 mod report;
 mod witness;
 
+pub use book::book_of;
 pub use counts::Counts;
 pub use report::{Own, Report};

@@ -2,7 +2,7 @@ ghost use Rattle.std.specs.Prelude.{◌≡◌, ◌<◌, length, Some};
 ghost use Rattle.std.specs.List.{list_any};
 ghost use Rattle.call_lines.specs.Lines.{lines_at, line_at, any_error};
 ghost use Rattle.reports.specs.Findings.{IsReport, HasLine};
-ghost use Rattle.reports.specs.ReportLayout.{findings_in};
+ghost use Rattle.reports.specs.ReportLayout.{lines_in, findings_in};
 
 use book_base::Call;
 use call_lines::{Line, LineEnd};
@@ -75,6 +75,14 @@ impl Report {
         ensures { line_at self.now.lines call ≡ Some result.now }
     {
         &self.lines_of(call.caller)[call.number as usize]
+    }
+
+    /// The lines of all callers, by caller.
+    pub(crate) fn all(&self) -> &[Own]
+        ensures lines { lines_in result.now ≡ self.now.lines }
+        ensures report { IsReport self.now }
+    {
+        &self.callers
     }
 
     /// The lines of a caller, by number.
