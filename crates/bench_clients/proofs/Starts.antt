@@ -16,7 +16,8 @@ use Rattle.row_table.specs.declared.rows.Rows.{Rows}
 use Rattle.row_table.specs.declared.bench.Bench.{Bench}
 use Rattle.row_table.specs.Callers.{local_with, stance_of, who_of, on_bench, stance_on, IsCallerOf}
 use Rattle.row_gather.specs.Gathered.{IsGatheredBy}
-use Rattle.client_scripts.specs.Plans.{Plan, IsPlan, AreStops, sizes}
+use Rattle.text_fields.specs.Counts.{AreAtMost}
+use Rattle.client_scripts.specs.Plans.{Plan, AreStops, sizes}
 use Rattle.call_phases.specs.declared.stand.Stand.TheVariants.{Idle}
 use Rattle.call_phases.specs.Ends.{Sequential}
 use Rattle.call_phases.specs.Asking.{Fits, PassCount, FitsCaller}
@@ -24,7 +25,6 @@ use Rattle.call_phases.specs.Course.{HasCome, HasTold, HasAskedFor, HasCounted, 
 use Rattle.call_phases.proofs.Told.{if_some_as}
 use Rattle.call_phases.specs.declared.sheet.Sheet.{Sheet}
 use Rattle.call_phases.specs.declared.client.Client.{Client}
-use Rattle.text_fields.specs.declared.version.Version.TheVariants.{Second}
 use Rattle.bench_clients.specs.Work.{Says}
 use Rattle.bench_clients.specs.Starts.{Course, course_of, HaveRoomFor, IsFresh, IsUnused, HoldsBelow, IsRoomFor, IsNewCount, IsFreshPass, IsStart}
 
@@ -100,11 +100,11 @@ pub allotment_at : (operations : List (List ℕ)) (stops : List (Option ℕ)) (i
 allotment_at operations stops i low =
     get_or-map-range_with_len (λ i. phases_for (stop_at stops i) (length (operations_at operations i))) 0 (length operations) i i 0 low (omega arith)
 
-pub phases_to_stop : (stops : List (Option ℕ)) (i calls stop : ℕ) → slice_index_or stops i None ≡ Some stop → phases_for (stop_at stops i) calls ≡ stop
-phases_to_stop stops i calls stop is = ap (λ (s : Option ℕ). phases_for s calls) is
-
-pub phases_of_all : (stops : List (Option ℕ)) (i calls : ℕ) → slice_index_or stops i None ≡ None → phases_for (stop_at stops i) calls ≡ 5 * calls
-phases_of_all stops i calls is = ap (λ (s : Option ℕ). phases_for s calls) is
+-- no caller has more operations than there may be
+pub operations_within : (most : ℕ) (operations : List (List ℕ)) (i : ℕ) → AreAtMost most (sizes operations) → length (operations_at operations i) ≤ most
+operations_within most [] i h = omega arith
+operations_within most (ops ∷ operations) zero h = h.0
+operations_within most (ops ∷ operations) (suc i) h = operations_within most operations i h.1
 
 -- no stop is behind all phases
 pub stops_within : (operations : List (List ℕ)) (stops : List (Option ℕ)) (i : ℕ) → AreStops (sizes operations) stops
@@ -134,12 +134,12 @@ fresh_fits meaning r fits pass c caller fresh h =
 -- the worker of a fresh caller
 module _ {P T E : Type 0} (meaning : P → ℕ → ℕ → Meaning) (r : Rows P) (says : Says) (object : E → Sequential) (fits : Fits T) (count : T → Option PassCount) (course : Course) (plan : Plan) where
   pub fresh_start : (c : Caller P) (pass : T) (sheet : Sheet E) (kept : ∥ IsGatheredBy (local_with c) sheet.gathered ∥₁) (allotment : ℕ)
-      → course ≡ course_of plan (allotments_of plan.operations plan.stops) course.object → HaveRoomFor plan r → IsPlan Second plan
-      → IsCallerOf meaning r c → IsFresh c → IsFreshPass r fits count plan.operations (who_of c) pass → who_of c < length plan.operations
+      → course ≡ course_of plan (allotments_of plan.operations plan.stops) course.object → HaveRoomFor plan r
+      → IsCallerOf meaning r c → IsFresh c → IsFreshPass r fits count plan.operations (who_of c) pass
       → sheet.who ≡ who_of c → sheet.operations.now ≡ operations_at plan.operations (who_of c) → IsRoomFor plan.operations (who_of c) (record { lines = sheet.lines }) → object sheet.ending ≡ course.object
-      → allotment ≡ phases_for (stop_at plan.stops (who_of c)) (length (operations_at plan.operations (who_of c)))
+      → allotment ≡ slice_index (allotments_of plan.operations plan.stops) (who_of c) → allotment ≤ 5 * length (operations_at plan.operations (who_of c))
       → IsStart meaning r says object fits count course (who_of c) (record { client = Some (record { stand = Idle c; pass = pass; sheet = sheet; kept = kept }); allotment = allotment })
-  fresh_start c pass sheet kept allotment is rows valid caller fresh free low who operations empty judges phases =
+  fresh_start c pass sheet kept allotment is rows caller fresh free who operations empty judges phases within =
       let ops : operations_at course.operations (who_of c) ≡ operations_at plan.operations (who_of c) = ap (λ (k : Course). operations_at k.operations (who_of c)) is in
       let client : Client P T E = record { stand = Idle c; pass = pass; sheet = sheet; kept = kept } in
       let few : length sheet.operations.now ≡ length (operations_at plan.operations (who_of c)) = ap (λ (o : List ℕ). length o) operations in
@@ -166,6 +166,6 @@ module _ {P T E : Type 0} (meaning : P → ℕ → ℕ → Meaning) (r : Rows P)
         };
         goes = tt;
         none = ap (λ (o : List Line). 5 * length o + 0) empty.none;
-        allotment = phases ∙ sym (allotment_at plan.operations plan.stops (who_of c) low) ∙ sym (ap (λ (k : Course). slice_index k.allotments (who_of c)) is);
-        within = omega (arith, few, phases, stops_within plan.operations plan.stops (who_of c) valid.stops);
+        allotment = phases ∙ sym (ap (λ (k : Course). slice_index k.allotments (who_of c)) is);
+        within = omega (arith, few, within);
       }

@@ -55,7 +55,7 @@ fn bring_back<'a, P: Program, T, E: Ending + Drop, A: Asks<Program = P, Pass = T
 
 /// Finishes the clients of all workers, whose callers come back to their bench with their passes
 /// and lines, in order. Whether memory was wanted.
-pub(crate) fn end_all<'a, P: Program, T, E: Ending + Drop, A: Asks<Program = P, Pass = T>>(
+pub fn end_all<'a, P: Program, T, E: Ending + Drop, A: Asks<Program = P, Pass = T>>(
     shared: &Shared<A, P>,
     script: &Script,
     mut workers: Vec<Worker<'a, P, T, E>>,

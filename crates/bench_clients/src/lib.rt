@@ -8,6 +8,8 @@ mod start;
 mod turns;
 mod worker;
 
-pub use run::run_all;
+pub use end::end_all;
+pub use run::{make_room, run_all};
+pub use start::{allotment_of, start_all};
 pub use turns::replay_all;
 pub use worker::Worker;

@@ -21,8 +21,8 @@ use std::thread::Threads;
 use work_halves::work_all;
 use world_core::Program;
 
-// An empty list of lines for each caller, with room for one of each of its operations.
-pub(crate) fn make_room(alloc: Global, script: &Script) -> Result<Vec<Own>, NoMemory>
+/// An empty list of lines for each caller, with room for one of each of its operations.
+pub fn make_room(alloc: Global, script: &Script) -> Result<Vec<Own>, NoMemory>
     ensures all { IfOk result (λ room. vec_len room ≡ length script.now.operations) }
     ensures room { IfOk result (λ room. AreInOrder (IsRoomFor script.now.operations) room.items) }
 {

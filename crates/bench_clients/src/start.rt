@@ -1,7 +1,7 @@
-ghost use Rattle.std.specs.Prelude.{◌≡◌, ℕ, ◌<◌, ◌≤◌, [], None, length, vec_len, vec_capacity};
+ghost use Rattle.std.specs.Prelude.{◌≡◌, ℕ, ◌*◌, ◌<◌, ◌≤◌, [], None, length, slice_index, vec_len, vec_capacity};
 ghost use Rattle.std.specs.List.{All};
 ghost use Rattle.row_table.specs.Callers.{IsBenchOf, IsCallerOf, who_of, on_bench};
-ghost use Rattle.call_lines.specs.Allotments.{allotments_of};
+ghost use Rattle.call_lines.specs.Allotments.{operations_at, allotments_of};
 ghost use Rattle.text_fields.specs.declared.version.Version.TheVariants.{Second};
 ghost use Rattle.client_scripts.specs.Plans.{IsPlan};
 ghost use Rattle.bench_clients.specs.Places.{AreDownFrom, AreInOrder};
@@ -13,6 +13,20 @@ use client_scripts::{PHASES, Script};
 use reports::Own;
 use row_table::{Bench, Caller};
 use world_core::Program;
+
+/// How many phases a script gives a caller: those up to its stop, where it has one, and else all five of
+/// each call.
+pub fn allotment_of(script: &Script, who: u32) -> u64
+    requires plan { IsPlan Second script.now }
+    requires who { who < length script.now.operations }
+    ensures allotment { result ≡ slice_index (allotments_of script.now.operations script.now.stops) who }
+    ensures within { result ≤ 5 * length (operations_at script.now.operations who) }
+{
+    match script.stop(who) {
+        Some(stop) => stop,
+        None => PHASES * script.calls(who),
+    }
+}
 
 // The worker of a caller that is off its bench and has made no call, for the phases up to its stop.
 fn begin<'a, P: Program, T, E: Ending, A: Asks<Program = P, Pass = T>>(
@@ -40,10 +54,7 @@ fn begin<'a, P: Program, T, E: Ending, A: Asks<Program = P, Pass = T>>(
 {
     let who = caller.who();
     let operations = script.operations(who);
-    let allotment = match script.stop(who) {
-        Some(stop) => stop,
-        None => PHASES * script.calls(who),
-    };
+    let allotment = allotment_of(script, who);
     let Own { lines } = own;
     let sheet = Sheet {
         who,
@@ -67,7 +78,7 @@ fn begin<'a, P: Program, T, E: Ending, A: Asks<Program = P, Pass = T>>(
 /// up to its stop.
 ///
 /// The passes, the empty lists of lines and the endings are the callers', in order.
-pub(crate) fn start_all<'a, P: Program, T, E: Ending, A: Asks<Program = P, Pass = T>>(
+pub fn start_all<'a, P: Program, T, E: Ending, A: Asks<Program = P, Pass = T>>(
     shared: &Shared<A, P>,
     bench: &mut Bench<P>,
     passes: &mut Vec<T>,

@@ -26,7 +26,7 @@ use Rattle.call_lines.specs.Phases.{operations_of}
 use Rattle.call_lines.specs.Allotments.{operations_at}
 use Rattle.call_lines.specs.Lawful.{IsLawful}
 use Rattle.report_laws.proofs.Fitting.{seen_cuts_are_in_the_book, lines_before_the_last_are_delivered}
-use Rattle.client_scripts.specs.Plans as plans
+use Rattle.bench_clients.proofs.Starts.{operations_within}
 use Rattle.client_scripts.specs.Plans.{Plan, IsPlan}
 use Rattle.reports.specs.Findings.{IsReport, sizes}
 use Rattle.run_report.specs.Replies.{HasWord}
@@ -37,15 +37,9 @@ all_callers Holds [] each = tt
 all_callers Holds (own ∷ lines) each = (each 0 (omega arith), all_callers Holds lines (λ i low. each (suc i) (omega (arith, low))))
 
 -- no caller has more lines than there may be
-at_most : (most : ℕ) (lines : List (List Line)) → ((i : ℕ) → i < length lines → length (lines_at lines i) ≤ most) → AreAtMost most (sizes lines)
+pub at_most : (most : ℕ) (lines : List (List Line)) → ((i : ℕ) → i < length lines → length (lines_at lines i) ≤ most) → AreAtMost most (sizes lines)
 at_most most [] each = tt
 at_most most (own ∷ lines) each = (each 0 (omega arith), at_most most lines (λ i low. each (suc i) (omega (arith, low))))
-
--- nor operations
-operations_within : (most : ℕ) (operations : List (List ℕ)) (i : ℕ) → AreAtMost most (plans.sizes operations) → length (operations_at operations i) ≤ most
-operations_within most [] i h = omega arith
-operations_within most (ops ∷ operations) zero h = h.0
-operations_within most (ops ∷ operations) (suc i) h = operations_within most operations i h.1
 
 words_at : (Is : ℕ → Type 0) (operations : List (List ℕ)) (i : ℕ) → AllByRecursion (AllByRecursion Is) operations → AllByRecursion Is (operations_at operations i)
 words_at Is [] i h = tt
@@ -98,7 +92,7 @@ words_of_all (own ∷ lines) h =
     (all_by (λ (line : Line). HasWord line.end) own.lines.items (All-head each own lines h), words_of_all lines (All-tail each own lines h))
 
 -- behind the last caller there are no lines
-none_behind : (lines : List (List Line)) (i : ℕ) → length lines ≤ i → lines_at lines i ≡ []
+pub none_behind : (lines : List (List Line)) (i : ℕ) → length lines ≤ i → lines_at lines i ≡ []
 none_behind [] i high = refl
 none_behind (own ∷ lines) zero high = absurd (omega (arith, high))
 none_behind (own ∷ lines) (suc i) high = none_behind lines i (omega (arith, high))

@@ -32,13 +32,13 @@ use Rattle.run_report.specs.Passes.{IsOwnPass, IsUnusedPass}
 use Rattle.bench_clients.specs.Returns.{IsCountOf, IsBack, AreBack, IsBackOn}
 
 -- the local of a view at a caller that it has
-the_local : (v : View) (i : ℕ) (l : Local) → has v i ≡ Some l → slice_index_or (map the v) i fresh ≡ l
+pub the_local : (v : View) (i : ℕ) (l : Local) → has v i ≡ Some l → slice_index_or (map the v) i fresh ≡ l
 the_local [] i l here = absurd (none-some l here)
 the_local (x ∷ v) zero l here = ap the here
 the_local (x ∷ v) (suc i) l here = the_local v i l here
 
 -- the lines at a caller
-lines_here : (lines : List (List Line)) (i : ℕ) (own : List Line) → slice_get lines i ≡ Some own → lines_at lines i ≡ own
+pub lines_here : (lines : List (List Line)) (i : ℕ) (own : List Line) → slice_get lines i ≡ Some own → lines_at lines i ≡ own
 lines_here [] i own here = absurd (none-some own here)
 lines_here (x ∷ lines) zero own here = same_Some x own here
 lines_here (x ∷ lines) (suc i) own here = lines_here lines i own here

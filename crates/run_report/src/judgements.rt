@@ -36,8 +36,8 @@ pub(crate) fn make_judgements<'a, S: SeqObject>(
     Ok(endings)
 }
 
-// Passes with which no call was made tell of none.
-pub(crate) fn passes_are_fresh<B: BlackBox>(
+/// Passes with which no call was made tell of none.
+pub fn passes_are_fresh<B: BlackBox>(
     _rows: &Rows,
     _object: &B,
     _passes: &Vec<B::Pass>,

@@ -9,5 +9,6 @@ mod report;
 mod run;
 
 pub use asked::run_asked;
+pub use judgements::passes_are_fresh;
 pub use replay::replay_over;
 pub use run::run_over;
