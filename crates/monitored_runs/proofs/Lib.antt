@@ -1,2 +1,4 @@
 pub mod Deferred
 pub mod AllPublished
+pub mod Monitoring
+pub mod Watching

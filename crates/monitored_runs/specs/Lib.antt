@@ -1,2 +1,3 @@
 pub mod Deferred
 pub mod Published
+pub mod Monitoring

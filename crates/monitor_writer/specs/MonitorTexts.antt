@@ -1,0 +1,39 @@
+-- What is written of a run that two monitors watched.
+use Rattle.std.specs.Prelude.{◌≡◌, ℕ, List, ◌++◌, codes, Option, Some, None}
+use Rattle.book_base.specs.Order.{HasLegalOrder}
+use Rattle.book_text.specs.Grammar.{IsWrittenText}
+use Rattle.seq_objects.specs.declared.kind.Kind.{Kind}
+use Rattle.seq_objects.specs.Objects.{kind_init, kind_next}
+use Rattle.text_fields.specs.declared.version.Version.TheVariants.{Second}
+use Rattle.world_core.specs.Local.{Local}
+use Rattle.monitor.specs.declared.witness.Witness.{Witness}
+use Rattle.monitor.specs.Worlds.{published_book, IsWitnessOf}
+use Rattle.byte_streams.specs.declared.status.Status.{Status}
+use Rattle.byte_streams.specs.declared.status.Status.TheVariants.{Fine, Found}
+
+-- the text of an answer: that there is no witness, or that there is one, and behind it the text of its book
+abbrev pub IsAnswerText : Kind → Option Witness → List ℕ → Type 0
+IsAnswerText kind None text = text ≡ codes "legal\n"
+IsAnswerText kind (Some w) text = (shown : List ℕ) × IsWrittenText Second shown kind w.book × (text ≡ codes "illegal\n" ++ shown)
+
+-- the status that comes with an answer: whether there is a witness
+abbrev pub status_of : Option Witness → Status
+status_of None = Fine
+status_of (Some w) = Found
+
+-- the output of an answer: a status and a text
+abbrev pub IsAnswerOutput : Kind → Option Witness → Status → List ℕ → Type 0
+IsAnswerOutput kind answer status text = IsAnswerText kind answer text × (status ≡ status_of answer)
+
+-- The book of all records that these callers have published has a legal order, for this kind.
+abbrev pub IsLegalRun : Kind → List Local → Type 0
+IsLegalRun kind locals = HasLegalOrder (kind_init kind) (kind_next kind) (published_book locals)
+
+-- What is written of these callers' calls, with a status: that the book of all published records has a legal order; or that it has none,
+-- and behind it the text of the book of a witness.
+abbrev pub IsMonitorText : Kind → List Local → Status → List ℕ → Type 0
+IsMonitorText kind locals Fine text = IsLegalRun kind locals × (text ≡ codes "legal\n")
+IsMonitorText kind locals Found text =
+    (¬ IsLegalRun kind locals)
+    × (w : Witness) × IsWitnessOf (kind_init kind) (kind_next kind) locals w × (shown : List ℕ) × IsWrittenText Second shown kind w.book × (text ≡ codes "illegal\n" ++ shown)
+IsMonitorText kind locals _ text = ⊥

@@ -1,0 +1,242 @@
+-- What the callers of a plan leave whose calls nobody judged, and the two monitors beside them.
+use Rattle.std.proofs.Common.{◌≡◌, ◌∙◌, refl, sym, ap, ap₂, subst, inl, inr, ℕ, zero, suc, ◌+◌, ◌<◌, ◌≤◌, ◌%◌, ◌/◌, false, List, [], ◌∷◌, ◌++◌, length, map, take, drop, replicate, slice_get, slice_index, Some, arith}
+use Rattle.std.specs.Prelude.{Option, IfSome, IsSome}
+use Rattle.std.specs.List.{range_with_len}
+use Rattle.std.proofs.lemmas.List.FromFn.{length-range_with_len}
+use Rattle.std.proofs.lemmas.Bool.{cases_lt}
+use Rattle.std.proofs.lemmas.List.{length-map, length-take, length-append}
+use Rattle.std.proofs.lemmas.Option.{none-some, same_Some, slice_get_within}
+use Rattle.book_base.specs.declared.TheConstants.{MAX_CALLS}
+use Rattle.book_base.specs.Cut.{IsWithin}
+use Rattle.book_base.specs.Book.{Page, IsValid, answered}
+use Rattle.world_core.specs.Shape.{Meaning}
+use Rattle.world_core.specs.Local.{Local}
+use Rattle.world_core.specs.Calls.{Reached, Is_announced, Has_record, Has_seen, Made, AreTogether, page_with, calls_in, book_in, local_at}
+use Rattle.world_books.proofs.Validity.{books_are_valid}
+use Rattle.call_lines.specs.declared.line.LineEnd.{LineEnd}
+use Rattle.call_lines.specs.declared.line.Line.{Line}
+use Rattle.call_lines.specs.Lines.{book_of_lines, lines_at}
+use Rattle.call_lines.specs.Phases.{Mark, Seen, Progress, HasMade, IsTold, mark_of, mark_under_way, marks_of, marks_after, published_by, progress_of, asked}
+use Rattle.call_lines.specs.Allotments.{operations_at, stop_at, phases_for}
+use Rattle.report_laws.proofs.Stepping.{length-marks_after}
+use Rattle.row_table.specs.declared.rows.Rows.{Rows}
+use Rattle.row_table.specs.declared.bench.Bench.{Bench}
+use Rattle.row_table.specs.Callers.{shape_of, locals_on, on_bench, IsBenchOf, Holds}
+use Rattle.row_table.proofs.Parting.{whole_is_together}
+use Rattle.client_scripts.specs.Plans.{Plan, IsPlan}
+use Rattle.text_fields.specs.declared.version.Version.TheVariants.{Second}
+use Rattle.reports.specs.Filling.{answer_in, AreOfABook}
+use Rattle.call_phases.specs.Asking.{Fits, PassCount}
+use Rattle.call_phases.specs.Ends.{Sequential, silent, SaysDeferred, EndsAs, AreLinesOfCalls}
+use Rattle.call_phases.proofs.Told.{if_some_as}
+use Rattle.bench_clients.specs.Places.{AreInOrder}
+use Rattle.bench_clients.specs.Starts.{course_of, IsUnused}
+use Rattle.bench_clients.specs.Returns.{IsCountOf, IsBack, AreBack}
+use Rattle.bench_clients.proofs.Places.{as_long}
+use Rattle.run_report.proofs.Workers.{the_local, lines_here}
+use Rattle.run_report.proofs.Reports.{at_most, none_behind}
+use Rattle.monitor.specs.declared.witness.Witness.{Witness}
+use Rattle.monitor.specs.Rounds.{HasMadeRounds}
+use Rattle.monitor.specs.Worlds.{published_of, IsWitnessOf}
+use Rattle.monitor.proofs.Judged.{rounds_are_judged, own_is_a_witness}
+use Rattle.monitored_runs.specs.Deferred.{HavePage, HasDeferred, HavePages}
+use Rattle.monitored_runs.specs.Published.{IsJudgedAt, IsExactAnswer}
+use Rattle.monitored_runs.specs.Monitoring.{allotments_in, published_for, most_rounds, IsMonitor, AreRowsBeside, HaveMadeAll, IsCountedAll, HasMonitored, HasWatched}
+use Rattle.monitored_runs.proofs.Deferred.{deferring_clients_make_all, lines_are_the_book}
+use Rattle.monitored_runs.proofs.AllPublished.{published_records_are_in_the_book, answers_are_exact}
+
+-- a caller without lines more is no caller more
+none_more : (lines : List (List Line)) (i : ℕ) → lines_at (lines ++ [] ∷ []) i ≡ lines_at lines i
+none_more [] zero = refl
+none_more [] (suc i) = refl
+none_more (own ∷ lines) zero = refl
+none_more (own ∷ lines) (suc i) = none_more lines i
+
+-- the lines of a plan's callers, with those of the two monitors
+abbrev pub with_monitors : List (List Line) → List (List Line)
+with_monitors lines = (lines ++ [] ∷ []) ++ [] ∷ []
+
+two_more : (lines : List (List Line)) (i : ℕ) → lines_at (with_monitors lines) i ≡ lines_at lines i
+two_more lines i = none_more (lines ++ [] ∷ []) i ∙ none_more lines i
+
+-- the line of a call with a seen cut has its record
+recorded : (object : Sequential) (n : ℕ) (l : Local) (reached : Reached) (end : LineEnd) → EndsAs (SaysDeferred object n l) reached end → mark_of reached ≡ Seen → IsSome (answer_in end)
+recorded object n l Is_announced end h e = absurd cc
+recorded object n l (Has_record r) end h e = absurd cc
+recorded object n l (Has_seen r cut) end h e = subst (λ (x : LineEnd). IsSome (answer_in x)) (sym h) refl
+
+-- so have the lines of the first calls
+answered_to : (object : Sequential) (n : ℕ) (l : Local) (calls : List Made) (own : List Line) (m : ℕ) (rest : List Mark) → AreLinesOfCalls (SaysDeferred object n l) calls own
+    → marks_of calls ≡ replicate m Seen ++ rest → (k : ℕ) (line : Line) → slice_get own k ≡ Some line → k < m → IsSome (answer_in line.end)
+answered_to object n l calls [] m rest h e k line there low = absurd (none-some line there)
+answered_to object n l [] (x ∷ own) m rest h e k line there low = absurd h
+answered_to object n l (c ∷ calls) (x ∷ own) zero rest h e k line there low = absurd (omega (arith, low))
+answered_to object n l (c ∷ calls) (x ∷ own) (suc m) rest h e zero line there low =
+    subst (λ (y : Line). IsSome (answer_in y.end)) (same_Some x line there)
+    (recorded object n l c.reached x.end h.0.end (same_Some (mark_of c.reached) Seen (ap (λ (ms : List Mark). slice_get ms 0) e)))
+answered_to object n l (c ∷ calls) (x ∷ own) (suc m) rest h e (suc k) line there low =
+    answered_to object n l calls own m rest h.1 (ap (λ (ms : List Mark). drop 1 ms) e) k line there (omega (arith, low))
+
+-- each line but the last has its record
+all_but_last : (object : Sequential) (n : ℕ) (operations : List ℕ) (p : ℕ) (l : Local) (own : List Line) → AreLinesOfCalls (SaysDeferred object n l) (calls_in l) own → HasMade operations p l
+    → (k : ℕ) (line : Line) → slice_get own k ≡ Some line → k + 1 < length own → IsSome (answer_in line.end)
+all_but_last object n operations p l own lines made k line there low =
+    let long : length own ≡ length (marks_after p) =
+    as_long _ (calls_in l) own lines ∙ sym (length-map (calls_in l) (λ (c : Made). mark_of c.reached)) ∙ ap (λ (ms : List Mark). length ms) made.marks in
+    answered_to object n l (calls_in l) own (p / 5) (mark_under_way (p % 5)) lines made.marks k line there (omega (arith, low, long, length-marks_after p))
+
+-- there are no more lines than operations
+no_more_lines : (object : Sequential) (n : ℕ) (operations : List ℕ) (p : ℕ) (l : Local) (own : List Line) → AreLinesOfCalls (SaysDeferred object n l) (calls_in l) own → HasMade operations p l
+    → length own ≤ length operations
+no_more_lines object n operations p l own lines made =
+    omega (arith, as_long _ (calls_in l) own lines, sym (length-map (calls_in l) (λ (c : Made). c.operation)), ap (λ (os : List ℕ). length os) made.in_order, length-take ((p + 4) / 5) operations)
+
+-- what a list of callers has published, of whom the last two have published nothing
+same_published : (locals : List Local) (allotments : List ℕ) → length locals ≡ length allotments + 2
+    → ((i : ℕ) → i < length allotments → (local_at locals i).published ≡ published_by (slice_index allotments i))
+    → ((i : ℕ) → length allotments ≤ i → i < length allotments + 2 → (local_at locals i).published ≡ 0)
+    → published_of locals ≡ map published_by allotments ++ 0 ∷ 0 ∷ []
+same_published [] allotments long made none = absurd (omega (arith, long))
+same_published (l ∷ []) [] long made none = absurd (omega (arith, long))
+same_published (l ∷ m ∷ []) [] long made none = ap₂ (λ (x y : ℕ). x ∷ y ∷ []) (none 0 (omega arith) (omega arith)) (none 1 (omega arith) (omega arith))
+same_published (l ∷ m ∷ k ∷ locals) [] long made none = absurd (omega (arith, long))
+same_published (l ∷ locals) (a ∷ allotments) long made none =
+    ap₂ (λ (x : ℕ) (xs : List ℕ). x ∷ xs) (made 0 (omega arith))
+    (same_published locals allotments (omega (arith, long)) (λ i low. made (suc i) (omega (arith, low))) (λ i high low. none (suc i) (omega (arith, high)) (omega (arith, low))))
+
+module _ {P T : Type 0} (meaning : P → ℕ → ℕ → Meaning) (r : Rows P) (b : Bench P) (plan : Plan) (fit : Fits T) (count : T → Option PassCount) (passes : List T) (lines : List (List Line))
+    (valid : IsPlan Second plan) (rows : AreRowsBeside plan r) (bench : IsBenchOf meaning r b)
+    (back : AreBack meaning r SaysDeferred fit count (length plan.operations) (length plan.operations) (course_of plan (allotments_in plan) silent) b passes lines false)
+    (long : length lines ≡ length plan.operations) (unused : (i : ℕ) → IsMonitor plan i → IsUnused b i) where
+  abbrev n : ℕ
+  n = length plan.operations
+
+  abbrev locals : List Local
+  locals = locals_on b
+
+  holds : (i : ℕ) → i < r.callers → Holds b i
+  holds i low =
+      elim (cases_lt i n) [
+        | inl within ↦ let h = back.back i within in (h.local, h.here)
+        | inr after ↦ let h = unused i (record { after = after; before = omega (arith, low, rows.callers) }) in (h.local, h.here)
+      ]
+
+  together : AreTogether (shape_of meaning r) locals
+  together = whole_is_together (shape_of meaning r) b.seat.me.0 bench.wide holds bench.together
+
+  as_many : length locals ≡ n + 2
+  as_many = length-map b.seat.me.0 _ ∙ bench.wide ∙ rows.callers
+
+  local_is : (i : ℕ) (l : Local) → on_bench b i ≡ Some l → local_at locals i ≡ l
+  local_is i l here = the_local b.seat.me.0 i l here
+
+  own_is : (i : ℕ) (low : i < n) → lines_at lines i ≡ (back.back i low).own
+  own_is i low = lines_here lines i (back.back i low).own (back.back i low).lines_here
+
+  -- what a caller of the plan has left
+  deferred : (i : ℕ) (low : i < n)
+      → HasDeferred (operations_at plan.operations i) (slice_index (allotments_in plan) i) (back.back i low).phases (back.back i low).local (back.back i low).own
+  deferred i low =
+      let h = back.back i low in
+      deferring_clients_make_all silent r.callers (operations_at plan.operations i) (slice_index (allotments_in plan) i) h.phases h.local h.own (h.left refl)
+
+  pub made_all : HaveMadeAll plan locals
+  made_all = record {
+    callers = as_many;
+    made = λ i low.
+        let h = back.back i low in
+        subst (λ (l : Local). HasMade (operations_at plan.operations i) (slice_index (allotments_in plan) i) l) (sym (local_is i h.local h.here)) (deferred i low).made;
+    none = λ i one. let h = unused i one in ap progress_of (local_is i h.local h.here) ∙ h.none;
+  }
+
+  pub counted_all : length passes ≡ n → AreInOrder (IsCountedAll count plan locals) passes
+  counted_all all i pass there =
+      let low : i < n = omega (arith, all, slice_get_within passes i pass there) in
+      let h = back.back i low in
+      let mine : h.pass ≡ pass = same_Some h.pass pass (sym h.pass_here ∙ there) in
+      subst (λ (l : Local). IfSome (count pass) (IsCountOf (slice_index (allotments_in plan) i) l)) (sym (local_is i h.local h.here))
+      (subst (λ (p : ℕ). IfSome (count pass) (IsCountOf p h.local)) (deferred i low).all
+      (subst (λ (x : T). IfSome (count x) (IsCountOf h.phases h.local)) mine h.back.counts))
+
+  pages : HavePages locals (with_monitors lines)
+  pages = record {
+    as_many = omega (arith, length-append (lines ++ [] ∷ []) ([] ∷ []), length-append lines ([] ∷ []), long, as_many);
+    pages = λ i within.
+        subst (λ (own : List Line). HavePage own (local_at locals i)) (sym (two_more lines i))
+        (elim (cases_lt i n) [
+          | inl low ↦
+              let h = back.back i low in
+              subst (λ (own : List Line). HavePage own (local_at locals i)) (sym (own_is i low))
+              (subst (λ (l : Local). HavePage h.own l) (sym (local_is i h.local h.here)) (deferred i low).page)
+          | inr after ↦
+              let before : i < n + 2 = omega (arith, within, length-append (lines ++ [] ∷ []) ([] ∷ []), length-append lines ([] ∷ []), long) in
+              let h = unused i (record { after = after; before = before }) in
+              let none : calls_in (local_at locals i) ≡ [] = ap (λ (l : Local). calls_in l) (local_is i h.local h.here) ∙ ap (λ (p : Progress). p.calls) h.none in
+              subst (λ (own : List Line). HavePage own (local_at locals i)) (sym (none_behind lines i (omega (arith, after, long)))) (ap page_with (sym none))
+        ]);
+  }
+
+  is_the_book : book_of_lines (with_monitors lines) ≡ book_in locals
+  is_the_book = lines_are_the_book locals (with_monitors lines) pages
+
+  few_lines : (i : ℕ) → i < length (with_monitors lines) → length (lines_at (with_monitors lines) i) ≤ MAX_CALLS
+  few_lines i within =
+      elim (cases_lt i n) [
+        | inl low ↦
+            let h = back.back i low in
+            let no_more = no_more_lines silent r.callers (operations_at plan.operations i) (slice_index (allotments_in plan) i) h.local h.own (h.left refl).left.lines (deferred i low).made in
+            omega (arith, ap (λ (own : List Line). length own) (two_more lines i ∙ own_is i low), no_more, rows.cap i, r.few.1.1.1.0)
+        | inr after ↦ omega (arith, ap (λ (own : List Line). length own) (two_more lines i ∙ none_behind lines i (omega (arith, after, long))))
+      ]
+
+  pub of_a_book : AreOfABook (with_monitors lines)
+  of_a_book = record {
+    some = omega (arith, pages.as_many, as_many);
+    callers = omega (arith, pages.as_many, as_many, rows.callers, r.few.1.0);
+    calls = at_most MAX_CALLS (with_monitors lines) few_lines;
+    answered = λ call line there low.
+        let own_there : slice_get (lines_at lines call.caller) call.number ≡ Some line = ap (λ (own : List Line). slice_get own call.number) (sym (two_more lines call.caller)) ∙ there in
+        let own_low : call.number + 1 < length (lines_at lines call.caller) = omega (arith, low, ap (λ (own : List Line). length own) (two_more lines call.caller)) in
+        elim (cases_lt call.caller n) [
+          | inl within ↦
+              let h = back.back call.caller within in
+              all_but_last silent r.callers (operations_at plan.operations call.caller) (slice_index (allotments_in plan) call.caller) h.local h.own (h.left refl).left.lines (deferred call.caller within).made
+              call.number line (ap (λ (own : List Line). slice_get own call.number) (sym (own_is call.caller within)) ∙ own_there)
+              (omega (arith, own_low, ap (λ (own : List Line). length own) (own_is call.caller within)))
+          | inr after ↦ absurd (omega (arith, own_low, ap (λ (own : List Line). length own) (none_behind lines call.caller (omega (arith, after, long)))))
+        ];
+    valid = subst IsValid (sym is_the_book) (books_are_valid (shape_of meaning r) locals together);
+  }
+
+  all_published : published_of locals ≡ published_for plan
+  all_published =
+      let allotments : length (allotments_in plan) ≡ n =
+      length-map (range_with_len 0 n) (λ i. phases_for (stop_at plan.stops i) (length (operations_at plan.operations i))) ∙ length-range_with_len 0 n in
+      same_published locals (allotments_in plan) (omega (arith, as_many, allotments)) (λ i low. (made_all.made i (omega (arith, low, allotments))).published)
+      (λ i high low. ap (λ (p : Progress). p.published) (made_all.none i (record { after = omega (arith, high, allotments); before = omega (arith, low, allotments) })))
+
+  pub within_the_book : IsWithin (published_for plan) (answered (book_of_lines (with_monitors lines)))
+  within_the_book =
+      subst (λ (book : List Page). IsWithin (published_for plan) (answered book)) (sym is_the_book)
+      (subst (λ (cut : List ℕ). IsWithin cut (answered (book_in locals))) all_published
+      (published_records_are_in_the_book (shape_of meaning r) locals together).1)
+
+  module _ (init : List ℕ) (next : List ℕ → ℕ → List ℕ × ℕ) where
+    pub judged : (answer : Option Witness) → IsJudgedAt init next (book_of_lines (with_monitors lines)) (published_for plan) answer → IsExactAnswer init next locals answer
+    judged answer h =
+        (answers_are_exact init next (shape_of meaning r) locals answer together).1
+        (subst (λ (cut : List ℕ). IsJudgedAt init next (book_in locals) cut answer) (sym all_published)
+        (subst (λ (book : List Page). IsJudgedAt init next book (published_for plan) answer) is_the_book h))
+
+    rounds_on : (i most : ℕ) (before : Local) (own : Option Witness) → HasWatched init next r.callers b i before most own
+        → HasMadeRounds init next r.callers most before (local_at locals i) own
+    rounds_on i most before own h = subst (λ (l : Local). HasMadeRounds init next r.callers most before l own) (sym (local_is i h.local h.here)) h.rounds
+
+    pub monitored : (i : ℕ) (before : Local) (own : Option Witness) → IsMonitor plan i → HasWatched init next r.callers b i before (most_rounds plan) own → HasMonitored init next plan locals i before
+    monitored i before own one h =
+        rounds_are_judged init next (shape_of meaning r) locals i (most_rounds plan) before own together (omega (arith, one.before, rows.callers)) (rounds_on i (most_rounds plan) before own h)
+
+    pub found : (i most : ℕ) (before : Local) (w : Witness) → IsMonitor plan i → HasWatched init next r.callers b i before most (Some w) → IsExactAnswer init next locals (Some w)
+    found i most before w one h =
+        (answers_are_exact init next (shape_of meaning r) locals (Some w) together).0
+        (own_is_a_witness init next (shape_of meaning r) locals i most before w together (omega (arith, one.before, rows.callers)) (rounds_on i most before (Some w) h))

@@ -1,0 +1,182 @@
+ghost use Rattle.std.specs.Prelude.{◌≡◌, ℕ, ◌+◌, ◌<◌, ◌≤◌, ◌⊎◌, Some, length, vec_len, vec_capacity, IfOk, IfSome};
+ghost use Rattle.book_base.specs.Book.{answered};
+ghost use Rattle.book_base.specs.Cut.{IsWithin};
+ghost use Rattle.world_core.specs.Local.{Local};
+ghost use Rattle.call_lines.specs.Lines.{book_of_lines};
+ghost use Rattle.row_table.specs.Callers.{locals_on, on_bench, IsBenchOf, HoldsAll};
+ghost use Rattle.call_phases.specs.Asking.{fits_own, own_count};
+ghost use Rattle.call_phases.specs.Ends.{silent};
+ghost use Rattle.reports.specs.Filling.{AreOfABook};
+ghost use Rattle.reports.specs.ReportLayout.{lines_in};
+ghost use Rattle.bench_clients.specs.Places.{AreInOrder};
+ghost use Rattle.bench_clients.specs.Starts.{course_of, IsUnused, IsFreshPass};
+ghost use Rattle.bench_clients.specs.Returns.{IsBackOn};
+ghost use Rattle.run_report.specs.Passes.{IsOwnPass, IsUnusedPass};
+ghost use Rattle.monitored_runs.specs.Published.{IsJudgedAt, IsExactAnswer};
+ghost use Rattle.monitored_runs.specs.Monitoring.{allotments_in, published_for, IsMonitor, AreRowsBeside, HaveMadeAll, IsCountedAll, IsToldAll, HasMonitored};
+
+use crate::counts::{most_rounds, published_counts};
+use crate::published::judge_at;
+use crate::watching::watch_all;
+use book_base::{NoMemory, SeqObject};
+use call_phases::{Asks, OutsideObject, Shared};
+use client_scripts::Script;
+use drv_wrapper::BlackBox;
+use monitor::{Left, Witness};
+use reports::{Own, book_of};
+use row_table::{Bench, Rows};
+use run_report::passes_are_fresh;
+use std::alloc::Global;
+use std::thread::Threads;
+use world_core::{Outside, Program};
+
+// The witness that the board took, where a monitor has one; else one that a monitor found.
+fn found_by(one: Left, other: Left) -> Option<Witness>
+    ensures { IfSome result (λ w. (one.own ≡ Some w) ⊎ (other.own ≡ Some w)) }
+{
+    if other.placed {
+        return other.own;
+    }
+    match one.own {
+        Some(witness) => Some(witness),
+        None => other.own,
+    }
+}
+
+// The book of the lines of all callers, judged once at what they have published.
+fn judge_lines<S: SeqObject>(
+    alloc: Global,
+    sequential: &S,
+    script: &Script,
+    lines: &[Own],
+) -> Result<Option<Witness>, NoMemory>
+    requires lines { AreOfABook (lines_in lines.now) }
+    requires callers { length lines.now ≡ length script.now.operations + 2 }
+    requires within { IsWithin (published_for script.now) (answered (book_of_lines (lines_in lines.now))) }
+    ensures { IfOk result (IsJudgedAt (S.init sequential.now) (S.next sequential.now)
+        (book_of_lines (lines_in lines.now)) (published_for script.now)) }
+{
+    let book = book_of(alloc, lines)?;
+    judge_at(alloc, sequential, &book, &published_counts(script))
+}
+
+/// Runs all callers of a script, each in a thread of its own where one can be had, whatever object they ask and
+/// wherever it is: none judges a call. Beside them two monitors, the two callers after the script's, make rounds
+/// over what is published, each until one is illegal, and at most one more than the script has calls. Where no
+/// round was illegal, the book of all published records is judged once, after all have ended.
+///
+/// The answer is a witness exactly where that book has no legal order. Whatever the answer, the bench holds all
+/// callers again, and the passes are in their order. Want of memory is answered before the first call, or where a
+/// judgement wanted it.
+pub fn monitor_asked<
+    R: Threads + Sync,
+    P: Program + Send + Sync,
+    T: Send,
+    S: SeqObject + Sync,
+    A: Asks<Program = P, Pass = T> + Sync,
+>(
+    rt: &R,
+    alloc: Global,
+    shared: &Shared<A, P>,
+    bench: &mut Bench<P>,
+    sequential: &S,
+    passes: &mut Vec<T>,
+    script: &Script,
+) -> Result<Option<Witness>, NoMemory>
+    requires serves { A.serves shared.now.asks.now shared.now.rows.now }
+    requires rows { AreRowsBeside script.now shared.now.rows.now }
+    requires bench { IsBenchOf P.meaning shared.now.rows.now bench.old }
+    requires unused { (i : ℕ) → i < length script.now.operations + 2 → IsUnused bench.old i }
+    requires all_passes { vec_len passes.old ≡ length script.now.operations }
+    requires passes { AreInOrder (IsFreshPass shared.now.rows.now (A.fits shared.now.asks.now) A.count
+        script.now.operations) passes.old.items }
+    // For every answer.
+    ensures bench { IsBenchOf P.meaning shared.now.rows.now bench.new × HoldsAll bench.new }
+    ensures all_passes { vec_len passes.new ≡ length script.now.operations }
+    ensures capacity { vec_capacity passes.old ≤ vec_capacity passes.new }
+    ensures back { (i : ℕ) → i < length script.now.operations → IsBackOn P.meaning shared.now.rows.now
+        (A.fits shared.now.asks.now) A.count (course_of script.now (allotments_in script.now) silent)
+        bench.new passes.new.items i }
+    ensures monitors { (i : ℕ) → IsMonitor script.now i → IsUnused bench.new i }
+    // Where the run is judged.
+    ensures made { IfOk result (λ _. HaveMadeAll script.now (locals_on bench.new)) }
+    ensures counted { IfOk result (λ _. AreInOrder (IsCountedAll A.count script.now (locals_on bench.new)) passes.new.items) }
+    ensures rounds { IfOk result (λ _. (i : ℕ) (l : Local) → IsMonitor script.now i → on_bench bench.old i ≡ Some l
+        → HasMonitored (S.init sequential.now) (S.next sequential.now) script.now (locals_on bench.new) i l) }
+    ensures answer { IfOk result (IsExactAnswer (S.init sequential.now) (S.next sequential.now) (locals_on bench.new)) }
+{
+    let (mut lines, one, other) = watch_all(
+        rt,
+        alloc,
+        shared,
+        bench,
+        sequential,
+        passes,
+        script,
+        most_rounds(script),
+    )?;
+    if let Some(witness) = found_by(one, other) {
+        return Ok(Some(witness));
+    }
+    lines.push(Own {
+        lines: Vec::new(alloc),
+    })?;
+    lines.push(Own {
+        lines: Vec::new(alloc),
+    })?;
+    judge_lines(alloc, sequential, script, &lines)
+}
+
+/// Runs all callers of a script over an object under test, each in a thread of its own where one can be had:
+/// none judges a call. Beside them two monitors, the two callers after the script's, make rounds over what is
+/// published (Castañeda and Rodríguez 2023), each until one is illegal, and at most one more than the script has
+/// calls. Where no round was illegal, the book of all published records is judged once, after all have ended.
+///
+/// The answer is a witness exactly where that book has no legal order: the one that the monitors' board took,
+/// where it took one. The rows have two callers more than the script, and there is a pass for each of the
+/// script's.
+///
+/// Whatever the answer, the bench holds all callers again, and the passes are in their order. Want of memory is
+/// answered before the first call, or where a judgement wanted it.
+pub fn monitor_over<R: Threads + Sync, S: SeqObject + Sync, B: BlackBox + Sync>(
+    rt: &R,
+    alloc: Global,
+    rows: &Rows,
+    bench: &mut Bench,
+    sequential: &S,
+    object: &B,
+    passes: &mut Vec<B::Pass>,
+    script: &Script,
+) -> Result<Option<Witness>, NoMemory>
+where
+    B::Pass: Send,
+    requires rows { AreRowsBeside script.now rows.now }
+    requires bench { IsBenchOf ⟦<Outside as Program>⟧.meaning rows.now bench.old }
+    requires unused { (i : ℕ) → i < length script.now.operations + 2 → IsUnused bench.old i }
+    requires all_passes { vec_len passes.old ≡ length script.now.operations }
+    requires passes { AreInOrder (IsUnusedPass (B.is_own object.now) B.Pass.caller B.Pass.made
+        B.Pass.cap script.now.operations) passes.old.items }
+    // For every answer.
+    ensures bench { IsBenchOf ⟦<Outside as Program>⟧.meaning rows.now bench.new × HoldsAll bench.new }
+    ensures all_passes { vec_len passes.new ≡ length script.now.operations }
+    ensures capacity { vec_capacity passes.old ≤ vec_capacity passes.new }
+    ensures back { (i : ℕ) → i < length script.now.operations → IsBackOn
+        ⟦<Outside as Program>⟧.meaning rows.now (fits_own (B.is_own object.now) B.Pass.caller)
+        (own_count B.Pass.made B.Pass.cap B.Pass.told) (course_of script.now (allotments_in script.now) silent)
+        bench.new passes.new.items i }
+    ensures passes { AreInOrder (IsOwnPass (B.is_own object.now) B.Pass.caller) passes.new.items }
+    ensures monitors { (i : ℕ) → IsMonitor script.now i → IsUnused bench.new i }
+    // Where the run is judged: each caller has made its phases up to its stop, or all of them, and the object told them.
+    ensures made { IfOk result (λ _. HaveMadeAll script.now (locals_on bench.new)) }
+    ensures told { IfOk result (λ _. AreInOrder (IsToldAll B.Pass.made B.Pass.told script.now (locals_on bench.new)) passes.new.items) }
+    // The cuts that each monitor was given are those of its rounds.
+    ensures rounds { IfOk result (λ _. (i : ℕ) (l : Local) → IsMonitor script.now i → on_bench bench.old i ≡ Some l
+        → HasMonitored (S.init sequential.now) (S.next sequential.now) script.now (locals_on bench.new) i l) }
+    // No witness exactly where the book of all published records has a legal order.
+    ensures answer { IfOk result (IsExactAnswer (S.init sequential.now) (S.next sequential.now) (locals_on bench.new)) }
+{
+    passes_are_fresh(rows, object, passes, script);
+    let asks = OutsideObject { object };
+    let shared = Shared { rows, asks: &asks };
+    monitor_asked(rt, alloc, &shared, bench, sequential, passes, script)
+}

@@ -1,0 +1,159 @@
+//! All callers of a script at work, beside two callers more that watch them.
+
+ghost use Rattle.std.specs.Prelude.{◌≡◌, ◌≢◌, ℕ, ◌+◌, ◌<◌, ◌≤◌, false, Some, length, vec_len, vec_capacity, IfOk};
+ghost use Rattle.std.specs.List.{All, AllZip};
+ghost use Rattle.world_core.specs.Local.{Local};
+ghost use Rattle.call_lines.specs.Allotments.{allotments_of};
+ghost use Rattle.row_table.specs.Callers.{on_bench, IsBenchOf, HoldsFree};
+ghost use Rattle.call_phases.specs.Ends.{silent, SaysDeferred};
+ghost use Rattle.reports.specs.ReportLayout.{lines_in};
+ghost use Rattle.monitor.specs.Beside.{IsUnmoved, IsBackFrom};
+ghost use Rattle.bench_clients.specs.Places.{AreInOrder};
+ghost use Rattle.bench_clients.specs.Work.{IsReady, HasRun};
+ghost use Rattle.bench_clients.specs.Starts.{course_of, IsUnused, IsFreshPass};
+ghost use Rattle.bench_clients.specs.Returns.{IsBackOn, AreBack};
+ghost use Rattle.monitored_runs.specs.Monitoring.{allotments_in, IsMonitor, AreRowsBeside, HasWatched};
+
+use bench_clients::{Worker, end_all, make_room, start_all};
+use book_base::{NoMemory, SeqObject};
+use call_phases::{Asks, Deferring, Shared};
+use client_scripts::Script;
+use monitor::{Left, watch_beside};
+use reports::Own;
+use row_table::Bench;
+use std::alloc::Global;
+use std::thread::Threads;
+use world_core::Program;
+
+// For each of so many callers an ending that judges nothing.
+fn make_deferrings(alloc: Global, callers: u32) -> Result<Vec<Deferring>, NoMemory>
+    ensures { IfOk result (λ endings. vec_len endings ≡ callers) }
+{
+    let mut endings = Vec::with_capacity(alloc, callers as usize)?;
+    for _i in 0..callers {
+        endings.push(Deferring)?;
+    }
+    Ok(endings)
+}
+
+// All workers of a list work, and beside them two callers of the bench watch.
+fn watch_in<
+    'a,
+    R: Threads + Sync,
+    P: Program + Send + Sync,
+    T: Send,
+    S: SeqObject + Sync,
+    A: Asks<Program = P, Pass = T> + Sync,
+>(
+    rt: &R,
+    alloc: Global,
+    shared: &Shared<A, P>,
+    bench: &mut Bench<P>,
+    sequential: &S,
+    workers: &mut Vec<Worker<'a, P, T, Deferring>>,
+    one: u32,
+    rounds: u64,
+) -> (Left, Left)
+    requires bench { IsBenchOf P.meaning shared.now.rows.now bench.old }
+    requires ready { All (IsReady P.meaning shared.now.rows.now SaysDeferred (λ deferring. silent)
+        (A.fits shared.now.asks.now) A.count
+        (A.serves shared.now.asks.now shared.now.rows.now)) workers.old.items }
+    requires free { HoldsFree bench.old one × HoldsFree bench.old (one + 1) }
+    requires few { one < 16 }
+    ensures bench { IsBenchOf P.meaning shared.now.rows.now bench.new }
+    ensures done { AllZip (HasRun P.meaning shared.now.rows.now SaysDeferred (λ deferring. silent)
+        (A.fits shared.now.asks.now) A.count) workers.old.items workers.new.items }
+    ensures others { (i : ℕ) → i ≢ one → i ≢ one + 1 → IsUnmoved bench.old bench.new i }
+    ensures one { (l : Local) → on_bench bench.old one ≡ Some l
+        → IsBackFrom (S.init sequential.now) (S.next sequential.now) shared.now.rows.now.callers
+        bench.new one l rounds result.0 }
+    ensures other { (l : Local) → on_bench bench.old (one + 1) ≡ Some l
+        → IsBackFrom (S.init sequential.now) (S.next sequential.now) shared.now.rows.now.callers
+        bench.new (one + 1) l rounds result.1 }
+{
+    watch_beside(
+        rt,
+        alloc,
+        shared.rows,
+        bench,
+        sequential,
+        shared,
+        workers.as_mut_slice(),
+        one,
+        one + 1,
+        rounds,
+    )
+}
+
+/// Lets each caller make the phases that a script gives it, each in a thread of its own where one can be
+/// had, while two callers more make rounds, each until one is illegal, and at most so many. All callers
+/// come back to their bench, and all passes to their list, in order, whatever the answer.
+///
+/// The answer is the lines of each of the script's callers, in order, and what the two others found. Want
+/// of memory is answered before anything is done, or where it was wanted in a round.
+pub(crate) fn watch_all<
+    'a,
+    R: Threads + Sync,
+    P: Program + Send + Sync,
+    T: Send,
+    S: SeqObject + Sync,
+    A: Asks<Program = P, Pass = T> + Sync,
+>(
+    rt: &R,
+    alloc: Global,
+    shared: &Shared<A, P>,
+    bench: &mut Bench<P>,
+    sequential: &S,
+    passes: &mut Vec<T>,
+    script: &'a Script,
+    rounds: u64,
+) -> Result<(Vec<Own>, Left, Left), NoMemory>
+    requires serves { A.serves shared.now.asks.now shared.now.rows.now }
+    requires rows { AreRowsBeside script.now shared.now.rows.now }
+    requires bench { IsBenchOf P.meaning shared.now.rows.now bench.old }
+    requires unused { (i : ℕ) → i < length script.now.operations + 2 → IsUnused bench.old i }
+    requires all_passes { vec_len passes.old ≡ length script.now.operations }
+    requires passes { AreInOrder (IsFreshPass shared.now.rows.now (A.fits shared.now.asks.now) A.count
+        script.now.operations) passes.old.items }
+    ensures bench { IsBenchOf P.meaning shared.now.rows.now bench.new }
+    ensures all_passes { vec_len passes.new ≡ length script.now.operations }
+    ensures capacity { vec_capacity passes.old ≤ vec_capacity passes.new }
+    ensures back { (i : ℕ) → i < length script.now.operations → IsBackOn P.meaning shared.now.rows.now
+        (A.fits shared.now.asks.now) A.count (course_of script.now (allotments_in script.now) silent)
+        bench.new passes.new.items i }
+    ensures monitors { (i : ℕ) → IsMonitor script.now i → IsUnused bench.new i }
+    ensures all_lines { IfOk result (λ left. vec_len left.0 ≡ length script.now.operations) }
+    ensures lines { IfOk result (λ left. AreBack P.meaning shared.now.rows.now SaysDeferred
+        (A.fits shared.now.asks.now) A.count
+        (length script.now.operations) (length script.now.operations)
+        (course_of script.now (allotments_in script.now) silent)
+        bench.new passes.new.items (lines_in left.0.items) false) }
+    ensures one { IfOk result (λ left. (l : Local) → on_bench bench.old (length script.now.operations) ≡ Some l
+        → HasWatched (S.init sequential.now) (S.next sequential.now) shared.now.rows.now.callers
+        bench.new (length script.now.operations) l rounds left.1.own) }
+    ensures other { IfOk result (λ left. (l : Local) → on_bench bench.old (length script.now.operations + 1) ≡ Some l
+        → HasWatched (S.init sequential.now) (S.next sequential.now) shared.now.rows.now.callers
+        bench.new (length script.now.operations + 1) l rounds left.2.own) }
+{
+    let callers = script.callers();
+    let room = make_room(alloc, script)?;
+    let endings = make_deferrings(alloc, callers)?;
+    let mut lines = Vec::with_capacity(alloc, callers as usize + 2)?;
+    let mut workers = Vec::with_capacity(alloc, callers as usize)?;
+    start_all(shared, bench, passes, script, room, endings, &mut workers);
+    let (one, other) = watch_in(
+        rt,
+        alloc,
+        shared,
+        bench,
+        sequential,
+        &mut workers,
+        callers,
+        rounds,
+    );
+    let wanted = end_all(shared, script, workers, bench, passes, &mut lines);
+    if wanted || one.wants_memory || other.wants_memory {
+        return Err(NoMemory);
+    }
+    Ok((lines, one, other))
+}
