@@ -1,4 +1,4 @@
 pub mod Deferred
 pub mod AllPublished
 pub mod Monitoring
-pub mod Watching
+pub mod Returning

@@ -1,47 +1,49 @@
 -- What the callers of a plan leave whose calls nobody judged, and the two monitors beside them.
-use Rattle.std.proofs.Common.{◌≡◌, ◌∙◌, refl, sym, ap, ap₂, subst, inl, inr, ℕ, zero, suc, ◌+◌, ◌<◌, ◌≤◌, ◌%◌, ◌/◌, false, List, [], ◌∷◌, ◌++◌, length, map, take, drop, replicate, slice_get, slice_index, Some, arith}
+use Rattle.std.proofs.Common.{◌≡◌, ◌∙◌, refl, sym, ap, ap₂, subst, inl, inr, ℕ, zero, suc, ◌+◌, ◌<◌, ◌≤◌, ◌%◌, ◌/◌, false, List, [], ◌∷◌, ◌++◌, length, map, take, drop, replicate, slice_get, slice_index, sum_by, ◌*◌, Some, arith}
 use Rattle.std.specs.Prelude.{Option, IfSome, IsSome}
 use Rattle.std.specs.List.{range_with_len}
 use Rattle.std.proofs.lemmas.List.FromFn.{length-range_with_len}
 use Rattle.std.proofs.lemmas.Bool.{cases_lt}
-use Rattle.std.proofs.lemmas.List.{length-map, length-take, length-append}
+use Rattle.std.proofs.lemmas.List.{length-map, length-take, length-append, get_or-map}
+use Rattle.std.proofs.lemmas.List.Sums.{sum_by-cons, sum_by-take-le}
 use Rattle.std.proofs.lemmas.Option.{none-some, same_Some, slice_get_within}
 use Rattle.book_base.specs.declared.TheConstants.{MAX_CALLS}
 use Rattle.book_base.specs.Cut.{IsWithin}
 use Rattle.book_base.specs.Book.{Page, IsValid, answered}
 use Rattle.world_core.specs.Shape.{Meaning}
-use Rattle.world_core.specs.Local.{Local}
+use Rattle.world_core.specs.Local.{Local, fresh}
 use Rattle.world_core.specs.Calls.{Reached, Is_announced, Has_record, Has_seen, Made, AreTogether, page_with, calls_in, book_in, local_at}
 use Rattle.world_books.proofs.Validity.{books_are_valid}
 use Rattle.call_lines.specs.declared.line.LineEnd.{LineEnd}
 use Rattle.call_lines.specs.declared.line.Line.{Line}
 use Rattle.call_lines.specs.Lines.{book_of_lines, lines_at}
-use Rattle.call_lines.specs.Phases.{Mark, Seen, Progress, HasMade, IsTold, mark_of, mark_under_way, marks_of, marks_after, published_by, progress_of, asked}
+use Rattle.call_lines.specs.Phases.{Mark, Seen, Progress, HasMade, mark_of, mark_under_way, marks_of, marks_after, published_by, progress_of}
 use Rattle.call_lines.specs.Allotments.{operations_at, stop_at, phases_for}
 use Rattle.report_laws.proofs.Stepping.{length-marks_after}
 use Rattle.row_table.specs.declared.rows.Rows.{Rows}
 use Rattle.row_table.specs.declared.bench.Bench.{Bench}
-use Rattle.row_table.specs.Callers.{shape_of, locals_on, on_bench, IsBenchOf, Holds}
+use Rattle.row_table.specs.Callers.{shape_of, locals_on, on_bench, IsBenchOf, Holds, HoldsAll}
 use Rattle.row_table.proofs.Parting.{whole_is_together}
-use Rattle.client_scripts.specs.Plans.{Plan, IsPlan}
+use Rattle.client_scripts.specs.Plans.{Plan, IsPlan, sizes}
+use Rattle.text_fields.specs.Counts.{AreAtMost}
 use Rattle.text_fields.specs.declared.version.Version.TheVariants.{Second}
 use Rattle.reports.specs.Filling.{answer_in, AreOfABook}
-use Rattle.call_phases.specs.Asking.{Fits, PassCount}
+use Rattle.reports.proofs.Filling.{length-book}
+use Rattle.call_phases.specs.Asking.{Fits, PassCount, own_count}
 use Rattle.call_phases.specs.Ends.{Sequential, silent, SaysDeferred, EndsAs, AreLinesOfCalls}
-use Rattle.call_phases.proofs.Told.{if_some_as}
 use Rattle.bench_clients.specs.Places.{AreInOrder}
-use Rattle.bench_clients.specs.Starts.{course_of, IsUnused}
-use Rattle.bench_clients.specs.Returns.{IsCountOf, IsBack, AreBack}
+use Rattle.bench_clients.specs.Starts.{Course, course_of, IsUnused}
+use Rattle.bench_clients.specs.Returns.{IsCountOf, AreBack, IsBackOn}
 use Rattle.bench_clients.proofs.Places.{as_long}
 use Rattle.run_report.proofs.Workers.{the_local, lines_here}
 use Rattle.run_report.proofs.Reports.{at_most, none_behind}
 use Rattle.monitor.specs.declared.witness.Witness.{Witness}
 use Rattle.monitor.specs.Rounds.{HasMadeRounds}
-use Rattle.monitor.specs.Worlds.{published_of, IsWitnessOf}
+use Rattle.monitor.specs.Worlds.{published_of}
 use Rattle.monitor.proofs.Judged.{rounds_are_judged, own_is_a_witness}
 use Rattle.monitored_runs.specs.Deferred.{HavePage, HasDeferred, HavePages}
 use Rattle.monitored_runs.specs.Published.{IsJudgedAt, IsExactAnswer}
-use Rattle.monitored_runs.specs.Monitoring.{allotments_in, published_for, most_rounds, IsMonitor, AreRowsBeside, HaveMadeAll, IsCountedAll, HasMonitored, HasWatched}
+use Rattle.monitored_runs.specs.Monitoring.{allotments_in, published_for, with_monitors, most_rounds, IsMonitor, AreRowsBeside, HaveMadeAll, IsCountedAll, IsToldAll, HasMonitored, HasWatched}
 use Rattle.monitored_runs.proofs.Deferred.{deferring_clients_make_all, lines_are_the_book}
 use Rattle.monitored_runs.proofs.AllPublished.{published_records_are_in_the_book, answers_are_exact}
 
@@ -51,10 +53,6 @@ none_more [] zero = refl
 none_more [] (suc i) = refl
 none_more (own ∷ lines) zero = refl
 none_more (own ∷ lines) (suc i) = none_more lines i
-
--- the lines of a plan's callers, with those of the two monitors
-abbrev pub with_monitors : List (List Line) → List (List Line)
-with_monitors lines = (lines ++ [] ∷ []) ++ [] ∷ []
 
 two_more : (lines : List (List Line)) (i : ℕ) → lines_at (with_monitors lines) i ≡ lines_at lines i
 two_more lines i = none_more (lines ++ [] ∷ []) i ∙ none_more lines i
@@ -91,21 +89,65 @@ no_more_lines : (object : Sequential) (n : ℕ) (operations : List ℕ) (p : ℕ
 no_more_lines object n operations p l own lines made =
     omega (arith, as_long _ (calls_in l) own lines, sym (length-map (calls_in l) (λ (c : Made). c.operation)), ap (λ (os : List ℕ). length os) made.in_order, length-take ((p + 4) / 5) operations)
 
--- what a list of callers has published, of whom the last two have published nothing
-same_published : (locals : List Local) (allotments : List ℕ) → length locals ≡ length allotments + 2
-    → ((i : ℕ) → i < length allotments → (local_at locals i).published ≡ published_by (slice_index allotments i))
-    → ((i : ℕ) → length allotments ≤ i → i < length allotments + 2 → (local_at locals i).published ≡ 0)
-    → published_of locals ≡ map published_by allotments ++ 0 ∷ 0 ∷ []
-same_published [] allotments long made none = absurd (omega (arith, long))
-same_published (l ∷ []) [] long made none = absurd (omega (arith, long))
-same_published (l ∷ m ∷ []) [] long made none = ap₂ (λ (x y : ℕ). x ∷ y ∷ []) (none 0 (omega arith) (omega arith)) (none 1 (omega arith) (omega arith))
-same_published (l ∷ m ∷ k ∷ locals) [] long made none = absurd (omega (arith, long))
-same_published (l ∷ locals) (a ∷ allotments) long made none =
-    ap₂ (λ (x : ℕ) (xs : List ℕ). x ∷ xs) (made 0 (omega arith))
-    (same_published locals allotments (omega (arith, long)) (λ i low. made (suc i) (omega (arith, low))) (λ i high low. none (suc i) (omega (arith, high)) (omega (arith, low))))
+-- counts for callers with these allotments, and none for two more
+same_counts : (counts allotments : List ℕ) → length counts ≡ length allotments + 2
+    → ((i : ℕ) → i < length allotments → slice_index counts i ≡ published_by (slice_index allotments i))
+    → ((i : ℕ) → length allotments ≤ i → i < length allotments + 2 → slice_index counts i ≡ 0)
+    → counts ≡ map published_by allotments ++ 0 ∷ 0 ∷ []
+same_counts [] allotments long made none = absurd (omega (arith, long))
+same_counts (x ∷ []) [] long made none = absurd (omega (arith, long))
+same_counts (x ∷ y ∷ []) [] long made none = ap₂ (λ (a b : ℕ). a ∷ b ∷ []) (none 0 (omega arith) (omega arith)) (none 1 (omega arith) (omega arith))
+same_counts (x ∷ y ∷ z ∷ counts) [] long made none = absurd (omega (arith, long))
+same_counts (x ∷ counts) (a ∷ allotments) long made none =
+    ap₂ (λ (n : ℕ) (ns : List ℕ). n ∷ ns) (made 0 (omega arith))
+    (same_counts counts allotments (omega (arith, long)) (λ i low. made (suc i) (omega (arith, low))) (λ i high low. none (suc i) (omega (arith, high)) (omega (arith, low))))
+
+-- there is an allotment for each caller of a plan
+pub allotments_long : (plan : Plan) → length (allotments_in plan) ≡ length plan.operations
+allotments_long plan =
+    length-map (range_with_len 0 (length plan.operations)) (λ i. phases_for (stop_at plan.stops i) (length (operations_at plan.operations i))) ∙ length-range_with_len 0 (length plan.operations)
+
+pub published_long : (plan : Plan) → length (published_for plan) ≡ length plan.operations + 2
+published_long plan = omega (arith, length-append (map published_by (allotments_in plan)) (0 ∷ 0 ∷ []), length-map (allotments_in plan) published_by, allotments_long plan)
+
+-- the book of all callers' lines has two pages more
+pub book_with_monitors : (lines : List (List Line)) → length (book_of_lines (with_monitors lines)) ≡ length lines + 2
+book_with_monitors lines = omega (arith, length-book (with_monitors lines), length-append (lines ++ [] ∷ []) ([] ∷ []), length-append lines ([] ∷ []))
+
+-- counts that were set for each caller of a plan
+pub counts_are : (plan : Plan) (counts : List ℕ) → length counts ≡ length plan.operations + 2
+    → ((i : ℕ) → i < length plan.operations → slice_index counts i ≡ published_by (slice_index (allotments_in plan) i))
+    → ((i : ℕ) → length plan.operations ≤ i → slice_index counts i ≡ 0) → counts ≡ published_for plan
+counts_are plan counts long made none =
+    same_counts counts (allotments_in plan) (omega (arith, long, allotments_long plan)) (λ i low. made i (omega (arith, low, allotments_long plan)))
+    (λ i high low. none i (omega (arith, high, allotments_long plan)))
+
+-- no plan has more calls than there may be
+few_calls : (operations : List (List ℕ)) → AreAtMost 256 (sizes operations) → sum_by length operations ≤ 256 * length operations
+few_calls [] h = omega arith
+few_calls (ops ∷ operations) h = omega (arith, sum_by-cons length ops operations, h.0, few_calls operations h.1)
+
+pub calls_fit : (plan : Plan) (i calls : ℕ) → IsPlan Second plan → calls ≡ sum_by length (take i plan.operations) → calls ≤ 4096
+calls_fit plan i calls valid so_far = omega (arith, so_far, sum_by-take-le length plan.operations i, few_calls plan.operations valid.calls, valid.callers)
+
+-- the bench of a run with monitors holds all callers
+pub holds_beside : {P T : Type 0} (meaning : P → ℕ → ℕ → Meaning) (r : Rows P) (fit : Fits T) (count : T → Option PassCount) (course : Course) (b : Bench P) (passes : List T) (plan : Plan)
+    → AreRowsBeside plan r → IsBenchOf meaning r b → ((i : ℕ) → i < length plan.operations → IsBackOn meaning r fit count course b passes i) → ((i : ℕ) → IsMonitor plan i → IsUnused b i) → HoldsAll b
+holds_beside meaning r fit count course b passes plan rows bench back unused i low =
+    elim (cases_lt i (length plan.operations)) [
+      | inl within ↦ let h = back i within in (h.local, h.here)
+      | inr after ↦ let h = unused i (record { after = after; before = omega (arith, low, bench.callers, rows.callers) }) in (h.local, h.here)
+    ]
+
+-- what the passes of an object outside the world count is what they tell
+pub counted_told_all : {T : Type 0} (made cap : T → ℕ) (told : T → Option (List (ℕ × ℕ))) (plan : Plan) (locals : List Local) (passes : List T)
+    → AreInOrder (IsCountedAll (own_count made cap told) plan locals) passes → AreInOrder (IsToldAll made told plan locals) passes
+counted_told_all made cap told plan locals passes all i pass there =
+    let h = all i pass there in
+    record { asked_for = h.asked_for; told_is = h.told_is }
 
 module _ {P T : Type 0} (meaning : P → ℕ → ℕ → Meaning) (r : Rows P) (b : Bench P) (plan : Plan) (fit : Fits T) (count : T → Option PassCount) (passes : List T) (lines : List (List Line))
-    (valid : IsPlan Second plan) (rows : AreRowsBeside plan r) (bench : IsBenchOf meaning r b)
+    (rows : AreRowsBeside plan r) (bench : IsBenchOf meaning r b)
     (back : AreBack meaning r SaysDeferred fit count (length plan.operations) (length plan.operations) (course_of plan (allotments_in plan) silent) b passes lines false)
     (long : length lines ≡ length plan.operations) (unused : (i : ℕ) → IsMonitor plan i → IsUnused b i) where
   abbrev n : ℕ
@@ -185,14 +227,14 @@ module _ {P T : Type 0} (meaning : P → ℕ → ℕ → Meaning) (r : Rows P) (
         | inl low ↦
             let h = back.back i low in
             let no_more = no_more_lines silent r.callers (operations_at plan.operations i) (slice_index (allotments_in plan) i) h.local h.own (h.left refl).left.lines (deferred i low).made in
-            omega (arith, ap (λ (own : List Line). length own) (two_more lines i ∙ own_is i low), no_more, rows.cap i, r.few.1.1.1.0)
+            omega (arith, ap (λ (own : List Line). length own) (two_more lines i ∙ own_is i low), no_more, rows.cap i, r.few.3)
         | inr after ↦ omega (arith, ap (λ (own : List Line). length own) (two_more lines i ∙ none_behind lines i (omega (arith, after, long))))
       ]
 
   pub of_a_book : AreOfABook (with_monitors lines)
   of_a_book = record {
     some = omega (arith, pages.as_many, as_many);
-    callers = omega (arith, pages.as_many, as_many, rows.callers, r.few.1.0);
+    callers = omega (arith, pages.as_many, as_many, rows.callers, r.few.1);
     calls = at_most MAX_CALLS (with_monitors lines) few_lines;
     answered = λ call line there low.
         let own_there : slice_get (lines_at lines call.caller) call.number ≡ Some line = ap (λ (own : List Line). slice_get own call.number) (sym (two_more lines call.caller)) ∙ there in
@@ -210,10 +252,14 @@ module _ {P T : Type 0} (meaning : P → ℕ → ℕ → Meaning) (r : Rows P) (
 
   all_published : published_of locals ≡ published_for plan
   all_published =
-      let allotments : length (allotments_in plan) ≡ n =
-      length-map (range_with_len 0 n) (λ i. phases_for (stop_at plan.stops i) (length (operations_at plan.operations i))) ∙ length-range_with_len 0 n in
-      same_published locals (allotments_in plan) (omega (arith, as_many, allotments)) (λ i low. (made_all.made i (omega (arith, low, allotments))).published)
-      (λ i high low. ap (λ (p : Progress). p.published) (made_all.none i (record { after = omega (arith, high, allotments); before = omega (arith, low, allotments) })))
+      let counts : List ℕ = published_of locals in
+      let long : length counts ≡ length plan.operations + 2 = length-map locals (λ (l : Local). l.published) ∙ as_many in
+      let count_is : (i : ℕ) → i < length locals → slice_index counts i ≡ (local_at locals i).published = λ i low. get_or-map (λ (l : Local). l.published) locals i fresh 0 low in
+      same_counts counts (allotments_in plan) (omega (arith, long, allotments_long plan))
+      (λ i low. count_is i (omega (arith, low, as_many, allotments_long plan)) ∙ (made_all.made i (omega (arith, low, allotments_long plan))).published)
+      (λ i high low.
+      count_is i (omega (arith, low, as_many, allotments_long plan))
+      ∙ ap (λ (p : Progress). p.published) (made_all.none i (record { after = omega (arith, high, allotments_long plan); before = omega (arith, low, allotments_long plan) })))
 
   pub within_the_book : IsWithin (published_for plan) (answered (book_of_lines (with_monitors lines)))
   within_the_book =

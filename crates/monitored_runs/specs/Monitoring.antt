@@ -1,8 +1,8 @@
 -- Runs whose callers judge nothing, while two monitors watch them: what they begin with, and what they leave.
 use Rattle.std.specs.Prelude.{◌≡◌, ℕ, ◌+◌, ◌<◌, ◌≤◌, List, [], ◌∷◌, ◌++◌, Option, Some, IfSome, length, map, sum_by, slice_index}
-use Rattle.world_core.specs.Local.{Local}
+use Rattle.world_core.specs.Local.{Local, Given}
 use Rattle.world_core.specs.Calls.{calls_in, book_in, local_at}
-use Rattle.world_core.specs.Local.{Given}
+use Rattle.call_lines.specs.declared.line.Line.{Line}
 use Rattle.call_lines.specs.Phases.{HasMade, IsTold, asked, published_by, progress_of, no_progress}
 use Rattle.call_lines.specs.Allotments.{operations_at, allotments_of}
 use Rattle.row_table.specs.declared.rows.Rows.{Rows}
@@ -26,6 +26,10 @@ most_rounds plan = sum_by length plan.operations + 1
 -- How many records each caller publishes, where each of a plan's callers makes its whole allotment. The two monitors publish none.
 abbrev pub published_for : Plan → List ℕ
 published_for plan = map published_by (allotments_in plan) ++ 0 ∷ 0 ∷ []
+
+-- The lines of a plan's callers, with those of the two monitors behind them, who have none.
+abbrev pub with_monitors : List (List Line) → List (List Line)
+with_monitors lines = (lines ++ [] ∷ []) ++ [] ∷ []
 
 -- The caller is one of the two monitors: their numbers follow those of a plan's callers.
 pub record IsMonitor (plan : Plan) (i : ℕ) : Type 0 where

@@ -10,7 +10,7 @@ use client_scripts::{PHASES, Script};
 
 /// How many rounds a monitor makes at the most: one for each call of a script, and one more.
 pub(crate) fn most_rounds(script: &Script) -> u64
-    ensures { result ≡ most_rounds script.now }
+    ensures rounds { result ≡ most_rounds script.now }
 {
     let mut calls = 0;
     for i in 0..script.callers() {

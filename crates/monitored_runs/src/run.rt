@@ -1,4 +1,5 @@
-ghost use Rattle.std.specs.Prelude.{◌≡◌, ℕ, ◌+◌, ◌<◌, ◌≤◌, ◌⊎◌, Some, length, vec_len, vec_capacity, IfOk, IfSome};
+ghost use Rattle.std.specs.Prelude.{◌≡◌, ℕ, ◌+◌, ◌<◌, ◌≤◌, ◌⊎◌, Some, length, vec_len, vec_capacity, IfOk, IfSome, OnOk};
+ghost use Rattle.book_base.specs.declared.TheConstants.{MAX_CALLERS};
 ghost use Rattle.book_base.specs.Book.{answered};
 ghost use Rattle.book_base.specs.Cut.{IsWithin};
 ghost use Rattle.world_core.specs.Local.{Local};
@@ -13,7 +14,7 @@ ghost use Rattle.bench_clients.specs.Starts.{course_of, IsUnused, IsFreshPass};
 ghost use Rattle.bench_clients.specs.Returns.{IsBackOn};
 ghost use Rattle.run_report.specs.Passes.{IsOwnPass, IsUnusedPass};
 ghost use Rattle.monitored_runs.specs.Published.{IsJudgedAt, IsExactAnswer};
-ghost use Rattle.monitored_runs.specs.Monitoring.{allotments_in, published_for, IsMonitor, AreRowsBeside, HaveMadeAll, IsCountedAll, IsToldAll, HasMonitored};
+ghost use Rattle.monitored_runs.specs.Monitoring.{allotments_in, published_for, with_monitors, IsMonitor, AreRowsBeside, HaveMadeAll, IsCountedAll, IsToldAll, HasMonitored};
 
 use crate::counts::{most_rounds, published_counts};
 use crate::published::judge_at;
@@ -43,20 +44,37 @@ fn found_by(one: Left, other: Left) -> Option<Witness>
     }
 }
 
+// Puts an empty list of lines for each of the two monitors behind those of the other callers.
+fn add_monitors(alloc: Global, lines: &mut Vec<Own>) -> Result<(), NoMemory>
+    ensures { OnOk result (lines_in lines.new.items ≡ with_monitors (lines_in lines.old.items)) }
+{
+    lines.push(Own {
+        lines: Vec::new(alloc),
+    })?;
+    lines.push(Own {
+        lines: Vec::new(alloc),
+    })?;
+    Ok(())
+}
+
 // The book of the lines of all callers, judged once at what they have published.
 fn judge_lines<S: SeqObject>(
     alloc: Global,
     sequential: &S,
     script: &Script,
-    lines: &[Own],
+    lines: Vec<Own>,
 ) -> Result<Option<Witness>, NoMemory>
-    requires lines { AreOfABook (lines_in lines.now) }
-    requires callers { length lines.now ≡ length script.now.operations + 2 }
-    requires within { IsWithin (published_for script.now) (answered (book_of_lines (lines_in lines.now))) }
+    requires lines { AreOfABook (with_monitors (lines_in lines.items)) }
+    requires callers { vec_len lines ≡ length script.now.operations }
+    requires few { length script.now.operations + 2 ≤ MAX_CALLERS }
+    requires within { IsWithin (published_for script.now)
+        (answered (book_of_lines (with_monitors (lines_in lines.items)))) }
     ensures { IfOk result (IsJudgedAt (S.init sequential.now) (S.next sequential.now)
-        (book_of_lines (lines_in lines.now)) (published_for script.now)) }
+        (book_of_lines (with_monitors (lines_in lines.items))) (published_for script.now)) }
 {
-    let book = book_of(alloc, lines)?;
+    let mut all = lines;
+    add_monitors(alloc, &mut all)?;
+    let book = book_of(alloc, &all)?;
     judge_at(alloc, sequential, &book, &published_counts(script))
 }
 
@@ -105,26 +123,14 @@ pub fn monitor_asked<
         → HasMonitored (S.init sequential.now) (S.next sequential.now) script.now (locals_on bench.new) i l) }
     ensures answer { IfOk result (IsExactAnswer (S.init sequential.now) (S.next sequential.now) (locals_on bench.new)) }
 {
-    let (mut lines, one, other) = watch_all(
-        rt,
-        alloc,
-        shared,
-        bench,
-        sequential,
-        passes,
-        script,
-        most_rounds(script),
+    let most = most_rounds(script);
+    let (lines, one, other) = watch_all(
+        rt, alloc, shared, bench, sequential, passes, script, most,
     )?;
-    if let Some(witness) = found_by(one, other) {
-        return Ok(Some(witness));
+    match found_by(one, other) {
+        Some(witness) => Ok(Some(witness)),
+        None => judge_lines(alloc, sequential, script, lines),
     }
-    lines.push(Own {
-        lines: Vec::new(alloc),
-    })?;
-    lines.push(Own {
-        lines: Vec::new(alloc),
-    })?;
-    judge_lines(alloc, sequential, script, &lines)
 }
 
 /// Runs all callers of a script over an object under test, each in a thread of its own where one can be had:

@@ -1,4 +1,4 @@
-use Rattle.std.proofs.Common.{◌≡◌, ◌×◌, ℕ, ◌+◌, ◌<◌, ◌≤◌, length, get_or, slice_index}
+use Rattle.std.proofs.Common.{◌≡◌, ℕ, ◌+◌, ◌<◌, ◌≤◌, length, get_or, slice_index}
 use Rattle.call_lines.specs.Phases.{published_by}
 use Rattle.monitored_runs.specs.Monitoring.{allotments_in}
 use Rattle.monitored_runs.proofs.counts.published_counts.Given as goal
