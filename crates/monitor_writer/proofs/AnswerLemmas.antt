@@ -1,5 +1,5 @@
 -- What is written of an answer is right of the callers' calls.
-use Rattle.std.proofs.Common.{◌≡◌, ◌∙◌, refl, sym, subst, inl, inr, ℕ, List, Option, Some, None}
+use Rattle.std.proofs.Common.{◌≡◌, refl, sym, subst, ℕ, List, Option, Some, None}
 use Rattle.std.specs.Prelude.{◌⊎◌}
 use Rattle.std.proofs.lemmas.Option.{none-some}
 use Rattle.seq_objects.specs.declared.kind.Kind.{Kind}
@@ -23,7 +23,7 @@ text_of_run : (kind : Kind) (locals : List Local) (answer : Option Witness) → 
 text_of_run kind locals None exact status text out = subst (λ (s : Status). IsMonitorText kind locals s text) (sym out.1) (exact.is, out.0)
 text_of_run kind locals (Some w) exact status text out =
     subst (λ (s : Status). IsMonitorText kind locals s text) (sym out.1)
-    ((λ legal. none-some w (sym (exact.exact.1 legal))), (w, (exact.is, out.0)))
+    ((λ legal. none-some w (sym (exact.exact.1 legal))), w, exact.is, out.0.0, out.0.1, out.0.2)
 
 pub ends_of_run : (kind named : Kind) (locals : List Local) (answer : Option Witness) (result : Status) (taken taken' : Option (List ℕ)) → named ≡ kind
     → IsExactFor named locals answer → EndsWriting (IsAnswerOutput named answer) result taken taken' → EndsWriting (IsMonitorText kind locals) result taken taken'

@@ -43,11 +43,7 @@ fn status_of(answer: &Option<Witness>) -> Status
 }
 
 /// The text of an answer.
-fn answer_text(
-    alloc: Global,
-    kind: Kind,
-    answer: &Option<Witness>,
-) -> Result<Vec<u8>, NoMemory>
+fn answer_text(alloc: Global, kind: Kind, answer: &Option<Witness>) -> Result<Vec<u8>, NoMemory>
     ensures { IfOk result (λ text. IsAnswerText kind answer.now text.items) }
 {
     let Some(witness) = answer else {
