@@ -1,0 +1,59 @@
+/* judge verify|order|certify: reads a text from standard input, and writes what is said of it, as the program selfcheck
+ * writes it, or the book's certificate. Ends with the library's status, and with 2 where the word isn't right. */
+#include "selfcheck.h"
+#include <stdio.h>
+#include <stdlib.h>
+#include <string.h>
+
+/* All that the stream holds, and its length; null for want of memory. */
+static uint8_t *read_all(FILE *stream, size_t *length) {
+    size_t room = 4096;
+    uint8_t *text = malloc(room);
+    *length = 0;
+    while (text != NULL) {
+        size_t count = fread(text + *length, 1, room - *length, stream);
+        *length += count;
+        if (*length < room) break;
+        uint8_t *longer = realloc(text, room *= 2);
+        if (longer == NULL) free(text);
+        text = longer;
+    }
+    return text;
+}
+
+static uint32_t certify(const uint8_t *text, size_t length, struct selfcheck_refusal *refusal) {
+    size_t room = 2 * length + 64, written = 0;
+    for (;;) {
+        uint8_t *buffer = malloc(room);
+        if (buffer == NULL) return SELFCHECK_NO_MEMORY;
+        uint32_t status = selfcheck_certify(text, length, buffer, room, &written, refusal);
+        if (status == SELFCHECK_LEGAL) fwrite(buffer, 1, written, stdout);
+        free(buffer);
+        if (status != SELFCHECK_NO_ROOM) return status;
+        room = written;
+    }
+}
+
+int main(int count, char **words) {
+    const char *word = count == 2 ? words[1] : "";
+    struct selfcheck_refusal refusal = {0, 0};
+    uint32_t status;
+    size_t length;
+    uint8_t *text = read_all(stdin, &length);
+    if (text == NULL) return SELFCHECK_NO_MEMORY;
+    if (strcmp(word, "verify") == 0) {
+        status = selfcheck_verify(text, length, &refusal);
+    } else if (strcmp(word, "order") == 0) {
+        status = selfcheck_order(text, length, &refusal);
+    } else if (strcmp(word, "certify") == 0) {
+        status = certify(text, length, &refusal);
+    } else {
+        status = 2;
+    }
+    free(text);
+    if (status == SELFCHECK_LEGAL && strcmp(word, "certify") != 0) puts("legal");
+    if (status == SELFCHECK_ILLEGAL) puts("illegal");
+    if (status == SELFCHECK_REFUSED)
+        printf("refused %llu %s\n", (unsigned long long)refusal.line, selfcheck_name(refusal.what));
+    return (int)status;
+}

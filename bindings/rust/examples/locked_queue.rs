@@ -1,0 +1,28 @@
+//! A deque behind a lock is a queue: its book is legal, and has a certificate.
+
+use selfcheck::{Queue, Recorder, TooManyCallers};
+use std::collections::VecDeque;
+use std::error::Error;
+use std::sync::Mutex;
+use std::thread;
+
+fn main() -> Result<(), Box<dyn Error>> {
+    let queue = Mutex::new(VecDeque::new());
+    let recorder = Recorder::<Queue>::new();
+    thread::scope(|scope| {
+        for t in 0..2 {
+            let (queue, mut me) = (&queue, recorder.caller()?);
+            scope.spawn(move || {
+                me.enq(t, || queue.lock().unwrap().push_back(t));
+                me.deq(|| queue.lock().unwrap().pop_front());
+            });
+        }
+        Ok::<_, TooManyCallers>(())
+    })?;
+    let book = recorder.book()?;
+    println!("{book}{}", book.verify()?);
+    if let Some(certificate) = book.certify()? {
+        print!("\n{certificate}");
+    }
+    Ok(())
+}

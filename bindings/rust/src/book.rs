@@ -1,0 +1,95 @@
+//! Books: what callers did, as a value and as a text.
+
+use crate::fault::{Fault, Verdict};
+use crate::kind::Kind;
+use crate::library::{certify, verify};
+use crate::reply::Reply;
+use std::fmt;
+
+/// What the callers of an object did. Its text is a book of version 2, which `selfcheck verify` reads too.
+#[derive(Clone, Debug)]
+pub struct Book<K: Kind> {
+    callers: Vec<Vec<Call<K>>>,
+}
+
+// A call, with the moment of its invocation, and with that of its return and its reply where it is answered.
+#[derive(Clone, Copy, Debug)]
+pub(crate) struct Call<K: Kind> {
+    pub op: K::Op,
+    pub invoked: u64,
+    pub answer: Option<(u64, Reply)>,
+}
+
+impl<K: Kind> Book<K> {
+    // Each caller's calls in their order; the moments of all are different.
+    pub(crate) fn new(mut callers: Vec<Vec<Call<K>>>) -> Book<K> {
+        if callers.is_empty() {
+            // a book has at least one caller
+            callers.push(Vec::new());
+        }
+        Book { callers }
+    }
+
+    /// How many calls the callers made.
+    #[must_use]
+    pub fn calls(&self) -> usize {
+        self.callers.iter().map(Vec::len).sum()
+    }
+
+    /// Whether the calls have a legal order.
+    ///
+    /// # Errors
+    ///
+    /// For want of memory. The text of a recorded book is never refused.
+    pub fn verify(&self) -> Result<Verdict, Fault> {
+        verify(self.to_string())
+    }
+
+    /// The book's text with a legal order of its calls, which [`order`](crate::order) judges without a search; `None`
+    /// where the calls have none.
+    ///
+    /// # Errors
+    ///
+    /// For want of memory. The text of a recorded book is never refused.
+    pub fn certify(&self) -> Result<Option<String>, Fault> {
+        certify(self.to_string())
+    }
+
+    // The view of a call that returned at a moment: for each caller, how many of its calls were invoked before.
+    //
+    // Any two views are comparable, since one of the moments is first. That of call k of a caller counts k + 1 of this
+    // caller's own calls, since the next one is invoked after the return.
+    fn view(&self, returned: u64) -> impl Iterator<Item = (usize, usize)> {
+        (self.callers.iter())
+            .map(move |calls| calls.partition_point(|call| call.invoked < returned))
+            .enumerate()
+            .filter(|(_, count)| *count > 0)
+    }
+}
+
+/// The text of version 2.
+impl<K: Kind> fmt::Display for Book<K> {
+    fn fmt(&self, f: &mut fmt::Formatter<'_>) -> fmt::Result {
+        writeln!(f, "book 2")?;
+        writeln!(f, "object {}", K::NAME)?;
+        writeln!(f, "callers {}", self.callers.len())?;
+        write!(f, "calls")?;
+        for calls in &self.callers {
+            write!(f, " {}", calls.len())?;
+        }
+        writeln!(f)?;
+        for (caller, calls) in self.callers.iter().enumerate() {
+            for (number, call) in calls.iter().enumerate() {
+                write!(f, "{caller} {number} {}", call.op)?;
+                if let Some((returned, reply)) = call.answer {
+                    write!(f, " {reply} view")?;
+                    for (other, count) in self.view(returned) {
+                        write!(f, " {other}:{count}")?;
+                    }
+                }
+                writeln!(f)?;
+            }
+        }
+        writeln!(f, "end")
+    }
+}

@@ -1,0 +1,58 @@
+//! Records what threads do to a concurrent object, and judges by a proved check whether it is linearizable
+//! (Herlihy and Wing 1990).
+//!
+//! A [`Recorder`] has a [`Caller`] for each thread, which makes the object's calls in your closures and writes
+//! them down. The [`Book`] of all calls is then judged: [`Book::verify`] says whether the calls have a legal
+//! order, and [`Book::certify`] gives one, in a text that anyone can check again.
+//!
+//! ```
+//! use selfcheck::{Queue, Recorder, Verdict};
+//! use std::{collections::VecDeque, sync::Mutex, thread};
+//!
+//! let queue = Mutex::new(VecDeque::new());
+//! let recorder = Recorder::<Queue>::new();
+//! thread::scope(|scope| {
+//!     for t in 0..4 {
+//!         let (queue, mut me) = (&queue, recorder.caller()?);
+//!         scope.spawn(move || {
+//!             me.enq(t, || queue.lock().unwrap().push_back(t));
+//!             me.deq(|| queue.lock().unwrap().pop_front());
+//!         });
+//!     }
+//!     Ok::<_, selfcheck::TooManyCallers>(())
+//! })?;
+//! assert_eq!(recorder.book()?.verify()?, Verdict::Legal);
+//! # Ok::<_, Box<dyn std::error::Error>>(())
+//! ```
+//!
+//! **What it says.** The verdict on a book is proved. The recorder is tested: a book that it makes is always a
+//! text of a book, and where the book has no legal order, the recorded run wasn't linearizable. A run of a wrong
+//! object may be legal all the same: the threads didn't meet in the wrong way, or the recorded intervals, which
+//! are a little wider than the calls, hide it. Nothing is promised of schedules, so record many short runs.
+#![deny(unsafe_code)]
+#![warn(missing_docs)]
+
+#[forbid(unsafe_code)]
+mod book;
+#[forbid(unsafe_code)]
+mod calls;
+#[forbid(unsafe_code)]
+mod fault;
+#[forbid(unsafe_code)]
+mod kind;
+#[allow(unsafe_code)]
+mod library;
+#[forbid(unsafe_code)]
+mod recorder;
+#[forbid(unsafe_code)]
+mod reply;
+
+pub use book::Book;
+pub use fault::{Fault, Verdict, What};
+pub use kind::{
+    CasRegister, CasRegisterOp, Counter, CounterOp, Kind, Map, MapOp, PriorityQueue,
+    PriorityQueueOp, Queue, QueueOp, Register, RegisterOp, Set, SetOp, Stack, StackOp,
+};
+pub use library::{certify, order, verify};
+pub use recorder::{Caller, Incomplete, MAX_CALLERS, MAX_CALLS, Pending, Recorder, TooManyCallers};
+pub use reply::Reply;
