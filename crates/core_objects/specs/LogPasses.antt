@@ -1,6 +1,7 @@
 -- The passes of the log: whose they are, and what they know of it.
 use Rattle.std.specs.Prelude.{◌≡◌, ℕ, ◌+◌, ◌*◌, ◌≤◌, List, length, vec_capacity}
 use Rattle.world_core.specs.Local.{Object_step}
+use Rattle.log_program.specs.LogProgram.{list_of}
 use Rattle.core_objects.specs.declared.core_log.CoreLog.{CoreLog}
 use Rattle.core_objects.specs.declared.log_pass.CorePass.{CorePass}
 use Rattle.core_objects.specs.LogCalls.{KnowsTickets, KnowsOperations}
@@ -9,9 +10,10 @@ use Rattle.core_objects.specs.LogCalls.{KnowsTickets, KnowsOperations}
 abbrev pub object_of : {S : Type 0} → CoreLog S → S
 object_of log = log.object
 
--- A pass fits a caller, an n, a cap and some object steps where it is the pass of these, with capacity for the whole log, and knows just
--- the tickets and the operations that these steps show.
-pub record FitsLog (pass : CorePass) (caller n cap : ℕ) (steps : List Object_step) : Type 0 where
+-- A pass of the log of a sequential object fits a caller, an n, a cap and some object steps where it is the pass of these, with capacity
+-- for the whole log, and knows just the tickets and the operations that these steps show. Its state is the object's list after these
+-- operations.
+pub record FitsLog (init : List ℕ) (next : List ℕ → ℕ → List ℕ × ℕ) (pass : CorePass) (caller n cap : ℕ) (steps : List Object_step) : Type 0 where
   pub caller_is : pass.caller ≡ caller
   pub callers_are : pass.callers ≡ n
   pub cap_is : pass.cap ≡ cap
@@ -20,4 +22,5 @@ pub record FitsLog (pass : CorePass) (caller n cap : ℕ) (steps : List Object_s
   pub state_fits : pass.state.room ≡ n * cap + 1
   pub tickets_known : KnowsTickets (n * cap) pass.tickets.items steps
   pub log_known : KnowsOperations (n * cap) pass.log.items steps
+  pub state_is : pass.state.words ≡ list_of next init pass.log.items
   pub whole : length pass.log.items ≡ length pass.tickets.items

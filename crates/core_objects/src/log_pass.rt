@@ -3,7 +3,7 @@ ghost use Rattle.book_base.specs.declared.TheConstants.{MAX_CALLERS, MAX_CALLS};
 ghost use Rattle.core_objects.specs.CoreObjects.{ArePassesFor};
 ghost use Rattle.core_objects.specs.LogPasses.{FitsLog};
 
-use book_base::{MAX_CALLERS, MAX_CALLS, NoMemory, OpWord, State};
+use book_base::{MAX_CALLERS, MAX_CALLS, NoMemory, OpWord, SeqObject, State};
 use std::alloc::Global;
 
 /// What one caller holds to ask the log: whose it is, for how many callers and calls, and what the caller knows of
@@ -16,20 +16,27 @@ pub struct CorePass {
     // The tickets of the first places, and the operations that they name.
     pub(crate) tickets: Vec<u64>,
     pub(crate) log: Vec<OpWord>,
-    // What the operations leave, made anew for each reply.
+    // The list of the sequential object after these operations.
     pub(crate) state: State,
 }
 
-// The pass of a caller, for `n` callers, that knows nothing of the log.
-fn pass_for(alloc: Global, caller: u32, n: u32, cap: u64) -> Result<CorePass, NoMemory>
+// The pass of a caller of the log of an object, for `n` callers, that knows nothing of the log.
+fn pass_for<S: SeqObject>(
+    alloc: Global,
+    object: &S,
+    caller: u32,
+    n: u32,
+    cap: u64,
+) -> Result<CorePass, NoMemory>
     requires few_callers { n ≤ MAX_CALLERS }
     requires few_calls { cap ≤ MAX_CALLS }
-    ensures { IfOk result (λ pass. FitsLog pass caller n cap []) }
+    ensures { IfOk result (λ pass. FitsLog (S.init object.now) (S.next object.now) pass caller n cap []) }
 {
     let places = u64::from(n) * cap;
     let tickets = Vec::with_capacity(alloc, places as usize)?;
     let log = Vec::with_capacity(alloc, places as usize)?;
-    let state = State::with_room(alloc, places + 1)?;
+    let mut state = State::with_room(alloc, places + 1)?;
+    object.reset(&mut state);
     Ok(CorePass {
         caller,
         callers: n,
@@ -41,14 +48,19 @@ fn pass_for(alloc: Global, caller: u32, n: u32, cap: u64) -> Result<CorePass, No
 }
 
 // A pass for each of `n` callers, in order.
-pub(crate) fn log_passes_for(alloc: Global, n: u32, cap: u64) -> Result<Vec<CorePass>, NoMemory>
+pub(crate) fn log_passes_for<S: SeqObject>(
+    alloc: Global,
+    object: &S,
+    n: u32,
+    cap: u64,
+) -> Result<Vec<CorePass>, NoMemory>
     requires few_callers { n ≤ MAX_CALLERS }
     requires few_calls { cap ≤ MAX_CALLS }
-    ensures { IfOk result (λ passes. ArePassesFor FitsLog n cap passes.items) }
+    ensures { IfOk result (λ passes. ArePassesFor (FitsLog (S.init object.now) (S.next object.now)) n cap passes.items) }
 {
     let mut passes = Vec::with_capacity(alloc, n as usize)?;
     for caller in 0..n {
-        passes.push(pass_for(alloc, caller, n, cap)?)?;
+        passes.push(pass_for(alloc, object, caller, n, cap)?)?;
     }
     Ok(passes)
 }

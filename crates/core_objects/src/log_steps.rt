@@ -1,5 +1,5 @@
 //! The object steps of a call of the log.
-ghost use Rattle.std.specs.Prelude.{◌≡◌, ℕ, ◌+◌, ◌*◌, ◌<◌, ◌≤◌, List, [], Some, None, length, slice_get, vec_capacity};
+ghost use Rattle.std.specs.Prelude.{◌≡◌, ℕ, ◌+◌, ◌*◌, ◌<◌, ◌≤◌, List, [], Some, None, length, take, slice_get, vec_capacity};
 ghost use Rattle.world_core.specs.CallSteps.{steps_now};
 ghost use Rattle.row_table.specs.Callers.{IsCallerOf};
 ghost use Rattle.drv_wrapper.specs.States.{caller_announced, announced_local};
@@ -131,6 +131,7 @@ pub(crate) fn load_operations<S: SeqObject + Copy>(
     ensures made { HasMade ⟦<LogProgram<S> as Program>⟧.meaning rows.now announced.old announced.new }
     ensures tickets { KnowsPlaces rows.now announced.new tickets.now }
     ensures log { KnowsLog rows.now announced.new log.new.items }
+    ensures before { take (length log.old.items) log.new.items ≡ log.old.items }
     ensures whole { length log.new.items + 1 ≡ length tickets.now }
     ensures capacity { vec_capacity log.old ≤ vec_capacity log.new }
 {

@@ -97,7 +97,7 @@ impl CoreObject for CoreTally {
 
     ghost program_of = { λ object. record {} };
 
-    ghost fits = { FitsOneWord };
+    ghost fits = { λ object. FitsOneWord };
 
     ghost linearizes = { λ object n cap steps run. tallies_linearize_counters n cap steps run };
 
@@ -115,12 +115,6 @@ impl CoreObject for CoreTally {
         announced: &mut Announced<TallyProgram>,
         pass: &mut CoreTallyPass,
     ) -> u64
-        requires program { AreOpenedWith ⟦<TallyProgram as Program>⟧.meaning (record {}) rows.now }
-        requires caller { IsCallerOf ⟦<TallyProgram as Program>⟧.meaning rows.now (caller_announced announced.old) }
-        requires first { steps_now (announced_local announced.old) ≡ [] }
-        requires fits { FitsOneWord pass.old (who_announced announced.old) rows.now.callers rows.now.cap (all_steps_of (announced_local announced.old)) }
-        ensures made { (made : HasReplied ⟦<TallyProgram as Program>⟧.meaning rows.now announced.old announced.new result)
-            × FitsOneWord pass.new (who_announced announced.old) rows.now.callers rows.now.cap (all_steps_of (announced_local announced.old) ++ made.steps) }
     {
         let _pass = &*pass;
         self.count(rows, announced)

@@ -1,5 +1,6 @@
-use Rattle.std.proofs.Common.{◌≡◌, ◌<◌, ℕ, ◌+◌, ◌-◌, Bool, if◌then◌else◌, List, [], ◌∷◌, ◌++◌, length, Some, slice_index_or, sym, ap, ◌∙◌, subst, arith, length-append}
+use Rattle.std.proofs.Common.{◌≡◌, ◌<◌, ℕ, ◌+◌, ◌-◌, Bool, if◌then◌else◌, List, [], ◌∷◌, ◌++◌, length, Some, take, take_all, slice_index_or, sym, ap, ◌∙◌, subst, arith, length-append}
 use Rattle.std.specs.Prelude.{is_ok}
+use Rattle.std.proofs.lemmas.List.{take-append-le}
 use Rattle.std.proofs.lemmas.Option.{slice_get-get_or}
 use Rattle.world_core.specs.CallSteps.{all_steps_of}
 use Rattle.drv_wrapper.specs.States.{announced_local}
@@ -14,6 +15,7 @@ loop-place-init g c =
       made = made_none g.S.SeqObject.init g.S.SeqObject.next c.args.rows.now c.args.announced.now c.requires.caller;
       tickets = c.requires.tickets;
       log = c.requires.log;
+      before = take_all _ c.args.log.now.items (omega arith);
       place = omega (arith, c.len-place.ensures, c.args.log.now.ok);
       capacity = omega arith;
     }
@@ -74,6 +76,10 @@ loop-place-preserved g c =
           (log_kept g.S.SeqObject.init g.S.SeqObject.next r b d log c.load_operation-op.ensures.made inv.log)
           (ap (λ (p : ℕ). known (ticket_place (places_on r) p) (all_steps_of (announced_local d))) (sym inv.place) ∙ filled.0)
           (ap (λ (t : ℕ). known_operation (Some t) (all_steps_of (announced_local d))) named ∙ c.load_operation-op.ensures.operation));
+      before =
+          ap (take (length c.args.log.now.items)) grown
+          ∙ take-append-le (length c.args.log.now.items) log (op ∷ []) (omega (arith, ap (λ (xs : List ℕ). length xs) inv.before))
+          ∙ inv.before;
       place = omega (arith, count, inv.place);
       capacity = omega (arith, inv.capacity, c.push.ensures.capacity);
     }

@@ -1,4 +1,4 @@
-use Rattle.std.proofs.Common.{◌≡◌, ◌≤◌, length, vec_capacity}
+use Rattle.std.proofs.Common.{◌≡◌, ◌≤◌, length, take, vec_capacity}
 use Rattle.core_objects.specs.LogCalls.{HasMade, KnowsPlaces, KnowsLog}
 use Rattle.core_objects.proofs.LogCalls.{meaning}
 use Rattle.core_objects.proofs.log_steps.load_operations.Given as goal
@@ -9,6 +9,7 @@ invariant-loop-place g l =
       made : HasMade (meaning g.S.SeqObject.init g.S.SeqObject.next) l.rows l.fn.announced l.announced;
       tickets : KnowsPlaces l.rows l.announced l.tickets;
       log : KnowsLog l.rows l.announced l.log.items;
+      before : take (length l.fn.log.items) l.log.items ≡ l.fn.log.items;
       place : l.place ≡ length l.log.items;
       capacity : vec_capacity l.fn.log ≤ vec_capacity l.log;
     }

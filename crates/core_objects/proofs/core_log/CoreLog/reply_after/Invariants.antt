@@ -2,10 +2,11 @@ use Rattle.std.proofs.Common.{◌≡◌, ◌+◌, ◌≤◌, length, take}
 use Rattle.log_program.specs.LogProgram.{list_of}
 use Rattle.core_objects.proofs.core_log.CoreLog.reply_after.Given as goal
 
-abbrev pub invariant-loop-before : goal.invariant-loop-before
-invariant-loop-before g l =
+abbrev pub invariant-loop-place : goal.invariant-loop-place
+invariant-loop-place g l =
     record {
-      words : l.state.words ≡ list_of (g.S.SeqObject.next l.self.object) (g.S.SeqObject.init l.self.object) (take l.before-index l.log);
+      words : l.state.words ≡ list_of (g.S.SeqObject.next l.self.object) (g.S.SeqObject.init l.self.object) (take l.place l.log);
       room : l.state.room ≡ l.fn.state.room;
-      few : length l.state.words ≤ l.before-index + 1;
+      few : length l.state.words ≤ l.place + 1;
+      within : l.place ≤ length l.log;
     }

@@ -1,4 +1,4 @@
-use Rattle.std.proofs.Common.{◌≡◌, ℕ, ◌+◌, ◌*◌, Bool, if◌then◌else◌, List, [], ◌∷◌, ◌++◌, length, sym, ap, ◌∙◌, subst, arith, length-append}
+use Rattle.std.proofs.Common.{◌≡◌, ℕ, ◌+◌, ◌*◌, Bool, if◌then◌else◌, List, [], ◌∷◌, ◌++◌, length, take, sym, ap, ◌∙◌, subst, arith, length-append}
 use Rattle.std.specs.Prelude.{is_ok}
 use Rattle.world_core.specs.CallSteps.{all_steps_of}
 use Rattle.drv_wrapper.specs.States.{who_announced, op_announced, announced_local}
@@ -26,6 +26,23 @@ load_operations-requires-clause-log g c =
     let log : List ℕ = c.args.pass.now.log.items in
     log_kept g.S.SeqObject.init g.S.SeqObject.next r c.store_operation.new.announced c.place_ticket.new.announced log c.place_ticket.ensures.made
     (log_kept g.S.SeqObject.init g.S.SeqObject.next r c.args.announced.now c.store_operation.new.announced log c.store_operation.ensures.made c.requires.fits.log_known)
+
+pub reply_after-reply-requires-clause-made : goal.reply_after-reply-requires-clause-made
+reply_after-reply-requires-clause-made g c =
+    let before = ap (λ (xs : List ℕ). length xs) c.load_operations.ensures.before in
+    let log = ap (λ (xs : List ℕ). length xs) c.deref-2.ensures.value in
+    omega (arith, before, log, c.len-made.ensures, c.args.pass.now.log.ok)
+
+pub reply_after-reply-requires-clause-state : goal.reply_after-reply-requires-clause-state
+reply_after-reply-requires-clause-state g c =
+    let object = c.args.self.now.object in
+    let log : List ℕ = c.load_operations.new.log.items in
+    let count : length c.args.pass.now.log.items ≡ c.len-made.result = omega (arith, c.len-made.ensures, c.args.pass.now.log.ok) in
+    c.requires.fits.state_is
+    ∙ ap (list_of (g.S.SeqObject.next object) (g.S.SeqObject.init object))
+    (sym c.load_operations.ensures.before
+    ∙ ap (λ (k : ℕ). take k log) count
+    ∙ ap (take c.len-made.result) (sym c.deref-2.ensures.value))
 
 pub returns : goal.returns
 returns g c =
@@ -74,6 +91,10 @@ returns g c =
           tickets_fit = omega (arith, fits.tickets_fit, c.place_ticket.ensures.capacity);
           log_fits = omega (arith, fits.log_fits, c.load_operations.ensures.capacity, c.push.ensures.capacity);
           state_fits = c.reply_after-reply.ensures.room ∙ fits.state_fits;
+          state_is =
+              c.reply_after-reply.ensures.state
+              ∙ ap (list_of (g.S.SeqObject.next object) (g.S.SeqObject.init object))
+              (ap (λ (xs : List ℕ). xs ++ op ∷ []) c.deref-2.ensures.value ∙ sym grown);
           tickets_known = subst (KnowsTickets (places_on r) tickets) steps tickets_known;
           log_known =
               subst (λ (xs : List ℕ). KnowsOperations (places_on r) xs (all_steps_of (announced_local a) ++ made.steps)) (sym grown)
