@@ -1,4 +1,5 @@
 pub mod OneWordCalls
+pub mod OneWordReplies
 pub mod RegisterWords
 pub mod Passes
 pub mod KnownSteps

@@ -1,13 +1,10 @@
-ghost use Rattle.std.specs.Prelude.{◌≡◌, ◌≤◌, [], ◌++◌, IfOk};
+ghost use Rattle.std.specs.Prelude.{◌≤◌, IfOk};
 ghost use Rattle.book_base.specs.declared.TheConstants.{MAX_CALLERS, MAX_CALLS};
-ghost use Rattle.world_core.specs.CallSteps.{steps_now, all_steps_of};
-ghost use Rattle.row_table.specs.Callers.{IsCallerOf};
-ghost use Rattle.drv_wrapper.specs.States.{who_announced, caller_announced, announced_local};
-ghost use Rattle.core_objects.specs.CoreObjects.{AreOpenedWith, HasReplied, ArePassesFor};
+ghost use Rattle.core_objects.specs.CoreObjects.{ArePassesFor};
 ghost use Rattle.core_objects.specs.OneWordPasses.{FitsOneWord};
 
 use crate::core_object::CoreObject;
-use crate::one_word_pass::{OneWordPass, passes_for};
+use crate::one_word_pass::OneWordPass;
 use book_base::{BAD, MAX_CALLERS, MAX_CALLS, NoMemory, OpWord, SeqObject};
 use drv_wrapper::Announced;
 use row_table::Rows;
@@ -56,27 +53,8 @@ impl CoreCell {
         requires few_calls { cap ≤ MAX_CALLS }
         ensures passes { IfOk result (λ r. ArePassesFor FitsOneWord n cap r.1.items) }
     {
-        let passes = passes_for(alloc, n, cap)?;
+        let passes = OneWordPass::for_callers(alloc, n, cap)?;
         Ok((CoreCell { register: Register }, passes))
-    }
-
-    // The reply to a call, by the step that it makes.
-    fn keep(&self, rows: &Rows<CellProgram>, announced: &mut Announced<CellProgram>) -> u64
-        requires program { AreOpenedWith ⟦<CellProgram as Program>⟧.meaning (record {}) rows.now }
-        requires caller { IsCallerOf ⟦<CellProgram as Program>⟧.meaning rows.now (caller_announced announced.old) }
-        requires first { steps_now (announced_local announced.old) ≡ [] }
-        ensures { HasReplied ⟦<CellProgram as Program>⟧.meaning rows.now announced.old announced.new result }
-    {
-        let op = announced.op();
-        if op == READ {
-            let found = announced.object_load(rows, 0);
-            return value_reply(found);
-        }
-        if !self.register.known(op) {
-            return BAD;
-        }
-        announced.object_store(rows, 0, (op - WRITE_0) as u64);
-        DONE
     }
 }
 
@@ -110,10 +88,17 @@ impl CoreObject for CoreCell {
         &self,
         rows: &Rows<CellProgram>,
         announced: &mut Announced<CellProgram>,
-        pass: &mut CoreCellPass,
-    ) -> u64
-    {
-        let _pass = &*pass;
-        self.keep(rows, announced)
+        _pass: &mut CoreCellPass,
+    ) -> u64 {
+        let op = announced.op();
+        if op == READ {
+            let found = announced.object_load(rows, 0);
+            return value_reply(found);
+        }
+        if !self.register.known(op) {
+            return BAD;
+        }
+        announced.object_store(rows, 0, (op - WRITE_0) as u64);
+        DONE
     }
 }

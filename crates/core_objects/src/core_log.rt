@@ -2,11 +2,8 @@ ghost use Rattle.std.specs.Prelude.{◌≡◌, ℕ, ◌+◌, ◌<◌, ◌≤◌,
 ghost use Rattle.book_base.specs.declared.TheConstants.{MAX_CALLERS, MAX_CALLS};
 ghost use Rattle.world_core.specs.World.{Step, IsRun};
 ghost use Rattle.world_core.specs.History.{IsLinearizable, history_of};
-ghost use Rattle.world_core.specs.CallSteps.{steps_now, all_steps_of};
-ghost use Rattle.row_table.specs.Callers.{IsCallerOf};
-ghost use Rattle.drv_wrapper.specs.States.{who_announced, caller_announced, announced_local};
 ghost use Rattle.log_program.specs.LogProgram.{list_of};
-ghost use Rattle.core_objects.specs.CoreObjects.{shape_with, AreOpenedWith, HasReplied, ArePassesFor};
+ghost use Rattle.core_objects.specs.CoreObjects.{shape_with, ArePassesFor};
 ghost use Rattle.core_objects.specs.LogPasses.{FitsLog, object_of};
 
 use crate::core_object::CoreObject;
@@ -121,8 +118,7 @@ impl<S: SeqObject + Copy> CoreObject for CoreLog<S> {
         rows: &Rows<LogProgram<S>>,
         announced: &mut Announced<LogProgram<S>>,
         pass: &mut CorePass,
-    ) -> u64
-    {
+    ) -> u64 {
         let places = u64::from(pass.callers) * pass.cap;
         let number = u64::from(pass.caller) * pass.cap + announced.number();
         let op = announced.op();

@@ -13,17 +13,19 @@ pub struct OneWordPass {
     cap: u64,
 }
 
-// A pass for each of `n` callers, in order.
-pub(crate) fn passes_for(alloc: Global, n: u32, cap: u64) -> Result<Vec<OneWordPass>, NoMemory>
-    ensures { IfOk result (λ passes. ArePassesFor FitsOneWord n cap passes.items) }
-{
-    let mut passes = Vec::with_capacity(alloc, n as usize)?;
-    for caller in 0..n {
-        passes.push(OneWordPass {
-            caller,
-            callers: n,
-            cap,
-        })?;
+impl OneWordPass {
+    /// A pass for each of `n` callers with `cap` calls each, in order.
+    pub fn for_callers(alloc: Global, n: u32, cap: u64) -> Result<Vec<OneWordPass>, NoMemory>
+        ensures { IfOk result (λ passes. ArePassesFor FitsOneWord n cap passes.items) }
+    {
+        let mut passes = Vec::with_capacity(alloc, n as usize)?;
+        for caller in 0..n {
+            passes.push(OneWordPass {
+                caller,
+                callers: n,
+                cap,
+            })?;
+        }
+        Ok(passes)
     }
-    Ok(passes)
 }

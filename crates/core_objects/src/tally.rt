@@ -1,15 +1,12 @@
-ghost use Rattle.std.specs.Prelude.{◌≡◌, ◌≤◌, [], ◌++◌, IfOk};
+ghost use Rattle.std.specs.Prelude.{◌≡◌, ◌≤◌, IfOk};
 ghost use Rattle.book_base.specs.declared.TheConstants.{MAX_CALLERS, MAX_CALLS};
 ghost use Rattle.seq_objects.specs.Words.{is_operation_of};
 ghost use Rattle.seq_objects.specs.Words as words;
-ghost use Rattle.world_core.specs.CallSteps.{steps_now, all_steps_of};
-ghost use Rattle.row_table.specs.Callers.{IsCallerOf};
-ghost use Rattle.drv_wrapper.specs.States.{who_announced, caller_announced, announced_local};
-ghost use Rattle.core_objects.specs.CoreObjects.{AreOpenedWith, HasReplied, ArePassesFor};
+ghost use Rattle.core_objects.specs.CoreObjects.{ArePassesFor};
 ghost use Rattle.core_objects.specs.OneWordPasses.{FitsOneWord};
 
 use crate::core_object::CoreObject;
-use crate::one_word_pass::{OneWordPass, passes_for};
+use crate::one_word_pass::OneWordPass;
 use book_base::{BAD, MAX_CALLERS, MAX_CALLS, NoMemory, OpWord, SeqObject};
 use drv_wrapper::Announced;
 use row_table::Rows;
@@ -57,7 +54,7 @@ impl CoreTally {
         requires few_calls { cap ≤ MAX_CALLS }
         ensures passes { IfOk result (λ r. ArePassesFor FitsOneWord n cap r.1.items) }
     {
-        let passes = passes_for(alloc, n, cap)?;
+        let passes = OneWordPass::for_callers(alloc, n, cap)?;
         Ok((CoreTally { counter: Counter }, passes))
     }
 
@@ -66,20 +63,6 @@ impl CoreTally {
         ensures { result ≡ is_operation_of op words.inc }
     {
         self.counter.known(op)
-    }
-
-    // The reply to a call, by the step that it makes.
-    fn count(&self, rows: &Rows<TallyProgram>, announced: &mut Announced<TallyProgram>) -> u64
-        requires program { AreOpenedWith ⟦<TallyProgram as Program>⟧.meaning (record {}) rows.now }
-        requires caller { IsCallerOf ⟦<TallyProgram as Program>⟧.meaning rows.now (caller_announced announced.old) }
-        requires first { steps_now (announced_local announced.old) ≡ [] }
-        ensures { HasReplied ⟦<TallyProgram as Program>⟧.meaning rows.now announced.old announced.new result }
-    {
-        if !self.makes_step(announced.op()) {
-            return BAD;
-        }
-        let found = announced.object_add(rows, 0, 1);
-        value_reply(found)
     }
 }
 
@@ -113,10 +96,12 @@ impl CoreObject for CoreTally {
         &self,
         rows: &Rows<TallyProgram>,
         announced: &mut Announced<TallyProgram>,
-        pass: &mut CoreTallyPass,
-    ) -> u64
-    {
-        let _pass = &*pass;
-        self.count(rows, announced)
+        _pass: &mut CoreTallyPass,
+    ) -> u64 {
+        if !self.makes_step(announced.op()) {
+            return BAD;
+        }
+        let found = announced.object_add(rows, 0, 1);
+        value_reply(found)
     }
 }

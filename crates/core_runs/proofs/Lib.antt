@@ -1,4 +1,5 @@
 pub mod Passes
 pub mod Errors
 pub mod Opened
+pub mod FreshRuns
 pub mod LoggedReports

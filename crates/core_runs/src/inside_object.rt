@@ -27,19 +27,19 @@ impl<O: CoreObject> Asks for InsideObject<'_, O> {
 
     ghost serves = { λ asks r. Serves O.P.meaning (O.program_of asks.object.now) asks.rows.now r };
 
-    ghost fits = { λ asks. fits_inside O.fits };
+    ghost fits = { λ asks. fits_inside (O.fits asks.object.now) };
 
     fn ask(&self, announced: Announced<O::P>, pass: &mut O::Pass) -> Answered<O::P>
         requires table { (r : TheRows O.P) × Serves O.P.meaning (O.program_of self.now.object.now) self.now.rows.now r × IsCallerOf O.P.meaning r (caller_announced announced) }
         requires first { steps_now (announced_local announced) ≡ [] }
-        requires fits { FitsCaller (fits_inside O.fits) pass.old (caller_announced announced) }
+        requires fits { FitsCaller (fits_inside (O.fits self.now.object.now)) pass.old (caller_announced announced) }
         ensures who { who_of (caller_answered result) ≡ who_announced announced }
         ensures rows { (r : TheRows O.P) → Serves O.P.meaning (O.program_of self.now.object.now) self.now.rows.now r → IsCallerOf O.P.meaning r (caller_announced announced) → IsCallerOf O.P.meaning r (caller_answered result) }
         ensures operation { op_answered result ≡ op_announced announced }
         ensures allowed { MayGet O.P.meaning (caller_answered result) (reply_answered result) }
         ensures calls { ComesNoFurther (announced_local announced) (answered_local result) }
         ensures grows { Grows (announced_local announced) (answered_local result) }
-        ensures fits { FitsCaller (fits_inside O.fits) pass.new (caller_answered result) }
+        ensures fits { FitsCaller (fits_inside (O.fits self.now.object.now)) pass.new (caller_answered result) }
     {
         self.object.ask(self.rows, announced, pass)
     }

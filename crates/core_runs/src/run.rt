@@ -45,12 +45,12 @@ where
     requires rows { AreRowsFor script.now rows.now }
     requires bench { IsBenchOf O.P.meaning rows.now bench.old }
     requires unused { (i : ℕ) → i < length script.now.operations → IsUnused bench.old i }
-    requires passes { ArePassesFor O.fits rows.now.callers rows.now.cap passes.old.items }
+    requires passes { ArePassesFor (O.fits object.now) rows.now.callers rows.now.cap passes.old.items }
     // For every answer.
     ensures bench { IsBenchOf O.P.meaning rows.now bench.new × HoldsAll bench.new }
     ensures all_passes { vec_len passes.new ≡ length script.now.operations }
     ensures back { (i : ℕ) → i < length script.now.operations → IsBackOn O.P.meaning rows.now
-        (fits_inside O.fits) (λ pass. None)
+        (fits_inside (O.fits object.now)) (λ pass. None)
         (course_of script.now (allotments_of script.now.operations script.now.stops)
         (record { init = O.S.init (O.sequential_of object.now); next = O.S.next (O.sequential_of object.now) }))
         bench.new passes.new.items i }

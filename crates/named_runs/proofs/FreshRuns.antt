@@ -1,25 +1,23 @@
 -- Runs that open the table of rows themselves.
-use Rattle.std.proofs.Common.{◌≡◌, ◌∙◌, ℕ, zero, suc, ◌<◌, ◌≤◌, List, [], ◌∷◌, Option, Some, length, get_or, refl, sym, subst, arith}
+use Rattle.std.proofs.Common.{◌≡◌, ◌∙◌, ℕ, ◌<◌, List, Option, Some, length, subst, arith}
 use Rattle.world_core.specs.Shape.{Shape, Meaning}
 use Rattle.world_core.specs.Programs.{outside}
 use Rattle.world_core.specs.Local.{fresh}
-use Rattle.call_lines.specs.Allotments.{operations_at}
 use Rattle.call_lines.specs.Lawful.{IsLawful}
-use Rattle.text_fields.specs.Counts.{AreAtMost}
 use Rattle.text_fields.specs.declared.version.Version.TheVariants.{Second}
-use Rattle.client_scripts.specs.Plans.{Plan, IsPlan, sizes}
+use Rattle.client_scripts.specs.Plans.{Plan, IsPlan}
 use Rattle.seq_objects.specs.Objects.{kind_init, kind_next}
 use Rattle.row_table.specs.Benches.{fresh_stance}
 use Rattle.row_table.specs.Callers.{shape_of, locals_on, on_bench, stance_on, IsBenchOf}
 use Rattle.row_table.specs.declared.rows.Rows.{Rows}
 use Rattle.row_table.specs.declared.bench.Bench.{Bench}
 use Rattle.bench_clients.specs.Places.{AreInOrder}
-use Rattle.bench_clients.specs.Starts.{AreRowsFor, IsUnused}
 use Rattle.reports.specs.Findings.{Findings}
 use Rattle.run_report.specs.Passes.{IsOwnPass, IsUnusedPass}
 use Rattle.run_writer.specs.declared.form.Form.{Form}
 use Rattle.byte_streams.specs.declared.status.Status.{Status}
 use Rattle.core_objects.specs.CoreObjects.{shape_with}
+use Rattle.core_runs.proofs.FreshRuns.{rows_for, shape_opened_with, unused_when_opened}
 use Rattle.run_report.specs.Reporting.{IsReportOf}
 use Rattle.run_writer.specs.Running.{run_allotments, MayBegin, IsToldBenchReport, IsCoreReport}
 use Rattle.call_phases.specs.Ends.{Sequential}
@@ -28,29 +26,13 @@ use Rattle.named_runs.specs.Worlds.{outside_shape}
 use Rattle.named_runs.specs.BehaviourRuns.{IsToldReport, IsInsideReport}
 use Rattle.byte_streams.proofs.WritingLemmas.{EndsWriting-weaker}
 
--- a caller has at most so many calls where all have
-pub calls_within : (most : ℕ) (operations : List (List ℕ)) (i : ℕ) → AreAtMost most (sizes operations) → length (get_or operations i []) ≤ most
-calls_within most [] i h = omega arith
-calls_within most (own ∷ operations) zero h = h.0
-calls_within most (own ∷ operations) (suc i) h = calls_within most operations i h.1
-
-module _ {P : Type 0} where
-  -- rows with the greatest cap are wide enough
-  wide_rows : (plan : Plan) (r : Rows P) → r.callers ≡ length plan.operations → r.cap ≡ 256 → IsPlan Second plan → AreRowsFor plan r
-  wide_rows plan r callers cap h =
-      record { callers = callers; cap = λ i. subst (λ (n : ℕ). length (operations_at plan.operations i) ≤ n) (sym cap) (calls_within 256 plan.operations i h.calls) }
-
-  -- a caller that is on the bench as it was opened is unused
-  opened_unused : (b : Bench P) (i : ℕ) → (on_bench b i ≡ Some fresh) × (stance_on b i ≡ Some fresh_stance) → IsUnused b i
-  opened_unused b i h = record { local = fresh; here = h.0; stance = h.1; idle = record { announcing = refl; unstaged = refl }; none = refl }
-
 -- a run may begin on rows that were opened for a plan with the greatest cap, with their bench
 pub may_begin : {P : Type 0} (meaning : P → ℕ → ℕ → Meaning) (plan : Plan) (n : ℕ) (r : Rows P) (b : Bench P) → n ≡ length plan.operations → IsPlan Second plan → r.callers ≡ n → r.cap ≡ 256 → IsBenchOf meaning r b
     → ((i : ℕ) → i < n → (on_bench b i ≡ Some fresh) × (stance_on b i ≡ Some fresh_stance)) → MayBegin meaning plan r b
 may_begin meaning plan n r b all is callers cap of opened = record {
-  rows_for = wide_rows plan r (callers ∙ all) cap is;
+  rows_for = rows_for r plan 256 (callers ∙ all) cap is.calls;
   bench_of = of;
-  unused = λ i low. opened_unused b i (opened i (omega (arith, low, all)));
+  unused = λ i low. unused_when_opened b i (opened i (omega (arith, low, all)));
 }
 
 -- unused passes are own
@@ -93,8 +75,7 @@ pub inside_fresh_ends : {P : Type 0} (object : Sequential) (meaning : P → ℕ 
     → RunEnds object (IsCoreReport object meaning rows bench plan (run_allotments plan)) form result taken taken'
     → RunEnds object (IsInsideReport object (shape_with (meaning program) (length plan.operations) 256) plan (run_allotments plan)) form result taken taken'
 inside_fresh_ends object meaning program rows bench plan form result taken taken' same all most ends =
-    let shape : ◌≡◌ {A = Shape} (shape_of meaning rows) (shape_with (meaning program) (length plan.operations) 256) =
-    λ i. record { callers = all i; cap = most i; program = meaning (same i) (all i) (most i) } in
+    let shape = shape_opened_with rows meaning program (length plan.operations) 256 same all most in
     RunEnds-weaker _ _ _ form result taken taken'
     (λ findings is. record {
       locals = locals_on bench;

@@ -10,7 +10,7 @@ use Rattle.client_scripts.specs.Plans.{Plan, IsPlan}
 use Rattle.bench_clients.specs.Places.{AreInOrder}
 use Rattle.run_report.specs.Passes.{IsOwnPass, IsUnusedPass}
 use Rattle.named_runs.specs.NamedObjects.{AreOwnPasses}
-use Rattle.named_runs.proofs.FreshRuns.{calls_within}
+use Rattle.core_runs.proofs.FreshRuns.{calls_within}
 
 module _ {T : Type 0} (caller : T → ℕ) (passes : List T) (n : ℕ) where
   -- there is a pass for each caller

@@ -33,7 +33,7 @@ where
     O::S: Sync,
     O::P: Send + Sync,
     O::Pass: Send,
-    requires passes { ArePassesFor O.fits (length script.now.operations) MAX_CALLS passes.old.items }
+    requires passes { ArePassesFor (O.fits object.now) (length script.now.operations) MAX_CALLS passes.old.items }
     ensures ends { RunEnds (object_by O.S.init O.S.next (O.sequential_of object.now))
         (IsInsideReport (object_by O.S.init O.S.next (O.sequential_of object.now))
         (shape_with (O.P.meaning (O.program_of object.now)) (length script.now.operations) MAX_CALLS)

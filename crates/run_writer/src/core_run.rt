@@ -47,13 +47,13 @@ where
     O::Pass: Send,
     requires program { AreOpenedWith O.P.meaning (O.program_of object.now) rows.now }
     requires begins { MayBegin O.P.meaning script.now rows.now bench.old }
-    requires passes { ArePassesFor O.fits rows.now.callers rows.now.cap passes.old.items }
+    requires passes { ArePassesFor (O.fits object.now) rows.now.callers rows.now.cap passes.old.items }
 
     // What stands afterwards, whatever the answer.
     ensures bench { IsBenchOf O.P.meaning rows.now bench.new × HoldsAll bench.new }
     ensures all_passes { vec_len passes.new ≡ length script.now.operations }
     ensures back { (i : ℕ) → i < length script.now.operations
-        → IsBackOn O.P.meaning rows.now (fits_inside O.fits) (λ pass. None)
+        → IsBackOn O.P.meaning rows.now (fits_inside (O.fits object.now)) (λ pass. None)
         (course_of script.now (run_allotments script.now)
         (object_by O.S.init O.S.next (O.sequential_of object.now))) bench.new passes.new.items i }
 

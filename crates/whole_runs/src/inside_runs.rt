@@ -8,12 +8,12 @@ use book_base::{Call, MAX_CALLERS, MAX_CALLS, NoMemory};
 use call_lines::LineEnd;
 use client_scripts::make_script;
 use core_objects::{CoreCell, CoreLog, CoreObject, CoreTally};
+use core_runs::run_core_fresh;
 use reports::Report;
 use seq_objects::{DONE, Kind, NO, NONE, YES};
 use std::alloc::Global;
 use std::test::Fail;
 use std::thread::Threads;
-use wrapped_core::run_core_fresh;
 
 // How many callers there are, how many calls each of them makes, and how many it might make.
 #[derive(Clone, Copy)]
@@ -109,7 +109,7 @@ where
     O::S: Sync,
     O::P: Send + Sync,
     O::Pass: Send,
-    requires { ArePassesFor O.fits size.callers size.cap passes.old.items }
+    requires { ArePassesFor (O.fits object.now) size.callers size.cap passes.old.items }
 {
     let script = make_script(alloc, 0, size.callers, size.calls, kind)?;
     let report = run_core_fresh(rt, alloc, object, passes, size.cap, &script)?;

@@ -1,2 +1,1 @@
-pub mod OneWordReplies
 pub mod FreshRuns

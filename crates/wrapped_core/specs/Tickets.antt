@@ -3,9 +3,7 @@ use Rattle.std.specs.Prelude.{◌≡◌, ℕ, ◌+◌, ◌%◌, ◌^◌, ◌==�
 use Rattle.book_base.specs.declared.TheConstants.{BAD}
 use Rattle.seq_objects.specs.Items.{first_or_zero}
 use Rattle.seq_objects.specs.Replies.{reply_value}
-use Rattle.world_core.specs.Local.{Object_step}
 use Rattle.object_orders.specs.OneWord.{OneWord}
-use Rattle.wrapped_core.specs.declared.ticket_pass.TicketPass.{TicketPass}
 
 -- The operation word of taking a ticket.
 abbrev pub take : ℕ
@@ -33,7 +31,3 @@ dispenser first =
 -- The list that a word stands for.
 abbrev pub taken_by : ℕ → List ℕ
 taken_by taken = taken ∷ []
-
--- The pass is that of a caller, whatever the number of callers and the cap, and whatever object steps the caller has made.
-abbrev pub IsHeldBy : TicketPass → ℕ → ℕ → ℕ → List Object_step → Type 0
-IsHeldBy pass caller n cap steps = pass.caller ≡ caller

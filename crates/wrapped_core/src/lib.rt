@@ -2,13 +2,9 @@
 //! error.
 #![tactic(auto)]
 
-mod fresh_run;
 mod ticket_dispenser;
-mod ticket_pass;
 
-pub use fresh_run::run_core_fresh;
 pub use ticket_dispenser::{TAKE, TicketDispenser};
-pub use ticket_pass::TicketPass;
 
 #[cfg(test)]
 mod tests;

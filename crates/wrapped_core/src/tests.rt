@@ -1,7 +1,9 @@
-use crate::{TicketDispenser, TicketPass, run_core_fresh};
+use crate::TicketDispenser;
 use book_base::{BAD, Call, MAX_CALLS, NoMemory};
 use call_lines::LineEnd;
 use client_scripts::{Script, make_script, read_script};
+use core_objects::OneWordPass;
+use core_runs::run_core_fresh;
 use reports::Report;
 use seq_objects::Kind;
 use std::alloc::Global;
@@ -20,7 +22,7 @@ fn take_tickets<R: Threads + Sync>(
     script: &Script,
 ) -> Result<Report, NoMemory> {
     let object = TicketDispenser { first };
-    let mut passes = TicketPass::for_callers(alloc, script.callers())?;
+    let mut passes = OneWordPass::for_callers(alloc, script.callers(), MAX_CALLS)?;
     run_core_fresh(rt, alloc, &object, &mut passes, MAX_CALLS, script)
 }
 

@@ -2,9 +2,8 @@ ghost use Rattle.std.specs.Prelude.{◌≡◌, ◌==◌, [], ◌∷◌};
 ghost use Rattle.seq_objects.specs.Items.{first_or_zero};
 ghost use Rattle.wrapped_core.specs.Tickets.{ticket};
 
-use crate::ticket_pass::TicketPass;
 use book_base::{BAD, OpWord, SeqObject, State};
-use core_objects::CoreObject;
+use core_objects::{CoreObject, OneWordPass};
 use drv_wrapper::Announced;
 use row_table::Rows;
 use seq_objects::value_reply;
@@ -91,20 +90,20 @@ impl InWorld for TicketDispenser {}
 
 /// What they do.
 impl CoreObject for TicketDispenser {
-    ghost use Rattle.wrapped_core.specs.Tickets.{IsHeldBy};
+    ghost use Rattle.core_objects.specs.OneWordPasses.{FitsOneWord};
     ghost use Rattle.wrapped_core.specs.TicketLaws.{dispensers_linearize};
 
     type S = TicketDispenser;
 
     type P = TicketDispenser;
 
-    type Pass = TicketPass;
+    type Pass = OneWordPass;
 
     ghost sequential_of = { λ dispenser. dispenser };
 
     ghost program_of = { λ dispenser. dispenser };
 
-    ghost fits = { IsHeldBy };
+    ghost fits = { λ dispenser. FitsOneWord };
 
     ghost linearizes = { λ dispenser n cap steps run. dispensers_linearize dispenser.first n cap steps run };
 
@@ -120,7 +119,7 @@ impl CoreObject for TicketDispenser {
         &self,
         rows: &Rows<TicketDispenser>,
         announced: &mut Announced<TicketDispenser>,
-        _pass: &mut TicketPass,
+        _pass: &mut OneWordPass,
     ) -> u64 {
         if announced.op() != TAKE {
             return BAD;

@@ -16,7 +16,7 @@ run_asked-requires-clause-all_passes g c κs within = omega (arith, c.requires.p
 
 pub run_asked-requires-clause-passes : goal.run_asked-requires-clause-passes
 run_asked-requires-clause-passes g c κs within =
-    core_passes_are_fresh c.args.rows.now g.O.CoreObject.fits c.args.script.now.operations _ c.requires.passes
+    core_passes_are_fresh c.args.rows.now (g.O.CoreObject.fits c.args.object.now) c.args.script.now.operations _ c.requires.passes
 
 pub returns-clause-no_error : goal.returns-clause-no_error
 returns-clause-no_error g c =

@@ -13,4 +13,4 @@ run_core_fresh-requires-clause-calls g c κs within =
 pub run_core_fresh-requires-clause-passes : goal.run_core_fresh-requires-clause-passes
 run_core_fresh-requires-clause-passes g c κs within =
     let callers = ap (λ (plan : Plan). length plan.operations) c.in_ok-script.ensures ∙ made_callers 0 c.args.size.calls c.args.kind c.args.size.callers in
-    subst (λ (n : ℕ). ArePassesFor g.O.CoreObject.fits n c.args.size.cap c.args.passes.now.items) (sym callers) c.requires
+    subst (λ (n : ℕ). ArePassesFor (g.O.CoreObject.fits c.args.object.now) n c.args.size.cap c.args.passes.now.items) (sym callers) c.requires

@@ -1,8 +1,8 @@
 use Rattle.std.proofs.Common.{ℕ, subst}
 use Rattle.core_objects.specs.CoreObjects.{ArePassesFor}
-use Rattle.wrapped_core.specs.Tickets.{IsHeldBy}
+use Rattle.core_objects.specs.OneWordPasses.{FitsOneWord}
 use Rattle.wrapped_core.proofs.tests.take_tickets.Goals as goal
 
 pub run_core_fresh-requires-clause-passes : goal.run_core_fresh-requires-clause-passes
 run_core_fresh-requires-clause-passes g c κs within =
-    subst (λ (n : ℕ). ArePassesFor IsHeldBy n 256 c.in_ok-passes.passes.items) c.callers.ensures.count (c.in_ok-passes.ensures 256)
+    subst (λ (n : ℕ). ArePassesFor FitsOneWord n 256 c.in_ok-passes.passes.items) c.callers.ensures.count c.in_ok-passes.ensures

@@ -12,7 +12,7 @@ ask-requires-clause-caller g c =
 
 pub ask-requires-clause-fits : goal.ask-requires-clause-fits
 ask-requires-clause-fits g c =
-    fits_rows g.O.P.Program.meaning c.args.self.now.rows.now g.O.CoreObject.fits _ (caller_announced c.args.announced)
+    fits_rows g.O.P.Program.meaning c.args.self.now.rows.now (g.O.CoreObject.fits c.args.self.now.object.now) _ (caller_announced c.args.announced)
     (subst (λ (x : Rows _). IsCallerOf g.O.P.Program.meaning x (caller_announced c.args.announced)) (sym c.requires.table.1.0) c.requires.table.2) c.requires.fits
 
 pub returns-clause-rows : goal.returns-clause-rows
@@ -28,5 +28,5 @@ returns-clause-grows g c = let made = c.ask.ensures.made in grows_by_steps (anno
 pub returns-clause-fits : goal.returns-clause-fits
 returns-clause-fits g c =
     let made = c.ask.ensures.made in
-    fits_caller g.O.P.Program.meaning c.args.self.now.rows.now g.O.CoreObject.fits _ (caller_answered c.ask.result) c.ask.ensures.caller.0 _ _ c.ask.ensures.caller.1
+    fits_caller g.O.P.Program.meaning c.args.self.now.rows.now (g.O.CoreObject.fits c.args.self.now.object.now) _ (caller_answered c.ask.result) c.ask.ensures.caller.0 _ _ c.ask.ensures.caller.1
     (ap (λ (p : Progress). p.steps) made.2) made.3

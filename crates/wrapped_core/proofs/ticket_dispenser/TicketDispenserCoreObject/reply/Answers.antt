@@ -1,7 +1,7 @@
 use Rattle.std.proofs.Common.{◌≡◌, ◌∙◌, ℕ, ◌==◌, sym, ap, true, false, ne_eqb, eq-eqb}
 use Rattle.wrapped_core.specs.declared.ticket_dispenser.TicketDispenser.{TicketDispenser}
 use Rattle.wrapped_core.specs.Tickets.{take, ticket, dispenser}
-use Rattle.wrapped_core.proofs.OneWordReplies.{replies_bad, replies_by_step}
+use Rattle.core_objects.proofs.OneWordReplies.{replies_bad, replies_by_step}
 use Rattle.wrapped_core.proofs.ticket_dispenser.TicketDispenserCoreObject.reply.Goals as goal
 
 pub returns-then-op-ne-TAKE : goal.returns-then-op-ne-TAKE

@@ -13,7 +13,7 @@ use Rattle.core_objects.specs.CoreObjects.{shape_with}
 use Rattle.bench_clients.specs.Starts.{AreRowsFor, IsUnused}
 
 -- a caller has at most so many calls where all have
-calls_within : (most : ℕ) (operations : List (List ℕ)) (i : ℕ) → AreAtMost most (sizes operations) → length (get_or operations i []) ≤ most
+pub calls_within : (most : ℕ) (operations : List (List ℕ)) (i : ℕ) → AreAtMost most (sizes operations) → length (get_or operations i []) ≤ most
 calls_within most [] i h = omega arith
 calls_within most (own ∷ operations) zero h = h.0
 calls_within most (own ∷ operations) (suc i) h = calls_within most operations i h.1

@@ -10,10 +10,10 @@ ghost use Rattle.call_lines.specs.Lawful.{IsLawful};
 ghost use Rattle.call_lines.specs.Lines.{any_error};
 ghost use Rattle.core_objects.specs.CoreObjects.{shape_with, ArePassesFor};
 
+use crate::run::run_core;
 use book_base::{MAX_CALLS, NoMemory};
 use client_scripts::Script;
 use core_objects::CoreObject;
-use core_runs::run_core;
 use reports::Report;
 use row_table::Rows;
 use std::alloc::Global;
@@ -40,7 +40,7 @@ where
     requires some_calls { 1 ≤ cap }
     requires few_calls { cap ≤ MAX_CALLS }
     requires calls { AreAtMost cap (sizes script.now.operations) }
-    requires passes { ArePassesFor O.fits (length script.now.operations) cap passes.old.items }
+    requires passes { ArePassesFor (O.fits object.now) (length script.now.operations) cap passes.old.items }
     ensures kind { IfOk result (λ report. report.kind ≡ script.now.kind) }
     ensures lawful { IfOk result (λ report. IsLawful (O.S.init (O.sequential_of object.now))
         (O.S.next (O.sequential_of object.now))

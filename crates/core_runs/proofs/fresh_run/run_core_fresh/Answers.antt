@@ -8,8 +8,8 @@ use Rattle.row_table.specs.Callers.{shape_of, locals_on}
 use Rattle.run_report.specs.Reporting.{IsReportOf}
 use Rattle.run_report.proofs.Workers.{if_ok_as}
 use Rattle.core_runs.proofs.Opened.{opened_with, passes_for_rows}
-use Rattle.wrapped_core.proofs.FreshRuns.{rows_for, shape_opened_with, unused_when_opened}
-use Rattle.wrapped_core.proofs.fresh_run.run_core_fresh.Goals as goal
+use Rattle.core_runs.proofs.FreshRuns.{rows_for, shape_opened_with, unused_when_opened}
+use Rattle.core_runs.proofs.fresh_run.run_core_fresh.Goals as goal
 
 pub run_core-report-requires-clause-program : goal.run_core-report-requires-clause-program
 run_core-report-requires-clause-program g c κs within =
@@ -28,7 +28,7 @@ run_core-report-requires-clause-unused g c κs within i low =
 pub run_core-report-requires-clause-passes : goal.run_core-report-requires-clause-passes
 run_core-report-requires-clause-passes g c κs within =
     let opened = c.in_ok-rows.ensures.rows in
-    passes_for_rows c.in_ok-rows.rows _ _ (opened.0 ∙ c.callers.ensures.count) opened.1 g.O.CoreObject.fits _ c.requires.passes
+    passes_for_rows c.in_ok-rows.rows _ _ (opened.0 ∙ c.callers.ensures.count) opened.1 (g.O.CoreObject.fits c.args.object.now) _ c.requires.passes
 
 pub returns-clause-kind : goal.returns-clause-kind
 returns-clause-kind g c =
