@@ -115,7 +115,9 @@ impl<P: Program> Monitor<P> {
         ensures known { IfSome (own_of self.new) (λ w. Knows (known_by self.old) (known_by self.new)) }
         ensures first { placed_by self.new ≡ true → known_by self.old ≡ None }
         ensures kept { IfOk result (λ r. IsKeptAfter rows.now.callers r (kept_by self.new)) }
-        ensures err { OnErr result ((own_of self.new ≡ None) × (known_by self.new ≡ known_by self.old)) }
+        ensures unfound { own_of self.new ≡ None → (known_by self.new ≡ known_by self.old)
+            × (placed_by self.new ≡ placed_by self.old) }
+        ensures err { OnErr result (own_of self.new ≡ None) }
         ensures ticks { IfOk result (TicksForRound rows.now.callers (kept_by self.old) (kept_by self.new)
             (own_of self.new) steps.old steps.new) }
         ensures rise { steps.old ≤ steps.new }

@@ -1,7 +1,7 @@
 //! Verdicts on texts for programs in other languages: exports over numbers and slices of bytes.
 #![tactic(auto)]
 
-ghost use Rattle.std.specs.Prelude.{◌≡◌, ◌⊎◌, ◌<◌, ◌≤◌, length, take};
+ghost use Rattle.std.specs.Prelude.{◌≡◌, ◌⊎◌, ℕ, ◌<◌, ◌≤◌, List, length, take};
 ghost use Rattle.book_base.specs.declared.fault.TextFault.{TextFault};
 ghost use Rattle.book_text.specs.BookRules.{IsFirstBookFault};
 ghost use Rattle.certificate_text.specs.CertificateRules.{IsFirstCertificateFault};
@@ -98,7 +98,8 @@ pub extern "C" fn selfcheck_certify(
     ensures illegal { result ≡ ILLEGAL → IsIllegalBook text.now }
     ensures refused { result ≡ REFUSED → IsBookRefusal text.now refusal.new }
     ensures no_room { result ≡ NO_ROOM → length buffer.old < written.new }
-    ensures unheld { result ≡ NO_ROOM → IsLegalBook text.now }
+    ensures unheld { result ≡ NO_ROOM → (wanted : List ℕ) × Certifies text.now wanted
+        × (length wanted ≡ written.new) }
     ensures ends { (result ≡ LEGAL) ⊎ (result ≡ ILLEGAL) ⊎ (result ≡ REFUSED) ⊎ (result ≡ NO_MEMORY)
         ⊎ (result ≡ NO_ROOM) }
     ensures unwritten { ¬ (result ≡ LEGAL) → buffer.new ≡ buffer.old }
