@@ -1,0 +1,24 @@
+//! Scripts that are drawn.
+
+ghost use Rattle.std.specs.Prelude.{◌≡◌, IfOk};
+ghost use Rattle.random_scripts.specs.Drawn.{IsWorkload, drawn_plan};
+
+use crate::text::script_text;
+use crate::workload::Workload;
+use book_base::{NoMemory, ReadFault};
+use client_scripts::{Script, read_script};
+use std::alloc::Global;
+
+/// The script of a seed: each caller makes as many calls as the workload says, none stops, and there are no turns.
+/// The operation of each call is drawn by itself, so a seed with more calls begins with the same ones.
+pub fn random_script(alloc: Global, workload: &Workload, seed: u64) -> Result<Script, NoMemory>
+    requires { IsWorkload workload.now }
+    ensures { IfOk result (λ script. script ≡ drawn_plan workload.now seed) }
+{
+    let text = script_text(alloc, workload, seed)?;
+    match read_script(alloc, &text) {
+        Ok(script) => Ok(script),
+        Err(ReadFault::NoMemory) => Err(NoMemory),
+        Err(ReadFault::Text(_)) => unreachable!(),
+    }
+}

@@ -1,0 +1,57 @@
+ghost use Rattle.std.specs.Prelude.{◌≡◌};
+ghost use Rattle.random_scripts.specs.Drawn.{IsWorkload, chosen};
+
+use seq_objects::Kind;
+
+/// Which of a kind's operations a call makes, in the order of the operations' codes.
+#[derive(Clone, Copy, Debug, PartialEq, Eq)]
+pub enum Choice {
+    First,
+    Second,
+    Third,
+}
+
+/// How often each of a kind's operations comes, in the order of the operations' codes. Where a kind has fewer
+/// operations, the further weights are the last one's.
+#[derive(Clone, Copy, Debug, PartialEq, Eq)]
+pub struct Weights {
+    pub first: u32,
+    pub second: u32,
+    pub third: u32,
+}
+
+/// How the scripts of a seed are drawn.
+#[derive(Clone, Copy, Debug, PartialEq, Eq)]
+pub struct Workload {
+    /// The kind of the object.
+    pub kind: Kind,
+    /// How many callers there are: 1 to 16.
+    pub callers: u32,
+    /// How many calls each caller makes: at most 256.
+    pub calls: u64,
+    /// How many values the arguments of operations have: they are below this number, which is at least 1.
+    pub values: u32,
+    /// How often each operation comes. One of them is at least 1.
+    pub weights: Weights,
+}
+
+/// The operation that a draw chooses.
+pub(crate) fn choose(workload: &Workload, draw: u32) -> Choice
+    requires { IsWorkload workload.now }
+    ensures { result ≡ chosen workload.now.weights draw }
+{
+    let Weights {
+        first,
+        second,
+        third,
+    } = workload.weights;
+    let both = u64::from(first) + u64::from(second);
+    let share = u64::from(draw) % (both + u64::from(third));
+    if share < u64::from(first) {
+        Choice::First
+    } else if share < both {
+        Choice::Second
+    } else {
+        Choice::Third
+    }
+}
