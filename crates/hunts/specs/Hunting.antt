@@ -1,0 +1,71 @@
+-- What a hunt says of the runs that it made.
+use Rattle.std.specs.Prelude.{◌≡◌, ℕ, ◌+◌, ◌<◌, ◌≤◌, ◌%◌, ◌^◌, List, length, Option, IfSome, IfNone}
+use Rattle.book_base.specs.declared.TheConstants.{MAX_CALLS}
+use Rattle.book_base.specs.Book.{Page}
+use Rattle.book_base.specs.Order.{HasLegalOrder}
+use Rattle.seq_objects.specs.Objects.{kind_init, kind_next}
+use Rattle.world_core.specs.Shape.{Shape}
+use Rattle.world_core.specs.Programs.{outside}
+use Rattle.call_lines.specs.Allotments.{allotments_of}
+use Rattle.call_lines.specs.Lawful.{IsLawful}
+use Rattle.client_scripts.specs.Plans.{Plan}
+use Rattle.random_scripts.specs.declared.workload.Workload.{Workload}
+use Rattle.random_scripts.specs.Drawn.{drawn_plan}
+use Rattle.reports.specs.Findings.{Findings, IsWitness, HasNoError}
+use Rattle.bench_clients.specs.Places.{AreInOrder}
+use Rattle.run_report.specs.Reporting.{IsToldIn}
+use Rattle.hunts.specs.declared.trial.Catch.{Catch}
+use Rattle.hunts.specs.declared.runs.Settings.{Settings}
+use Rattle.hunts.specs.declared.runs.Hunted.{Hunted}
+
+-- The shape of the world of n callers with the greatest cap, whose object is outside.
+abbrev pub outside_shape : ℕ → Shape
+outside_shape n = record { callers = n; cap = MAX_CALLS; program = outside }
+
+module _ {T : Type 0} (made : T → ℕ) (told : T → Option (List (ℕ × ℕ))) where
+  -- A run was made of this plan over an object outside the world, and reports these findings: they are of the plan's kind, and lawful by
+  -- the object of that kind, and these passes, in order, were asked for just the calls of their lines.
+  pub record IsRun (plan : Plan) (passes : List T) (findings : Findings) : Type 0 where
+    pub kind : findings.kind ≡ plan.kind
+    pub lawful : IsLawful (kind_init plan.kind) (kind_next plan.kind) (outside_shape (length plan.operations)) plan.operations (allotments_of plan.operations plan.stops) findings.lines
+    pub told_in : AreInOrder (IsToldIn made told (allotments_of plan.operations plan.stops) findings) passes
+
+  -- So it was by some passes.
+  abbrev pub IsMade : Plan → Findings → Type 0
+  IsMade plan findings = (passes : List T) × IsRun plan passes findings
+
+  -- A run was made of the script of a seed, and no line of its report is an error.
+  pub record IsQuiet (w : Workload) (seed : ℕ) : Type 0 where
+    pub report : Findings
+    pub ran : IsMade (drawn_plan w seed) report
+    pub none : HasNoError report.lines
+
+  -- What is caught is of a run of the script of a seed: its witness is what the first error line of its report saw, and no order of the
+  -- witness is legal for the object of its kind.
+  pub record IsCaught (w : Workload) (seed : ℕ) (catch : Catch) : Type 0 where
+    pub seed_is : catch.seed ≡ seed
+    pub script : catch.script ≡ drawn_plan w seed
+    pub ran : IsMade catch.script catch.report
+    pub witness : IsWitness catch.report.lines catch.witness
+    pub no_order : ¬ HasLegalOrder (kind_init w.kind) (kind_next w.kind) catch.witness
+
+  -- The seed of a run of a hunt.
+  abbrev pub seed_at : Settings → ℕ → ℕ
+  seed_at settings number = (settings.seed + number) % 2 ^ 64
+
+  -- All runs of a hunt before this one were made, and were quiet.
+  abbrev pub AreQuietBefore : Settings → ℕ → Type 0
+  AreQuietBefore settings number = (k : ℕ) → k < number → IsQuiet settings.workload (seed_at settings k)
+
+  -- What is caught is of the last of so many runs, and those before it were quiet.
+  pub record IsCaughtLast (settings : Settings) (runs : ℕ) (catch : Catch) : Type 0 where
+    pub number : ℕ
+    pub last : runs ≡ number + 1
+    pub before : AreQuietBefore settings number
+    pub caught : IsCaught settings.workload (seed_at settings number) catch
+
+  -- What a hunt ends with: something is caught by its last run, or all its runs were made, and were quiet.
+  pub record IsHunted (settings : Settings) (hunted : Hunted) : Type 0 where
+    pub within : hunted.runs ≤ settings.runs
+    pub caught : IfSome hunted.caught (IsCaughtLast settings hunted.runs)
+    pub nothing : IfNone hunted.caught ((hunted.runs ≡ settings.runs) × AreQuietBefore settings settings.runs)

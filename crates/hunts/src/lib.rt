@@ -1,0 +1,17 @@
+//! Hunts: runs of random scripts over an object, with noise, until one of them shows a book without a legal order.
+#![tactic(auto)]
+
+mod maker;
+mod noise;
+mod noisy;
+mod once;
+mod runs;
+mod trial;
+mod watch;
+
+pub use maker::Maker;
+pub use noise::{Loudness, Noise};
+pub use noisy::Noisy;
+pub use runs::{Hunted, Settings, hunt};
+pub use trial::Catch;
+pub use watch::{Unwatched, Watch};

@@ -1,0 +1,24 @@
+ghost use Rattle.std.specs.Prelude.{◌≡◌, length, vec_len, IfOk};
+ghost use Rattle.bench_clients.specs.Places.{AreInOrder};
+ghost use Rattle.run_report.specs.Passes.{IsUnusedPass};
+
+use crate::noise::Noise;
+use book_base::NoMemory;
+use client_scripts::Script;
+use drv_wrapper::{BlackBox, ObjectPass};
+use std::alloc::Global;
+
+/// Makes the objects that a hunt runs over: a new one for each run.
+pub trait Maker<B: BlackBox> {
+    /// An object for the callers of a script, and an unused pass for each of them, in order, with a call for each of
+    /// its operations. The object may keep the noise, and pause inside its calls where it is doubtful.
+    fn open(
+        &self,
+        alloc: Global,
+        script: &Script,
+        noise: Noise,
+    ) -> Result<(B, Vec<B::Pass>), NoMemory>
+        ensures all { IfOk result (λ r. vec_len r.1 ≡ length script.now.operations) }
+        ensures unused { IfOk result (λ r. AreInOrder (IsUnusedPass (B.is_own r.0) B.Pass.caller
+            B.Pass.made B.Pass.cap script.now.operations) r.1.items) };
+}

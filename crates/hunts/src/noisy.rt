@@ -1,0 +1,51 @@
+ghost use Rattle.std.specs.Prelude.{◌≡◌, []};
+ghost use Rattle.row_table.specs.declared.rows.Rows.{Rows as TheRows};
+ghost use Rattle.row_table.specs.Callers.{who_of, MayGet, IsCallerOf};
+ghost use Rattle.world_core.specs.CallSteps.{steps_now};
+ghost use Rattle.drv_wrapper.specs.Growth.{Grows};
+ghost use Rattle.drv_wrapper.specs.States.{caller_announced, who_announced, op_announced, announced_local, caller_answered, op_answered, reply_answered, answered_local};
+ghost use Rattle.call_phases.specs.Asking.{FitsCaller, HasCallLeft, count_after, ComesNoFurther};
+
+use crate::noise::Noise;
+use call_phases::Asks;
+use drv_wrapper::{Announced, Answered};
+
+/// An object that is asked as ever, and noise at the pauses between the phases of its callers.
+#[derive(Drop)]
+pub struct Noisy<'a, A> {
+    pub asks: &'a A,
+    pub noise: &'a Noise,
+}
+
+impl<A: Asks> Asks for Noisy<'_, A> {
+    type Program = A::Program;
+
+    type Pass = A::Pass;
+
+    ghost serves = { λ noisy. A.serves noisy.asks.now };
+
+    ghost fits = { λ noisy. A.fits noisy.asks.now };
+
+    ghost count = { A.count };
+
+    fn ask(&self, announced: Announced<A::Program>, pass: &mut A::Pass) -> Answered<A::Program>
+        requires table { (r : TheRows A.Program) × A.serves self.now.asks.now r × IsCallerOf A.Program.meaning r (caller_announced announced) }
+        requires first { steps_now (announced_local announced) ≡ [] }
+        requires fits { FitsCaller (A.fits self.now.asks.now) pass.old (caller_announced announced) }
+        requires left { HasCallLeft (A.count pass.old) }
+        ensures who { who_of (caller_answered result) ≡ who_announced announced }
+        ensures rows { (r : TheRows A.Program) → A.serves self.now.asks.now r → IsCallerOf A.Program.meaning r (caller_announced announced) → IsCallerOf A.Program.meaning r (caller_answered result) }
+        ensures operation { op_answered result ≡ op_announced announced }
+        ensures allowed { MayGet A.Program.meaning (caller_answered result) (reply_answered result) }
+        ensures calls { ComesNoFurther (announced_local announced) (answered_local result) }
+        ensures grows { Grows (announced_local announced) (answered_local result) }
+        ensures fits { FitsCaller (A.fits self.now.asks.now) pass.new (caller_answered result) }
+        ensures count { A.count pass.new ≡ count_after (op_announced announced) (reply_answered result) (A.count pass.old) }
+    {
+        self.asks.ask(announced, pass)
+    }
+
+    fn pause(&self) {
+        self.noise.pause()
+    }
+}

@@ -1,0 +1,65 @@
+//! A run of the script of a seed, and what it shows.
+
+ghost use Rattle.std.specs.Prelude.{IfOk, IfSome, IfNone};
+ghost use Rattle.random_scripts.specs.Drawn.{IsWorkload, drawn_plan};
+ghost use Rattle.hunts.specs.Hunting.{IsCaught, IsQuiet};
+
+use crate::maker::Maker;
+use crate::noise::{Loudness, Noise};
+use crate::once::run_once;
+use crate::watch::Watch;
+use book_base::{Book, NoMemory};
+use client_scripts::Script;
+use drv_wrapper::{BlackBox, ObjectPass};
+use random_scripts::{Workload, random_script};
+use reports::Report;
+use std::alloc::Global;
+use std::thread::Threads;
+
+/// What a hunt catches: a run that shows a book without a legal order.
+#[derive(Debug, Drop)]
+pub struct Catch {
+    /// The seed of the script, and of the noise.
+    pub seed: u64,
+    /// What the callers were to do.
+    pub script: Script,
+    /// What the run reports. A line of it is an error.
+    pub report: Report,
+    /// The book that the first error line saw.
+    pub witness: Book,
+}
+
+/// Runs the script of a seed over an object made for it, which is let go behind the run.
+pub(crate) fn run_seed<R: Threads + Sync, B: BlackBox + Sync + Drop, M: Maker<B>, W: Watch>(
+    rt: &R,
+    alloc: Global,
+    maker: &M,
+    workload: &Workload,
+    loudness: Loudness,
+    seed: u64,
+    watch: &mut W,
+) -> Result<Option<Catch>, NoMemory>
+where
+    B::Pass: Send + Drop,
+    requires { IsWorkload workload.now }
+    ensures caught { IfOk result (λ found. IfSome found
+        (IsCaught B.Pass.made B.Pass.told workload.now seed)) }
+    ensures quiet { IfOk result (λ found. IfNone found
+        (IsQuiet B.Pass.made B.Pass.told workload.now seed)) }
+{
+    let script = random_script(alloc, workload, seed)?;
+    let within = Noise::new(seed, loudness);
+    let between = Noise::new(seed.wrapping_add(1), loudness);
+    let (object, mut passes) = maker.open(alloc, &script, within)?;
+    let report = run_once(rt, alloc, &object, &mut passes, &script, &between)?;
+    watch.ran(seed, report.counts());
+    match report.witness(alloc)? {
+        Some(witness) => Ok(Some(Catch {
+            seed,
+            script,
+            report,
+            witness,
+        })),
+        None => Ok(None),
+    }
+}
