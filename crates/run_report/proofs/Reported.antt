@@ -1,5 +1,5 @@
 -- What the callers of a plan that are back have left is their report.
-use Rattle.std.proofs.Common.{◌≡◌, sym, subst, refl, ℕ, false, List, length, arith}
+use Rattle.std.proofs.Common.{◌≡◌, sym, subst, refl, ℕ, ◌<◌, false, List, length, arith}
 use Rattle.std.specs.Prelude.{Option}
 use Rattle.std.specs.List.{AllByRecursion}
 use Rattle.std.proofs.lemmas.Option.{slice_get_within}
@@ -23,8 +23,8 @@ use Rattle.bench_clients.specs.Starts.{course_of, AreRowsFor}
 use Rattle.bench_clients.specs.Returns.{AreBack}
 use Rattle.reports.specs.Findings.{Findings, IsReport}
 use Rattle.run_report.specs.Replies.{HasWord}
-use Rattle.run_report.specs.Reporting.{IsReportOf, IsCountedIn}
-use Rattle.run_report.proofs.Workers.{have_worked, keeps_asked, told_in}
+use Rattle.run_report.specs.Reporting.{IsReportOf, IsFreeAgain, IsCountedIn}
+use Rattle.run_report.proofs.Workers.{have_worked, keeps_asked, free_again, told_in}
 use Rattle.run_report.proofs.Reports.{is_report}
 
 module _ {P T : Type 0} (meaning : P → ℕ → ℕ → Meaning) (r : Rows P) (b : Bench P) (plan : Plan) (allotments : List ℕ) (object : Sequential) (fit : Fits T) (count : T → Option PassCount) (passes : List T) (lines : List (List Line))
@@ -50,6 +50,11 @@ module _ {P T : Type 0} (meaning : P → ℕ → ℕ → Meaning) (r : Rows P) (
     asked = λ i low. keeps_asked object meaning r fit count (course_of plan allotments object) b passes lines refl i (back.back i (omega (arith, low, rows.callers)));
     lawful = lawful;
   })
+
+  pub free_of : (f : Findings) → f ≡ record { kind = plan.kind; lines = lines } → (i : ℕ) → i < length plan.operations → IsFreeAgain b allotments f i
+  free_of f same i low =
+      subst (λ (h : Findings). IsFreeAgain b allotments h i) (sym same)
+      (free_again object meaning r fit count (course_of plan allotments object) b passes lines refl plan.kind i (back.back i low))
 
   pub fits : AllByRecursion (AllByRecursion (λ (line : Line). HasWord line.end)) lines → IsReport (record { kind = plan.kind; lines = lines })
   fits words = is_report object.init object.next (shape_of meaning r) (locals_on b) plan allotments lines valid rows.callers together of lawful words

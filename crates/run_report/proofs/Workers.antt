@@ -1,5 +1,5 @@
 -- What the callers leave that are back on their bench is what workers leave.
-use Rattle.std.proofs.Common.{◌≡◌, ◌∙◌, sym, subst, ap, refl, ℕ, zero, suc, ◌<◌, ◌≤◌, false, List, [], ◌∷◌, Some, None, length, map, arith, slice_get, slice_index}
+use Rattle.std.proofs.Common.{◌≡◌, ◌∙◌, sym, subst, ap, refl, ℕ, zero, suc, ◌%◌, ◌<◌, ◌≤◌, false, List, [], ◌∷◌, Some, None, length, map, arith, slice_get, slice_index}
 use Rattle.std.specs.Prelude.{Option, Result, Ok, Err, slice_index_or, IfSome, IfOk}
 use Rattle.std.proofs.lemmas.Option.{none-some, same_Some, slice_get_within}
 use Rattle.seq_objects.specs.declared.kind.Kind.{Kind}
@@ -7,7 +7,7 @@ use Rattle.world_core.specs.Shape.{Meaning}
 use Rattle.world_core.specs.Local.{Local, fresh}
 use Rattle.world_core.specs.Calls.{Made, calls_in, local_at}
 use Rattle.call_lines.specs.declared.line.Line.{Line}
-use Rattle.call_lines.specs.Lines.{made_of, lines_at}
+use Rattle.call_lines.specs.Lines.{made_of, lines_at, any_error}
 use Rattle.call_lines.specs.Phases.{IsTold, asked}
 use Rattle.call_lines.specs.Allotments.{operations_at, phases_of}
 use Rattle.call_lines.specs.Workers.{HasWorked}
@@ -15,6 +15,7 @@ use Rattle.report_laws.specs.Working.{HaveWorked}
 use Rattle.row_table.specs.Seats.{View, has, the}
 use Rattle.row_table.specs.declared.rows.Rows.{Rows}
 use Rattle.row_table.specs.declared.bench.Bench.{Bench}
+use Rattle.row_table.specs.declared.stance.Stance.{Stance}
 use Rattle.row_table.specs.Callers.{shape_of, locals_on, Holds}
 use Rattle.reports.specs.Findings.{Findings}
 use Rattle.call_phases.specs.Asking.{Fits, PassCount, fits_own, own_count}
@@ -24,7 +25,7 @@ use Rattle.call_phases.proofs.Told.{if_some_as}
 use Rattle.call_phases.proofs.Worked.{judging_clients_have_worked}
 use Rattle.std.specs.List.{All}
 use Rattle.std.proofs.lemmas.List.Elements.{All-nil, All-head}
-use Rattle.run_report.specs.Reporting.{first_object, IsToldIn, IsCountIn, IsCountedIn}
+use Rattle.run_report.specs.Reporting.{first_object, IsFreeAgain, IsToldIn, IsCountIn, IsCountedIn}
 use Rattle.bench_clients.specs.Places.{AreInOrder}
 use Rattle.bench_clients.specs.Starts.{Course, course_of, IsFreshPass}
 use Rattle.client_scripts.specs.Plans.{Plan}
@@ -72,6 +73,15 @@ module _ {P T : Type 0} (object : Sequential) (meaning : P → ℕ → ℕ → M
   keeps_asked i h =
       subst (λ (l : Local). KeepsAsked (shape_of meaning r).program i (phases_of (slice_index course.allotments i) (lines_at lines i)) l) (sym (the_local b.seat.me.0 i h.local h.here))
       (subst (λ (p : ℕ). KeepsAsked (shape_of meaning r).program i p h.local) (phases_are i h) h.back.asked)
+
+  -- without an error, and between two calls, it is free for its next call
+  pub free_again : (kind : Kind) (i : ℕ) → IsBack meaning r SaysJudged fit count course b passes lines false i
+      → IsFreeAgain b course.allotments (record { kind = kind; lines = lines }) i
+  free_again kind i h none between =
+      let own : lines_at lines i ≡ h.own = lines_here lines i h.own h.lines_here in
+      let fine : any_error h.own ≡ false = ap (λ (o : List Line). any_error o) (sym own) ∙ none in
+      let whole : h.phases % 5 ≡ 0 = ap (λ (p : ℕ). p % 5) (phases_are i h) ∙ between in
+      h.stands.here ∙ ap (λ (s : Stance). Some s) (h.free refl fine whole)
 
   -- the object was asked for the calls that the lines tell of
   pub told_in : (kind : Kind) (i : ℕ) (pass : T) → slice_get passes i ≡ Some pass → IsBack meaning r SaysJudged fit count course b passes lines false i

@@ -1,12 +1,15 @@
 -- The report of the callers of a plan, by the locals that they leave.
-use Rattle.std.specs.Prelude.{◌≡◌, ℕ, ◌<◌, List, [], ◌∷◌, Option, IfSome, map, slice_index}
+use Rattle.std.specs.Prelude.{◌≡◌, ℕ, ◌%◌, ◌<◌, false, List, [], ◌∷◌, Option, Some, IfSome, map, slice_index}
 use Rattle.world_core.specs.Shape.{Shape}
 use Rattle.world_core.specs.Local.{Local}
 use Rattle.world_core.specs.Calls.{AreTogether, local_at}
-use Rattle.call_lines.specs.Lines.{made_of, lines_at, AreLinesOf}
+use Rattle.call_lines.specs.Lines.{made_of, lines_at, any_error, AreLinesOf}
 use Rattle.call_lines.specs.Phases.{HasMade, IsTold, asked}
 use Rattle.call_lines.specs.Allotments.{operations_at, phases_of}
 use Rattle.call_lines.specs.Lawful.{IsLawful}
+use Rattle.row_table.specs.declared.bench.Bench.{Bench}
+use Rattle.row_table.specs.Benches.{fresh_stance}
+use Rattle.row_table.specs.Callers.{stance_on}
 use Rattle.client_scripts.specs.Plans.{Plan}
 use Rattle.call_phases.specs.Asking.{PassCount}
 use Rattle.call_phases.specs.Ends.{Sequential, silent}
@@ -24,6 +27,14 @@ pub record IsReportOf (init : List ℕ) (next : List ℕ → ℕ → List ℕ ×
   pub made : (i : ℕ) → i < s.callers → HasMade (operations_at plan.operations i) (phases_of (slice_index allotments i) (lines_at findings.lines i)) (local_at locals i)
   pub asked : (i : ℕ) → i < s.callers → KeepsAsked s.program i (phases_of (slice_index allotments i) (lines_at findings.lines i)) (local_at locals i)
   pub lawful : IsLawful init next s plan.operations allotments findings.lines
+
+-- Where no line of caller i is an error, and its lines tell that it stopped between two calls, or made all of its calls, it stands on the
+-- bench free for its next call.
+abbrev pub IsFreeAgain : {P : Type 0} → Bench P → List ℕ → Findings → ℕ → Type 0
+IsFreeAgain b allotments findings i =
+    any_error (lines_at findings.lines i) ≡ false
+    → phases_of (slice_index allotments i) (lines_at findings.lines i) % 5 ≡ 0
+    → stance_on b i ≡ Some fresh_stance
 
 -- The sequential object that the first of some endings judges by.
 abbrev pub first_object : {E : Type 0} → (E → Sequential) → List E → Sequential

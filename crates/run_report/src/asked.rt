@@ -4,7 +4,7 @@ ghost use Rattle.row_table.specs.Callers.{shape_of, locals_on, IsBenchOf, HoldsA
 ghost use Rattle.bench_clients.specs.Places.{AreInOrder};
 ghost use Rattle.bench_clients.specs.Starts.{course_of, AreRowsFor, IsUnused, IsFreshPass};
 ghost use Rattle.bench_clients.specs.Returns.{IsBackOn};
-ghost use Rattle.run_report.specs.Reporting.{IsReportOf, IsCountedIn};
+ghost use Rattle.run_report.specs.Reporting.{IsReportOf, IsFreeAgain, IsCountedIn};
 
 use crate::judgements::make_judgements;
 use crate::report::read_replies;
@@ -23,8 +23,9 @@ use world_core::Program;
 /// lawful.
 ///
 /// Whatever the answer, the bench holds all callers again, the passes are in their order, and each caller has made
-/// some first part of its phases: all of them where a report is answered, but for those behind an error. Want of
-/// memory is answered before the first call, or where a judgement wanted it.
+/// some first part of its phases: all of them where a report is answered, but for those behind an error. There each
+/// caller without an error that stopped between two calls, or made all of them, stands free for its next call. Want
+/// of memory is answered before the first call, or where a judgement wanted it.
 pub fn run_asked<
     R: Threads + Sync,
     P: Program + Send + Sync,
@@ -59,6 +60,8 @@ pub fn run_asked<
     ensures report { IfOk result (λ report. IsReportOf (S.init sequential.now) (S.next sequential.now)
         (shape_of P.meaning shared.now.rows.now) (locals_on bench.new) script.now
         (allotments_of script.now.operations script.now.stops) report) }
+    ensures free { IfOk result (λ report. (i : ℕ) → i < length script.now.operations
+        → IsFreeAgain bench.new (allotments_of script.now.operations script.now.stops) report i) }
     ensures counted { IfOk result (λ report. AreInOrder (IsCountedIn A.count
         (allotments_of script.now.operations script.now.stops) report) passes.new.items) }
 {

@@ -8,7 +8,7 @@ ghost use Rattle.bench_clients.specs.Returns.{IsBackOn, AreBack};
 ghost use Rattle.call_phases.specs.Asking.{fits_own, own_count};
 ghost use Rattle.call_phases.specs.Ends.{SaysJudged};
 ghost use Rattle.run_report.specs.Passes.{IsOwnPass, IsUnusedPass};
-ghost use Rattle.run_report.specs.Reporting.{IsReportOf, IsToldIn};
+ghost use Rattle.run_report.specs.Reporting.{IsReportOf, IsFreeAgain, IsToldIn};
 
 use crate::judgements::{make_judgements, passes_are_fresh};
 use crate::report::read_replies;
@@ -70,8 +70,9 @@ fn replay_judged<S: SeqObject, B: BlackBox>(
 ///
 /// Whatever the answer, the bench holds all callers again, the passes are in their order, and each
 /// caller has made some first part of its phases: all of them where a report is answered, but for
-/// those behind an error. Want of memory is answered before the first call, or where a judgement
-/// wanted it.
+/// those behind an error. There each caller without an error that stopped between two calls, or
+/// made all of them, stands free for its next call. Want of memory is answered before the first
+/// call, or where a judgement wanted it.
 pub fn replay_over<S: SeqObject, B: BlackBox>(
     alloc: Global,
     rows: &Rows,
@@ -101,6 +102,8 @@ pub fn replay_over<S: SeqObject, B: BlackBox>(
     ensures report { IfOk result (λ report. IsReportOf (S.init sequential.now) (S.next sequential.now)
         (shape_of ⟦<Outside as Program>⟧.meaning rows.now) (locals_on bench.new) script.now
         (allotments_by_turns script.now.operations script.now.stops script.now.turns) report) }
+    ensures free { IfOk result (λ report. (i : ℕ) → i < length script.now.operations
+        → IsFreeAgain bench.new (allotments_by_turns script.now.operations script.now.stops script.now.turns) report i) }
     ensures told { IfOk result (λ report. AreInOrder (IsToldIn B.Pass.made B.Pass.told
         (allotments_by_turns script.now.operations script.now.stops script.now.turns) report) passes.new.items) }
 {

@@ -6,7 +6,7 @@ ghost use Rattle.bench_clients.specs.Places.{AreInOrder};
 ghost use Rattle.bench_clients.specs.Starts.{course_of, AreRowsFor, IsUnused};
 ghost use Rattle.bench_clients.specs.Returns.{IsBackOn};
 ghost use Rattle.run_report.specs.Passes.{IsOwnPass, IsUnusedPass};
-ghost use Rattle.run_report.specs.Reporting.{IsReportOf, IsToldIn};
+ghost use Rattle.run_report.specs.Reporting.{IsReportOf, IsFreeAgain, IsToldIn};
 
 use crate::asked::run_asked;
 use crate::judgements::passes_are_fresh;
@@ -26,8 +26,9 @@ use world_core::{Outside, Program};
 ///
 /// Whatever the answer, the bench holds all callers again, the passes are in their order, and each
 /// caller has made some first part of its phases: all of them where a report is answered, but for
-/// those behind an error. Want of memory is answered before the first call, or where a judgement
-/// wanted it.
+/// those behind an error. There each caller without an error that stopped between two calls, or
+/// made all of them, stands free for its next call. Want of memory is answered before the first
+/// call, or where a judgement wanted it.
 pub fn run_over<R: Threads + Sync, S: SeqObject + Sync, B: BlackBox + Sync>(
     rt: &R,
     alloc: Global,
@@ -59,6 +60,8 @@ where
     ensures report { IfOk result (λ report. IsReportOf (S.init sequential.now) (S.next sequential.now)
         (shape_of ⟦<Outside as Program>⟧.meaning rows.now) (locals_on bench.new) script.now
         (allotments_of script.now.operations script.now.stops) report) }
+    ensures free { IfOk result (λ report. (i : ℕ) → i < length script.now.operations
+        → IsFreeAgain bench.new (allotments_of script.now.operations script.now.stops) report i) }
     ensures told { IfOk result (λ report. AreInOrder (IsToldIn B.Pass.made B.Pass.told
         (allotments_of script.now.operations script.now.stops) report) passes.new.items) }
 {

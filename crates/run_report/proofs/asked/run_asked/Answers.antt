@@ -15,7 +15,7 @@ use Rattle.call_phases.specs.Ends.{Sequential}
 use Rattle.run_report.proofs.Workers.{holds_back, all_by_first, first_is, other_object, back_by}
 use Rattle.run_report.proofs.Sending.{judging_send}
 use Rattle.run_report.proofs.Reports.{words_of_all}
-use Rattle.run_report.proofs.Reported.{reported, fits, told_of}
+use Rattle.run_report.proofs.Reported.{reported, fits, free_of, told_of}
 use Rattle.run_report.proofs.asked.run_asked.Goals as goal
 
 pub run_all-requires : goal.run_all-requires
@@ -65,6 +65,16 @@ returns-clause-report g c =
     let same : c.of_lines.result ≡ findings_in plan.kind c.in_ok-lines.lines.items = c.of_lines.ensures ∙ ap (λ (k : Kind). findings_in k c.in_ok-lines.lines.items) c.kind.ensures in
     reported _ _ _ plan _ object _ _ _ _ c.callers.ensures.plan c.requires.rows done.bench (back_by _ _ _ _ _ plan _ _ _ _ _ _ first done.lines) (omega (arith, done.all_lines, length-map c.in_ok-lines.lines.items (λ (o : Own). o.lines.items)))
     c.of_lines.result same
+
+pub returns-clause-free : goal.returns-clause-free
+returns-clause-free g c i low =
+    let done = c.in_ok-lines.ensures in
+    let plan = c.args.script.now in
+    let object : Sequential = record { init = g.S.SeqObject.init c.args.sequential.now; next = g.S.SeqObject.next c.args.sequential.now } in
+    let first = first_is _ object _ (omega (arith, c.in_ok-endings.ensures.all, c.callers.ensures.count, c.callers.ensures.plan.some)) c.in_ok-endings.ensures.each in
+    let same : c.of_lines.result ≡ findings_in plan.kind c.in_ok-lines.lines.items = c.of_lines.ensures ∙ ap (λ (k : Kind). findings_in k c.in_ok-lines.lines.items) c.kind.ensures in
+    free_of _ _ _ plan _ object _ _ _ _ c.callers.ensures.plan c.requires.rows done.bench (back_by _ _ _ _ _ plan _ _ _ _ _ _ first done.lines) (omega (arith, done.all_lines, length-map c.in_ok-lines.lines.items (λ (o : Own). o.lines.items)))
+    c.of_lines.result same i low
 
 pub returns-clause-counted : goal.returns-clause-counted
 returns-clause-counted g c =

@@ -11,7 +11,7 @@ use Rattle.run_report.specs.Reporting.{IsToldIn}
 use Rattle.bench_clients.specs.Places.{AreInOrder}
 use Rattle.run_report.proofs.Workers.{holds_back, own_passes, counted_told}
 use Rattle.run_report.proofs.Reports.{words_of_all}
-use Rattle.run_report.proofs.Reported.{reported, fits, told_of}
+use Rattle.run_report.proofs.Reported.{reported, fits, free_of, told_of}
 use Rattle.run_report.proofs.replay.replay_over.Goals as goal
 
 pub returns-in_err-lines-clause-bench : goal.returns-in_err-lines-clause-bench
@@ -48,6 +48,14 @@ returns-clause-report g c =
     let same : c.of_lines.result ≡ findings_in plan.kind c.in_ok-lines.lines.items = c.of_lines.ensures ∙ ap (λ (k : Kind). findings_in k c.in_ok-lines.lines.items) c.kind.ensures in
     reported _ _ _ plan _ _ _ _ _ _ c.callers-callers.ensures.plan c.requires.rows done.bench done.lines (omega (arith, done.all_lines, length-map c.in_ok-lines.lines.items (λ (o : Own). o.lines.items)))
     c.of_lines.result same
+
+pub returns-clause-free : goal.returns-clause-free
+returns-clause-free g c i low =
+    let done = c.in_ok-lines.ensures in
+    let plan = c.args.script.now in
+    let same : c.of_lines.result ≡ findings_in plan.kind c.in_ok-lines.lines.items = c.of_lines.ensures ∙ ap (λ (k : Kind). findings_in k c.in_ok-lines.lines.items) c.kind.ensures in
+    free_of _ _ _ plan _ _ _ _ _ _ c.callers-callers.ensures.plan c.requires.rows done.bench done.lines (omega (arith, done.all_lines, length-map c.in_ok-lines.lines.items (λ (o : Own). o.lines.items)))
+    c.of_lines.result same i low
 
 pub returns-clause-told : goal.returns-clause-told
 returns-clause-told g c =
