@@ -12,7 +12,7 @@ ghost use Rattle.bench_clients.specs.Returns.{IsBackOn};
 ghost use Rattle.run_report.specs.Passes.{IsOwnPass, IsUnusedPass};
 ghost use Rattle.byte_streams.specs.Fault.{Rose};
 ghost use Rattle.byte_streams.specs.Writing.{EndsWriting};
-ghost use Rattle.monitored_runs.specs.Monitoring.{allotments_in, IsMonitor, AreRowsBeside, HaveMadeAll, IsToldAll, HasMonitored};
+ghost use Rattle.monitored_runs.specs.Monitoring.{allotments_in, IsMonitor, AreRowsBeside, HaveMadeAll, AreFreeAgain, IsToldAll, HasMonitored};
 ghost use Rattle.monitor_writer.specs.MonitorTexts.{IsLegalRun, IsMonitorText};
 
 use crate::answer_output::write_answer;
@@ -64,8 +64,10 @@ where
         bench.new passes.new.items i }
     ensures monitors { (i : ℕ) → IsMonitor script.now i → IsUnused bench.new i }
 
-    // Each caller made its phases up to its stop, or all of them, and each monitor its rounds, want of memory aside.
+    // Each caller made its phases up to its stop, or all of them, and each monitor its rounds, want of memory aside; where
+    // a caller stopped between two calls, or made all of them, it stands free for its next call.
     ensures made { ¬ (result ≡ Status.NoMemory) → HaveMadeAll script.now (locals_on bench.new) }
+    ensures free { ¬ (result ≡ Status.NoMemory) → AreFreeAgain script.now bench.new }
     ensures told { ¬ (result ≡ Status.NoMemory)
         → AreInOrder (IsToldAll B.Pass.made B.Pass.told script.now (locals_on bench.new)) passes.new.items }
     ensures rounds { ¬ (result ≡ Status.NoMemory)

@@ -41,7 +41,7 @@ module _ (object : Sequential) (n : ℕ) (l : Local) where
   all_records (call ∷ calls) (line ∷ own) h =
       ap₂ (λ (r : List Record) (rs : List Record). r ++ rs) (same_records call.reached line.end h.0.end) (all_records calls own h.1)
 
-  no_errors : (calls : List Made) (own : List Line) → AreLinesOfCalls (SaysDeferred object n l) calls own → any_error own ≡ false
+  pub no_errors : (calls : List Made) (own : List Line) → AreLinesOfCalls (SaysDeferred object n l) calls own → any_error own ≡ false
   no_errors [] [] h = refl
   no_errors [] (line ∷ own) h = absurd h
   no_errors (call ∷ calls) [] h = absurd h

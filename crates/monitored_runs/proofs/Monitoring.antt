@@ -16,12 +16,13 @@ use Rattle.world_core.specs.Calls.{Reached, Is_announced, Has_record, Has_seen, 
 use Rattle.world_books.proofs.Validity.{books_are_valid}
 use Rattle.call_lines.specs.declared.line.LineEnd.{LineEnd}
 use Rattle.call_lines.specs.declared.line.Line.{Line}
-use Rattle.call_lines.specs.Lines.{book_of_lines, lines_at}
+use Rattle.call_lines.specs.Lines.{any_error, book_of_lines, lines_at}
 use Rattle.call_lines.specs.Phases.{Mark, Seen, Progress, HasMade, mark_of, mark_under_way, marks_of, marks_after, published_by, progress_of}
 use Rattle.call_lines.specs.Allotments.{operations_at, stop_at, phases_for}
 use Rattle.report_laws.proofs.Stepping.{length-marks_after}
 use Rattle.row_table.specs.declared.rows.Rows.{Rows}
 use Rattle.row_table.specs.declared.bench.Bench.{Bench}
+use Rattle.row_table.specs.declared.stance.Stance.{Stance}
 use Rattle.row_table.specs.Callers.{shape_of, locals_on, on_bench, IsBenchOf, Holds, HoldsAll}
 use Rattle.row_table.proofs.Parting.{whole_is_together}
 use Rattle.client_scripts.specs.Plans.{Plan, IsPlan, sizes}
@@ -43,8 +44,8 @@ use Rattle.monitor.specs.Worlds.{published_of}
 use Rattle.monitor.proofs.Judged.{rounds_are_judged, own_is_a_witness}
 use Rattle.monitored_runs.specs.Deferred.{HavePage, HasDeferred, HavePages}
 use Rattle.monitored_runs.specs.Published.{IsJudgedAt, IsExactAnswer}
-use Rattle.monitored_runs.specs.Monitoring.{allotments_in, published_for, with_monitors, most_rounds, IsMonitor, AreRowsBeside, HaveMadeAll, IsCountedAll, IsToldAll, HasMonitored, HasWatched}
-use Rattle.monitored_runs.proofs.Deferred.{deferring_clients_make_all, lines_are_the_book}
+use Rattle.monitored_runs.specs.Monitoring.{allotments_in, published_for, with_monitors, most_rounds, IsMonitor, AreRowsBeside, HaveMadeAll, AreFreeAgain, IsCountedAll, IsToldAll, HasMonitored, HasWatched}
+use Rattle.monitored_runs.proofs.Deferred.{no_errors, deferring_clients_make_all, lines_are_the_book}
 use Rattle.monitored_runs.proofs.AllPublished.{published_records_are_in_the_book, answers_are_exact}
 
 -- a caller without lines more is no caller more
@@ -190,6 +191,13 @@ module _ {P T : Type 0} (meaning : P → ℕ → ℕ → Meaning) (r : Rows P) (
         subst (λ (l : Local). HasMade (operations_at plan.operations i) (slice_index (allotments_in plan) i) l) (sym (local_is i h.local h.here)) (deferred i low).made;
     none = λ i one. let h = unused i one in ap progress_of (local_is i h.local h.here) ∙ h.none;
   }
+
+  pub free_again : AreFreeAgain plan b
+  free_again i low between =
+      let h = back.back i low in
+      let fine : any_error h.own ≡ false = no_errors silent r.callers h.local (calls_in h.local) h.own (h.left refl).left.lines in
+      let whole : h.phases % 5 ≡ 0 = ap (λ (p : ℕ). p % 5) (deferred i low).all ∙ between in
+      h.stands.here ∙ ap (λ (s : Stance). Some s) (h.free refl fine whole)
 
   pub counted_all : length passes ≡ n → AreInOrder (IsCountedAll count plan locals) passes
   counted_all all i pass there =

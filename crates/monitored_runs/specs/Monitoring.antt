@@ -1,5 +1,5 @@
 -- Runs whose callers judge nothing, while two monitors watch them: what they begin with, and what they leave.
-use Rattle.std.specs.Prelude.{◌≡◌, ℕ, ◌+◌, ◌<◌, ◌≤◌, List, [], ◌∷◌, ◌++◌, Option, Some, IfSome, length, map, sum_by, slice_index}
+use Rattle.std.specs.Prelude.{◌≡◌, ℕ, ◌+◌, ◌%◌, ◌<◌, ◌≤◌, List, [], ◌∷◌, ◌++◌, Option, Some, IfSome, length, map, sum_by, slice_index}
 use Rattle.world_core.specs.Local.{Local, Given}
 use Rattle.world_core.specs.Calls.{calls_in, book_in, local_at}
 use Rattle.call_lines.specs.declared.line.Line.{Line}
@@ -7,7 +7,8 @@ use Rattle.call_lines.specs.Phases.{HasMade, IsTold, asked, published_by, progre
 use Rattle.call_lines.specs.Allotments.{operations_at, allotments_of}
 use Rattle.row_table.specs.declared.rows.Rows.{Rows}
 use Rattle.row_table.specs.declared.bench.Bench.{Bench}
-use Rattle.row_table.specs.Callers.{on_bench}
+use Rattle.row_table.specs.Benches.{fresh_stance}
+use Rattle.row_table.specs.Callers.{on_bench, stance_on}
 use Rattle.client_scripts.specs.Plans.{Plan}
 use Rattle.call_phases.specs.Asking.{PassCount}
 use Rattle.bench_clients.specs.Returns.{IsCountOf}
@@ -64,6 +65,11 @@ module _ {P : Type 0} where
   pub record AreRowsBeside (plan : Plan) (r : Rows P) : Type 0 where
     pub callers : r.callers ≡ length plan.operations + 2
     pub cap : (i : ℕ) → length (operations_at plan.operations i) ≤ r.cap
+
+  -- Each of a plan's callers whose allotment ends between two calls, or behind all of them, stands on the bench free for its next call.
+  abbrev pub AreFreeAgain : Plan → Bench P → Type 0
+  AreFreeAgain plan b =
+      (i : ℕ) → i < length plan.operations → slice_index (allotments_in plan) i % 5 ≡ 0 → stance_on b i ≡ Some fresh_stance
 
   -- Caller i, which had this local, is on the bench after its rounds, which found this own witness or none.
   pub record HasWatched (init : List ℕ) (next : List ℕ → ℕ → List ℕ × ℕ) (n : ℕ) (b : Bench P) (i : ℕ) (before : Local) (most : ℕ) (own : Option Witness) : Type 0 where

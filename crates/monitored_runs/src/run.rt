@@ -14,7 +14,7 @@ ghost use Rattle.bench_clients.specs.Starts.{course_of, IsUnused, IsFreshPass};
 ghost use Rattle.bench_clients.specs.Returns.{IsBackOn};
 ghost use Rattle.run_report.specs.Passes.{IsOwnPass, IsUnusedPass};
 ghost use Rattle.monitored_runs.specs.Published.{IsJudgedAt, IsExactAnswer};
-ghost use Rattle.monitored_runs.specs.Monitoring.{allotments_in, published_for, with_monitors, IsMonitor, AreRowsBeside, HaveMadeAll, IsCountedAll, IsToldAll, HasMonitored};
+ghost use Rattle.monitored_runs.specs.Monitoring.{allotments_in, published_for, with_monitors, IsMonitor, AreRowsBeside, HaveMadeAll, AreFreeAgain, IsCountedAll, IsToldAll, HasMonitored};
 
 use crate::counts::{most_rounds, published_counts};
 use crate::published::judge_at;
@@ -83,7 +83,8 @@ fn judge_lines<S: SeqObject>(
 /// over what is published, each until one is illegal, and at most one more than the script has calls. Where no
 /// round was illegal, the book of all published records is judged once, after all have ended.
 ///
-/// The answer is a witness exactly where that book has no legal order. Whatever the answer, the bench holds all
+/// The answer is a witness exactly where that book has no legal order, and each caller whose allotment ends between
+/// two calls, or behind all of them, then stands free for its next call. Whatever the answer, the bench holds all
 /// callers again, and the passes are in their order. Want of memory is answered before the first call, or where a
 /// judgement wanted it.
 pub fn monitor_asked<
@@ -118,6 +119,7 @@ pub fn monitor_asked<
     ensures monitors { (i : ℕ) → IsMonitor script.now i → IsUnused bench.new i }
     // Where the run is judged.
     ensures made { IfOk result (λ _. HaveMadeAll script.now (locals_on bench.new)) }
+    ensures free { IfOk result (λ _. AreFreeAgain script.now bench.new) }
     ensures counted { IfOk result (λ _. AreInOrder (IsCountedAll A.count script.now (locals_on bench.new)) passes.new.items) }
     ensures rounds { IfOk result (λ _. (i : ℕ) (l : Local) → IsMonitor script.now i → on_bench bench.old i ≡ Some l
         → HasMonitored (S.init sequential.now) (S.next sequential.now) script.now (locals_on bench.new) i l) }
@@ -172,8 +174,10 @@ where
         bench.new passes.new.items i }
     ensures passes { AreInOrder (IsOwnPass (B.is_own object.now) B.Pass.caller) passes.new.items }
     ensures monitors { (i : ℕ) → IsMonitor script.now i → IsUnused bench.new i }
-    // Where the run is judged: each caller has made its phases up to its stop, or all of them, and the object told them.
+    // Where the run is judged: each caller has made its phases up to its stop, or all of them, and the object told them;
+    // where it stopped between two calls, or made all of them, it stands free for its next call.
     ensures made { IfOk result (λ _. HaveMadeAll script.now (locals_on bench.new)) }
+    ensures free { IfOk result (λ _. AreFreeAgain script.now bench.new) }
     ensures told { IfOk result (λ _. AreInOrder (IsToldAll B.Pass.made B.Pass.told script.now (locals_on bench.new)) passes.new.items) }
     // The cuts that each monitor was given are those of its rounds.
     ensures rounds { IfOk result (λ _. (i : ℕ) (l : Local) → IsMonitor script.now i → on_bench bench.old i ≡ Some l

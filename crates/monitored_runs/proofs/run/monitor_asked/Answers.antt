@@ -9,8 +9,8 @@ use Rattle.bench_clients.specs.Places.{AreInOrder}
 use Rattle.run_report.proofs.Workers.{if_ok_as}
 use Rattle.monitor.specs.declared.witness.Witness.{Witness}
 use Rattle.monitored_runs.specs.Published.{IsJudgedAt, IsExactAnswer}
-use Rattle.monitored_runs.specs.Monitoring.{published_for, with_monitors, HaveMadeAll, IsCountedAll, HasMonitored, HasWatched, IsMonitor}
-use Rattle.monitored_runs.proofs.Monitoring.{holds_beside, made_all, counted_all, of_a_book, within_the_book, judged, monitored, found}
+use Rattle.monitored_runs.specs.Monitoring.{published_for, with_monitors, HaveMadeAll, AreFreeAgain, IsCountedAll, HasMonitored, HasWatched, IsMonitor}
+use Rattle.monitored_runs.proofs.Monitoring.{holds_beside, made_all, free_again, counted_all, of_a_book, within_the_book, judged, monitored, found}
 use Rattle.monitored_runs.proofs.Returning.{each_monitor}
 use Rattle.monitored_runs.proofs.run.monitor_asked.Goals as goal
 
@@ -31,6 +31,14 @@ returns-in-Some-clause-made g c =
     let items = c.in_ok-lines.lines.items in
     let long : length (lines_in items) ≡ length plan.operations = omega (arith, d.all_lines, length-map items (λ (o : Own). o.lines.items)) in
     made_all _ _ _ plan _ _ _ _ c.requires.rows d.bench d.lines long d.monitors
+
+pub returns-in-Some-clause-free : goal.returns-in-Some-clause-free
+returns-in-Some-clause-free g c =
+    let d = c.in_ok-lines.ensures in
+    let plan = c.args.script.now in
+    let items = c.in_ok-lines.lines.items in
+    let long : length (lines_in items) ≡ length plan.operations = omega (arith, d.all_lines, length-map items (λ (o : Own). o.lines.items)) in
+    free_again _ _ _ plan _ _ _ _ c.requires.rows d.bench d.lines long d.monitors
 
 pub returns-in-Some-clause-counted : goal.returns-in-Some-clause-counted
 returns-in-Some-clause-counted g c =
@@ -110,6 +118,16 @@ returns-in-None-clause-made g c =
     let is_judged = λ (answer : Option Witness). IsJudgedAt (g.S.SeqObject.init c.args.sequential.now) (g.S.SeqObject.next c.args.sequential.now) (book_of_lines (with_monitors (lines_in items))) (published_for plan) answer in
     let made = made_all _ _ _ plan _ _ _ _ c.requires.rows d.bench d.lines long d.monitors in
     if_ok_as c.judge_lines.result is_judged (λ answer. HaveMadeAll plan (locals_on c.watch_all.new.bench)) (λ answer h. made) c.judge_lines.ensures
+
+pub returns-in-None-clause-free : goal.returns-in-None-clause-free
+returns-in-None-clause-free g c =
+    let d = c.in_ok-lines.ensures in
+    let plan = c.args.script.now in
+    let items = c.in_ok-lines.lines.items in
+    let long : length (lines_in items) ≡ length plan.operations = omega (arith, d.all_lines, length-map items (λ (o : Own). o.lines.items)) in
+    let is_judged = λ (answer : Option Witness). IsJudgedAt (g.S.SeqObject.init c.args.sequential.now) (g.S.SeqObject.next c.args.sequential.now) (book_of_lines (with_monitors (lines_in items))) (published_for plan) answer in
+    let free = free_again _ _ _ plan _ _ _ _ c.requires.rows d.bench d.lines long d.monitors in
+    if_ok_as c.judge_lines.result is_judged (λ answer. AreFreeAgain plan c.watch_all.new.bench) (λ answer h. free) c.judge_lines.ensures
 
 pub returns-in-None-clause-counted : goal.returns-in-None-clause-counted
 returns-in-None-clause-counted g c =
