@@ -6,7 +6,7 @@ ghost use Rattle.row_table.specs.Callers.{shape_of, locals_on, IsBenchOf, HoldsA
 ghost use Rattle.core_objects.specs.CoreObjects.{AreOpenedWith, ArePassesFor};
 ghost use Rattle.bench_clients.specs.Starts.{course_of, AreRowsFor, IsUnused};
 ghost use Rattle.bench_clients.specs.Returns.{IsBackOn};
-ghost use Rattle.run_report.specs.Reporting.{IsReportOf};
+ghost use Rattle.run_report.specs.Reporting.{IsReportOf, IsFreeAgain};
 ghost use Rattle.core_runs.specs.Inside.{fits_inside};
 
 use crate::inside_object::InsideObject;
@@ -27,7 +27,8 @@ use std::thread::Threads;
 ///
 /// Whatever the answer, the bench holds all callers again, the passes are in their order and fit the object steps
 /// that their callers have made, and each caller has made some first part of its phases: all of them where a
-/// report is answered. Want of memory is answered before the first call, or where a judgement wanted it.
+/// report is answered, and there each caller that stopped between two calls, or made all of them, stands free for
+/// its next call. Want of memory is answered before the first call, or where a judgement wanted it.
 pub fn run_core<R: Threads + Sync, O: CoreObject + Sync>(
     rt: &R,
     alloc: Global,
@@ -58,6 +59,8 @@ where
     ensures report { IfOk result (λ report. IsReportOf (O.S.init (O.sequential_of object.now))
         (O.S.next (O.sequential_of object.now)) (shape_of O.P.meaning rows.now) (locals_on bench.new) script.now
         (allotments_of script.now.operations script.now.stops) report) }
+    ensures free { IfOk result (λ report. (i : ℕ) → i < length script.now.operations
+        → IsFreeAgain bench.new (allotments_of script.now.operations script.now.stops) report i) }
     ensures no_error { IfOk result (λ report. list_any any_error report.lines ≡ false) }
 {
     runs_of(object);

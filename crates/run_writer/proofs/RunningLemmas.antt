@@ -1,5 +1,5 @@
 -- A bench has one report, and that has each form.
-use Rattle.std.proofs.Common.{◌≡◌, sym, ap, subst, List, Option, ℕ}
+use Rattle.std.proofs.Common.{◌≡◌, sym, ap, subst, List, Option, ℕ, ◌<◌, length}
 use Rattle.std.specs.List.{list_any}
 use Rattle.world_core.specs.Shape.{Meaning, Shape}
 use Rattle.world_core.specs.Local.{Local}
@@ -13,7 +13,7 @@ use Rattle.reports.specs.Findings.{Findings}
 use Rattle.row_table.specs.declared.rows.Rows.{Rows}
 use Rattle.row_table.specs.declared.bench.Bench.{Bench}
 use Rattle.call_phases.specs.Ends.{Sequential}
-use Rattle.run_report.specs.Reporting.{IsReportOf}
+use Rattle.run_report.specs.Reporting.{IsReportOf, IsFreeAgain}
 use Rattle.report_certificates.proofs.CertificateLaws.{lawful_reports_have_an_order}
 use Rattle.run_writer.specs.declared.form.Form.{Form}
 use Rattle.run_writer.specs.declared.form.Form.TheVariants.{Report, Counts, Certificate}
@@ -32,6 +32,14 @@ module _ (s : Shape) (locals : List Local) (plan : Plan) (allotments : List ℕ)
       → list_any any_error f.lines ≡ list_any any_error g.lines
   one_report init next f g a b =
       ap (λ (lines : List (List Line)). list_any any_error lines) (locals_determine_lines init next locals f.lines g.lines a.lines b.lines)
+
+  -- one report alone decides who stands free for its next call
+  pub one_standing : {P : Type 0} (b : Bench P) (init : List ℕ) (next : List ℕ → ℕ → List ℕ × ℕ) (f g : Findings)
+      → IsReportOf init next s locals plan allotments f → IsReportOf init next s locals plan allotments g
+      → ((i : ℕ) → i < length plan.operations → IsFreeAgain b allotments f i) → (i : ℕ) → i < length plan.operations → IsFreeAgain b allotments g i
+  one_standing b init next f g a other free i low =
+      subst (λ (lines : List (List Line)). IsFreeAgain b allotments (record { kind = g.kind; lines = lines }) i)
+      (locals_determine_lines init next locals f.lines g.lines a.lines other.lines) (free i low)
 
   -- a lawful report has each form
   pub has_form : (object : Sequential) (form : Form) (f : Findings) → IsReportOf object.init object.next s locals plan allotments f → HasForm object form f

@@ -6,9 +6,11 @@ ghost use Rattle.core_objects.specs.CoreObjects.{AreOpenedWith, ArePassesFor};
 ghost use Rattle.bench_clients.specs.Starts.{course_of};
 ghost use Rattle.bench_clients.specs.Returns.{IsBackOn};
 ghost use Rattle.core_runs.specs.Inside.{fits_inside};
+ghost use Rattle.run_report.specs.Reporting.{IsFreeAgain};
+ghost use Rattle.reports.specs.Findings.{Findings};
 ghost use Rattle.byte_streams.specs.Fault.{LeavesSink};
 ghost use Rattle.run_writer.specs.Runs.{RunEnds, object_by};
-ghost use Rattle.run_writer.specs.Running.{run_allotments, MayBegin, IsCoreReport};
+ghost use Rattle.run_writer.specs.Running.{run_allotments, MayBegin, IsBenchReport, IsCoreReport};
 
 use crate::form::Form;
 use crate::report_output::write_report;
@@ -67,6 +69,14 @@ where
     // So no error is found, and all is fine, failed writes and want of memory aside.
     ensures right { ¬ (result ≡ Status.Found) }
     ensures fine { (result ≡ Status.Fine) ⊎ (result ≡ Status.WriteFault) ⊎ (result ≡ Status.NoMemory) }
+
+    // By that report, each caller that stopped between two calls, or made all of its calls, stands
+    // free for its next one, want of memory aside.
+    ensures free { ¬ (result ≡ Status.NoMemory) → (report : Findings)
+        → IsBenchReport (object_by O.S.init O.S.next (O.sequential_of object.now)) O.P.meaning
+        rows.now bench.new script.now (run_allotments script.now) report
+        → (i : ℕ) → i < length script.now.operations
+        → IsFreeAgain bench.new (run_allotments script.now) report i }
 
     // A fault has its cause in a count that rose in this call, and every other answer comes where
     // none rose.

@@ -6,6 +6,7 @@ ghost use Rattle.call_lines.specs.Lines.{any_error};
 ghost use Rattle.row_table.specs.Callers.{IsBenchOf, HoldsAll};
 ghost use Rattle.bench_clients.specs.Places.{AreInOrder};
 ghost use Rattle.run_report.specs.Passes.{IsOwnPass, IsUnusedPass};
+ghost use Rattle.run_report.specs.Reporting.{IsFreeAgain};
 ghost use Rattle.reports.specs.Findings.{Findings};
 ghost use Rattle.byte_streams.specs.Fault.{LeavesSink};
 ghost use Rattle.run_writer.specs.Runs.{RunEnds, object_of_kind};
@@ -68,6 +69,14 @@ pub fn replay_and_write<B: BlackBox, K: Sink>(
         bench.new script.now (replay_allotments script.now) report
         → list_any any_error report.lines ≡ false
         → (result ≡ Status.Fine) ⊎ (result ≡ Status.WriteFault) ⊎ (result ≡ Status.NoMemory) }
+
+    // By that report, each caller without an error line that stopped between two calls, or made all of its calls, stands
+    // free for its next one, want of memory aside.
+    ensures free { ¬ (result ≡ Status.NoMemory) → (report : Findings)
+        → IsBenchReport (object_of_kind script.now.kind) ⟦<Outside as Program>⟧.meaning rows.now
+        bench.new script.now (replay_allotments script.now) report
+        → (i : ℕ) → i < length script.now.operations
+        → IsFreeAgain bench.new (replay_allotments script.now) report i }
 
     // A fault has its cause in a count that rose in this call, and every other answer comes where none rose.
     ensures faults { LeavesSink K.faults result sink.old sink.new }

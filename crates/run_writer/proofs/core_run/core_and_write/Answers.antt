@@ -1,7 +1,7 @@
 use Rattle.std.proofs.Common.{sym}
 use Rattle.run_writer.specs.Runs.{object_by}
 use Rattle.run_writer.proofs.RunLemmas.{RunEnds-from_report}
-use Rattle.run_writer.proofs.RunningLemmas.{ends_by_object, form_by_object, has_form}
+use Rattle.run_writer.proofs.RunningLemmas.{ends_by_object, form_by_object, one_standing, has_form}
 use Rattle.run_writer.proofs.core_run.core_and_write.Goals as goal
 
 pub write_report-requires : goal.write_report-requires
@@ -18,3 +18,6 @@ returns-in-Ok-clause-ends g c =
 
 pub returns-in-Ok-clause-fine : goal.returns-in-Ok-clause-fine
 returns-in-Ok-clause-fine g c = c.write_report.ensures.fine c.in-Ok.ensures.no_error
+
+pub returns-in-Ok-clause-free : goal.returns-in-Ok-clause-free
+returns-in-Ok-clause-free g c some report is = one_standing _ _ _ _ _ _ _ _ _ c.in-Ok.ensures.report is c.in-Ok.ensures.free
