@@ -10,8 +10,8 @@ watch_beside-one-requires-clause-free g c κs within =
     let other = c.part-a.ensures.others 2 (λ e. absurd (omega (arith, e))) in
     let one_fresh = c.in_ok-rows.ensures.fresh 1 (omega arith) in
     let other_fresh = c.in_ok-rows.ensures.fresh 2 (omega arith) in (
-      (fresh, record { here = one.0 ∙ one_fresh.0; stance = one.1 ∙ one_fresh.1; idle = record { announcing = refl; unstaged = refl } }),
-      (fresh, record { here = other.0 ∙ other_fresh.0; stance = other.1 ∙ other_fresh.1; idle = record { announcing = refl; unstaged = refl } }),
+      record { local = fresh; here = one.0 ∙ one_fresh.0; idle = record { announcing = refl; unstaged = refl }; stance = one.1 ∙ one_fresh.1 },
+      record { local = fresh; here = other.0 ∙ other_fresh.0; idle = record { announcing = refl; unstaged = refl }; stance = other.1 ∙ other_fresh.1 },
     )
 
 pub back-requires-clause-gone : goal.back-requires-clause-gone
