@@ -1,7 +1,7 @@
 //! What is written of what two monitors found.
 
-ghost use Rattle.std.specs.Prelude.{◌≡◌, ◌⊎◌, ◌≤◌, true, is_some, IfOk};
-ghost use Rattle.byte_streams.specs.Fault.{Rose};
+ghost use Rattle.std.specs.Prelude.{◌≡◌, ◌⊎◌, IfOk};
+ghost use Rattle.byte_streams.specs.Fault.{LeavesSink};
 ghost use Rattle.byte_streams.specs.Writing.{EndsWriting};
 ghost use Rattle.monitor_writer.specs.MonitorTexts.{IsAnswerText, IsAnswerOutput, status_of};
 
@@ -21,10 +21,7 @@ pub(crate) fn write_answer<K: Sink>(
 ) -> Status
     ensures ends { EndsWriting (IsAnswerOutput kind answer.now) result (K.taken sink.old) (K.taken sink.new) }
     ensures status { (result ≡ status_of answer.now) ⊎ (result ≡ Status.WriteFault) ⊎ (result ≡ Status.NoMemory) }
-    ensures fault { result ≡ Status.WriteFault → Rose (K.faults sink.old) (K.faults sink.new) }
-    ensures calm { ¬ (result ≡ Status.WriteFault) → K.faults sink.new ≡ K.faults sink.old }
-    ensures unwritten { result ≡ Status.NoMemory → sink.new ≡ sink.old }
-    ensures later { K.faults sink.old ≤ K.faults sink.new }
+    ensures faults { LeavesSink K.faults result sink.old sink.new }
 {
     match answer_text(alloc, kind, answer) {
         Ok(text) => write_text(sink, status_of(answer), &text),

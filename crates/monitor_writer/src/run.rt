@@ -10,7 +10,7 @@ ghost use Rattle.bench_clients.specs.Places.{AreInOrder};
 ghost use Rattle.bench_clients.specs.Starts.{course_of, IsUnused};
 ghost use Rattle.bench_clients.specs.Returns.{IsBackOn};
 ghost use Rattle.run_report.specs.Passes.{IsOwnPass, IsUnusedPass};
-ghost use Rattle.byte_streams.specs.Fault.{Rose};
+ghost use Rattle.byte_streams.specs.Fault.{LeavesSink};
 ghost use Rattle.byte_streams.specs.Writing.{EndsWriting};
 ghost use Rattle.monitored_runs.specs.Monitoring.{allotments_in, IsMonitor, AreRowsBeside, HaveMadeAll, AreFreeAgain, IsToldAll, HasMonitored};
 ghost use Rattle.monitor_writer.specs.MonitorTexts.{IsLegalRun, IsMonitorText};
@@ -86,10 +86,7 @@ where
         → (result ≡ Status.Fine) ⊎ (result ≡ Status.WriteFault) ⊎ (result ≡ Status.NoMemory) }
 
     // A fault has its cause in a count that rose in this call, and every other answer comes where none rose.
-    ensures fault { result ≡ Status.WriteFault → Rose (K.faults sink.old) (K.faults sink.new) }
-    ensures calm { ¬ (result ≡ Status.WriteFault) → K.faults sink.new ≡ K.faults sink.old }
-    ensures unwritten { result ≡ Status.NoMemory → sink.new ≡ sink.old }
-    ensures later { K.faults sink.old ≤ K.faults sink.new }
+    ensures faults { LeavesSink K.faults result sink.old sink.new }
 {
     let kind = script.kind();
     match monitor_over(rt, alloc, rows, bench, &kind, object, passes, script) {

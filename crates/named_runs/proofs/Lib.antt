@@ -3,3 +3,4 @@ pub mod InsideRuns
 pub mod LogLaws
 pub mod OpenedPasses
 pub mod ToldCalls
+pub mod MonitoredRuns

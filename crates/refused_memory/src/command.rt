@@ -98,6 +98,30 @@ const LOST_FOUND: &[u8] = b"report 2\n\
       0 3 deq none view 0:4\n\
       end\n";
 
+/// The same without its last call.
+const LOST_UNJUDGED: &[u8] = b"script 2\n\
+      object queue\n\
+      callers 1\n\
+      calls 4\n\
+      0 0 enq 1\n\
+      0 1 enq 2\n\
+      0 2 deq\n\
+      0 3 deq\n\
+      turns\n\
+      end\n";
+
+/// What two monitors say of it.
+const LOST_SEEN: &[u8] = b"illegal\n\
+      book 2\n\
+      object queue\n\
+      callers 3\n\
+      calls 4 0 0\n\
+      0 0 enq 1 done view 0:1\n\
+      0 1 enq 2 done view 0:2\n\
+      0 2 deq =1 view 0:3\n\
+      0 3 deq none view 0:4\n\
+      end\n";
+
 /// The report of the two callers, one after the other.
 const REPLAYED: &[u8] = b"report 2\n\
       object queue\n\
@@ -210,6 +234,16 @@ impl Command {
                 &["run", "lossy"],
                 LOST,
                 Wanted::Text(Status::Found, LOST_FOUND),
+            ),
+            "monitor" => (
+                &["monitor", "lawful"],
+                SCRIPT,
+                Wanted::Text(Status::Fine, b"legal\n"),
+            ),
+            "monitor-lossy" => (
+                &["monitor", "lossy"],
+                LOST_UNJUDGED,
+                Wanted::Text(Status::Found, LOST_SEEN),
             ),
             "sketch" => (&["sketch"], BOOK, Wanted::Text(Status::Fine, SKETCH)),
             "order" => (

@@ -4,7 +4,7 @@ use Rattle.std.specs.List.{AllByRecursion}
 use Rattle.std.specs.Str.{bytes_eq}
 use Rattle.std.proofs.lemmas.Slice.Eq.{bytes_eq-Decides}
 use Rattle.selfcheck.specs.declared.command.Command.{Command}
-use Rattle.selfcheck.specs.declared.command.Command.TheVariants.{Verify, Sketch, Order, Upgrade, Sets, Run, Replay, Certify, Soak}
+use Rattle.selfcheck.specs.declared.command.Command.TheVariants.{Verify, Sketch, Order, Upgrade, Sets, Run, Replay, Certify, Monitor, Soak}
 use Rattle.faulty_objects.specs.declared.behaviour.Behaviour.{Behaviour}
 use Rattle.faulty_objects.specs.Names.{behaviour_name}
 use Rattle.selfcheck.specs.Arguments.{behaviour_named, soak_number}
@@ -51,6 +51,7 @@ lone_command-from word Sets e = let same : word ≡ codes "sets" = cc in rw same
 lone_command-from word (Run behaviour) e = cc
 lone_command-from word (Replay behaviour) e = cc
 lone_command-from word (Certify behaviour) e = cc
+lone_command-from word (Monitor behaviour) e = cc
 lone_command-from word (Soak number) e = cc
 
 -- the row reads an argument as that of a command of these two words
@@ -101,8 +102,11 @@ argued_rows = (
     (
       behaviour_row (codes "certify") Certify (λ b. tt) (λ b. refl),
       (
-        soak_row,
-        tt,
+        behaviour_row (codes "monitor") Monitor (λ b. tt) (λ b. refl),
+        (
+          soak_row,
+          tt,
+        ),
       ),
     ),
   ),
@@ -132,6 +136,8 @@ argued_command-from word argument (Replay behaviour) can e =
     let same : word ≡ codes "replay" = cc in rw same (read_behaviour Replay argument behaviour cc)
 argued_command-from word argument (Certify behaviour) can e =
     let same : word ≡ codes "certify" = cc in rw same (read_behaviour Certify argument behaviour cc)
+argued_command-from word argument (Monitor behaviour) can e =
+    let same : word ≡ codes "monitor" = cc in rw same (read_behaviour Monitor argument behaviour cc)
 argued_command-from word argument (Soak number) can e =
     let same : word ≡ codes "soak" = cc in
     let spelled : argument ≡ decimal number = cc in
@@ -147,6 +153,7 @@ no_words Sets e = cc
 no_words (Run behaviour) e = cc
 no_words (Replay behaviour) e = cc
 no_words (Certify behaviour) e = cc
+no_words (Monitor behaviour) e = cc
 no_words (Soak number) e = cc
 
 three_words : (a b c : List ℕ) (rest : List (List ℕ)) (command : Command) → a ∷ b ∷ c ∷ rest ≡ words_of command → ⊥
@@ -158,6 +165,7 @@ three_words a b c rest Sets e = cc
 three_words a b c rest (Run behaviour) e = cc
 three_words a b c rest (Replay behaviour) e = cc
 three_words a b c rest (Certify behaviour) e = cc
+three_words a b c rest (Monitor behaviour) e = cc
 three_words a b c rest (Soak number) e = cc
 
 -- the command words name a command exactly where they are its words

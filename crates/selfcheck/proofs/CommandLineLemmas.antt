@@ -16,7 +16,7 @@ use Rattle.clap.specs.declared.parser.matches.ArgMatches.TheViews.{out-ArgMatche
 use Rattle.clap.specs.declared.parser.matches.SubCommand.{SubCommand}
 use Rattle.clap.proofs.OnLiterals.{clap_on_literals}
 use Rattle.selfcheck.specs.declared.command.Command.{Command}
-use Rattle.selfcheck.specs.declared.command.Command.TheVariants.{Run, Replay, Certify, Soak}
+use Rattle.selfcheck.specs.declared.command.Command.TheVariants.{Run, Replay, Certify, Monitor, Soak}
 use Rattle.selfcheck.proofs.ArgumentLemmas.{behaviour_named-hyphen, soak_number-hyphen}
 use Rattle.selfcheck.specs.Command.{lone_commands, named_in, lone_command, argued_commands, names_argued, argued_in, has_argument, argued_command, command_of}
 use Rattle.selfcheck.specs.CommandLine.{line_app, begins_with_hyphen, is_parsed, met_in, command_met}
@@ -267,7 +267,7 @@ hyphens_are_none = (
   λ bytes. ap (option_map Run) (behaviour_named-hyphen bytes),
   (
     λ bytes. ap (option_map Replay) (behaviour_named-hyphen bytes),
-    (λ bytes. ap (option_map Certify) (behaviour_named-hyphen bytes), (λ bytes. ap (option_map Soak) (soak_number-hyphen bytes), tt)),
+    (λ bytes. ap (option_map Certify) (behaviour_named-hyphen bytes), (λ bytes. ap (option_map Monitor) (behaviour_named-hyphen bytes), (λ bytes. ap (option_map Soak) (soak_number-hyphen bytes), tt))),
   ),
 )
 

@@ -3,6 +3,7 @@ pub mod CommandLemmas
 pub mod CommandLineLemmas
 pub mod InputLemmas
 pub mod OutputLemmas
+mod MonitorLemmas
 mod SetLemmas
 mod ScriptLemmas
 mod SoakLemmas

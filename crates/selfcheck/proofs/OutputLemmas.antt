@@ -14,7 +14,7 @@ use Rattle.sketch.proofs.Orderly.{books_have_one_sketch}
 use Rattle.text_fields.specs.Lines.{text_of}
 use Rattle.text_fields.specs.declared.version.Version.TheVariants.{Second}
 use Rattle.selfcheck.specs.declared.command.Command.{Command}
-use Rattle.selfcheck.specs.declared.command.Command.TheVariants.{Verify, Sketch, Order, Upgrade, Sets, Run, Replay, Certify, Soak}
+use Rattle.selfcheck.specs.declared.command.Command.TheVariants.{Verify, Sketch, Order, Upgrade, Sets, Run, Replay, Certify, Monitor, Soak}
 use Rattle.byte_streams.specs.declared.status.Status.{Status}
 use Rattle.byte_streams.specs.declared.status.Status.TheVariants.{Fine, Found, Usage, Refused, ReadFault, WriteFault, NoMemory}
 use Rattle.byte_streams.specs.declared.TheConstants.{INPUT_LIMIT}
@@ -25,7 +25,7 @@ use Rattle.run_writer.specs.Runs.{counts_text, object_of_kind}
 use Rattle.named_runs.specs.BehaviourRuns.{IsNamedRunReport, IsNamedReplayReport}
 use Rattle.selfcheck.specs.ScriptInput.{soak_plan}
 use Rattle.text_refusals.specs.Refusal.{refusal_text}
-use Rattle.selfcheck.specs.Output.{Form, BookForm, CertificateForm, OldForm, SetForm, ScriptForm, NoForm, form_of, IsTextOf, IsFirstFaultOf, IsTaken, IsVerdict, IsSketchText, IsDrawn, IsJudgement, IsRewritten, IsSetVerdict, IsAnswerOf, IsRefusal, IsOutputOf, HasOneStatus, RunsInside, SoaksDeliverAll, IsDetermined, RefuseWhatIsNotTaken, IsOutput, ReadsFor, Reads, Ends, IsUnfinished, input_of}
+use Rattle.selfcheck.specs.Output.{Form, BookForm, CertificateForm, OldForm, SetForm, ScriptForm, MonitorForm, NoForm, form_of, IsTextOf, IsFirstFaultOf, IsTaken, IsVerdict, IsSketchText, IsDrawn, IsJudgement, IsRewritten, IsSetVerdict, IsAnswerOf, IsRefusal, IsOutputOf, HasOneStatus, RunsInside, SoaksDeliverAll, IsDetermined, RefuseWhatIsNotTaken, IsOutput, ReadsFor, Reads, Ends, IsUnfinished, input_of}
 use Rattle.selfcheck.specs.Orders.{order_fault_text}
 use Rattle.byte_streams.specs.Told.{AppendsPart}
 use Rattle.byte_streams.specs.Writing.{EndsWriting}
@@ -40,6 +40,7 @@ use Rattle.setbook_text.proofs.SharpSetBooks as set_books
 use Rattle.selfcheck.proofs.SetLemmas.{IsSetInput-from_legal, IsSetInput-from_illegal, set_input_or_fault, legal_or_illegal_sets}
 use Rattle.selfcheck.proofs.ScriptLemmas.{IsScriptInput-from_shown, script_input_or_fault, run_statuses, fine_without_error}
 use Rattle.selfcheck.proofs.SoakLemmas.{soak_counts, soak_line}
+use Rattle.selfcheck.proofs.MonitorLemmas.{IsMonitorInput-from_plan, monitor_input_or_fault, one_monitor_fault, monitor_statuses}
 use Rattle.selfcheck.proofs.UpgradeLemmas.{old_or_fault, one_old_fault, old-from_upgraded, one_upgraded, says_the_same, one_order}
 
 -- ---- forms of texts: one case a form
@@ -51,6 +52,7 @@ text_or_fault CertificateForm bytes fault certificate first = certificate_or_fau
 text_or_fault OldForm bytes fault old first = old_or_fault bytes fault old first
 text_or_fault SetForm bytes fault told first = set_input_or_fault bytes fault told first
 text_or_fault ScriptForm bytes fault told first = script_input_or_fault bytes fault told first
+text_or_fault MonitorForm bytes fault told first = monitor_input_or_fault bytes fault told first
 text_or_fault NoForm bytes fault none first = first
 
 -- bytes have one first fault
@@ -60,6 +62,7 @@ one_fault_of CertificateForm bytes a b p q = one_fault bytes a b p q
 one_fault_of OldForm bytes a b p q = one_old_fault bytes a b p q
 one_fault_of SetForm bytes a b p q = set_books.one_first_fault bytes a b p q
 one_fault_of ScriptForm bytes a b p q = scripts.one_first_fault Second bytes a b p q
+one_fault_of MonitorForm bytes a b p q = one_monitor_fault bytes a b p q
 one_fault_of NoForm bytes a b p q = absurd p
 
 -- ---- what commands answer: one case a command
@@ -82,6 +85,7 @@ answer_statuses Sets bytes _ text answer = absurd answer
 answer_statuses (Run behaviour) bytes status text answer = run_statuses (object_of_kind answer.0.kind) (IsNamedRunReport behaviour answer.0) Report status text answer.2
 answer_statuses (Replay behaviour) bytes status text answer = run_statuses (object_of_kind answer.0.kind) (IsNamedReplayReport behaviour answer.0) Report status text answer.2
 answer_statuses (Certify behaviour) bytes status text answer = run_statuses (object_of_kind answer.0.kind) (IsNamedRunReport behaviour answer.0) Certificate status text answer.2
+answer_statuses (Monitor behaviour) bytes status text answer = monitor_statuses answer.0.kind answer.3.0 status text answer.3.2
 answer_statuses (Soak number) bytes status text answer = run_statuses (object_of_kind Queue) (IsNamedRunReport Lawful (soak_plan number)) Counts status text answer.1
 
 -- what is answered is an input of the wanted form
@@ -102,6 +106,7 @@ answered_is_wanted Sets bytes _ text answer = absurd answer
 answered_is_wanted (Run behaviour) bytes status text answer = IsScriptInput-from_shown (IsNamedRunReport behaviour) Report bytes status text answer
 answered_is_wanted (Replay behaviour) bytes status text answer = IsScriptInput-from_shown (IsNamedReplayReport behaviour) Report bytes status text answer
 answered_is_wanted (Certify behaviour) bytes status text answer = IsScriptInput-from_shown (IsNamedRunReport behaviour) Certificate bytes status text answer
+answered_is_wanted (Monitor behaviour) bytes status text answer = IsMonitorInput-from_plan bytes answer.0 answer.1 answer.2
 answered_is_wanted (Soak number) bytes status text answer = answer.0
 
 -- ---- outputs
@@ -375,6 +380,7 @@ input_is Sets held new bytes reads = reads.0
 input_is (Run behaviour) held new bytes reads = reads.0
 input_is (Replay behaviour) held new bytes reads = reads.0
 input_is (Certify behaviour) held new bytes reads = reads.0
+input_is (Monitor behaviour) held new bytes reads = reads.0
 input_is (Soak number) held new bytes reads = reads.1
 
 -- where all outputs have one status, a call that wrote one has this status

@@ -10,9 +10,11 @@ use Rattle.faulty_objects.specs.declared.behaviour.Behaviour.{Behaviour}
 use Rattle.faulty_objects.specs.declared.behaviour.Behaviour.TheVariants.{Lawful}
 use Rattle.run_writer.specs.declared.form.Form.TheVariants.{Counts}
 use Rattle.run_writer.specs.Runs.{IsRunOutput, RunEnds, object_of_kind}
-use Rattle.selfcheck.specs.declared.command.Command.TheVariants.{Soak}
+use Rattle.selfcheck.specs.declared.command.Command.TheVariants.{Monitor, Soak}
 use Rattle.selfcheck.specs.declared.script_task.ScriptTask.{ScriptTask}
 use Rattle.selfcheck.specs.declared.script_task.ScriptTask.TheVariants.{Run, Replay, Certify}
+use Rattle.named_runs.specs.Monitored.{AreNamedMonitored, IsMonitorOutput}
+use Rattle.selfcheck.specs.MonitorInput.{LeavesTwo}
 use Rattle.selfcheck.specs.Output.{IsAnswerOf, IsOutputOf}
 use Rattle.named_runs.specs.BehaviourRuns.{IsNamedRunReport}
 use Rattle.selfcheck.specs.ScriptInput.{soak_plan}
@@ -32,6 +34,14 @@ pub EndsWriting-task : (task : ScriptTask) (behaviour : Behaviour) (bytes : List
 EndsWriting-task task behaviour bytes plan result taken taken' short told ends =
     EndsWriting-answer (command_for task behaviour) bytes (IsRunOutput (object_of_kind plan.kind) (IsReportBy task behaviour plan) (form_by task)) result taken taken' short
     (task_answer task behaviour bytes plan told) ends
+
+-- what is written of a run that two monitors watch is an output of its command
+pub EndsWriting-monitor : (behaviour : Behaviour) (bytes : List ℕ) (plan : Plan) (result : Status) (taken taken' : Option (List ℕ))
+    → length bytes ≤ INPUT_LIMIT → IsScriptText Second bytes plan → LeavesTwo plan → EndsWriting (IsMonitorOutput (AreNamedMonitored behaviour plan) plan.kind) result taken taken'
+    → EndsWriting (IsOutputOf (Monitor behaviour) bytes) result taken taken'
+EndsWriting-monitor behaviour bytes plan result taken taken' short told few ends =
+    EndsWriting-answer (Monitor behaviour) bytes (IsMonitorOutput (AreNamedMonitored behaviour plan) plan.kind) result taken taken' short
+    (λ status text output. (plan, told, few, output)) ends
 
 pub EndsWriting-soak : (number : ℕ) (plan : Plan) (result : Status) (taken taken' : Option (List ℕ)) → plan ≡ soak_plan number
     → RunEnds (object_of_kind plan.kind) (IsNamedRunReport Lawful plan) Counts result taken taken' → EndsWriting (IsOutputOf (Soak number) []) result taken taken'

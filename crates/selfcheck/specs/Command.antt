@@ -3,7 +3,7 @@ use Rattle.std.specs.Prelude.{◌≡◌, ◌↔◌, ℕ, ◌≤◌, Bool, true, 
 use Rattle.std.specs.Str.{bytes_eq}
 use Rattle.std.specs.declared.alloc.Global.{Global}
 use Rattle.selfcheck.specs.declared.command.Command.{Command}
-use Rattle.selfcheck.specs.declared.command.Command.TheVariants.{Verify, Sketch, Order, Upgrade, Sets, Run, Replay, Certify, Soak}
+use Rattle.selfcheck.specs.declared.command.Command.TheVariants.{Verify, Sketch, Order, Upgrade, Sets, Run, Replay, Certify, Monitor, Soak}
 use Rattle.faulty_objects.specs.Names.{behaviour_name}
 use Rattle.selfcheck.specs.Arguments.{behaviour_named, soak_number}
 
@@ -17,6 +17,7 @@ words_of Sets = codes "sets" ∷ []
 words_of (Run behaviour) = codes "run" ∷ behaviour_name behaviour ∷ []
 words_of (Replay behaviour) = codes "replay" ∷ behaviour_name behaviour ∷ []
 words_of (Certify behaviour) = codes "certify" ∷ behaviour_name behaviour ∷ []
+words_of (Monitor behaviour) = codes "monitor" ∷ behaviour_name behaviour ∷ []
 words_of (Soak number) = codes "soak" ∷ decimal number ∷ []
 
 -- a command that words can name: the number of a soak is at most 4,294,967,295
@@ -49,6 +50,7 @@ argued_commands =
     (codes "run", λ argument. option_map Run (behaviour_named argument))
     ∷ (codes "replay", λ argument. option_map Replay (behaviour_named argument))
     ∷ (codes "certify", λ argument. option_map Certify (behaviour_named argument))
+    ∷ (codes "monitor", λ argument. option_map Monitor (behaviour_named argument))
     ∷ (codes "soak", λ argument. option_map Soak (soak_number argument))
     ∷ []
 
@@ -87,6 +89,7 @@ reads_source Sets = true
 reads_source (Run behaviour) = true
 reads_source (Replay behaviour) = true
 reads_source (Certify behaviour) = true
+reads_source (Monitor behaviour) = true
 reads_source (Soak number) = false
 
 -- the command words name a command exactly where they are its words

@@ -3,6 +3,7 @@ pub mod Command
 pub mod CommandLine
 pub mod Input
 pub mod Orders
+pub mod MonitorInput
 pub mod Output
 pub mod Refusal
 pub mod ScriptInput

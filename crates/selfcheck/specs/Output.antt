@@ -17,7 +17,7 @@ use Rattle.text_fields.specs.Lines.{text_of}
 use Rattle.text_refusals.specs.Refusal.{refusal_text}
 use Rattle.text_fields.specs.declared.version.Version.TheVariants.{Second}
 use Rattle.selfcheck.specs.declared.command.Command.{Command}
-use Rattle.selfcheck.specs.declared.command.Command.TheVariants.{Verify, Sketch, Order, Upgrade, Sets, Run, Replay, Certify, Soak}
+use Rattle.selfcheck.specs.declared.command.Command.TheVariants.{Verify, Sketch, Order, Upgrade, Sets, Run, Replay, Certify, Monitor, Soak}
 use Rattle.byte_streams.specs.declared.status.Status.{Status}
 use Rattle.byte_streams.specs.declared.status.Status.TheVariants.{Fine, Found, Usage, Refused, ReadFault, WriteFault, NoMemory}
 use Rattle.byte_streams.specs.declared.TheConstants.{INPUT_LIMIT}
@@ -27,6 +27,7 @@ use Rattle.book_verdicts.specs.Certificates.{IsTextOfCertificate, IsLegalCertifi
 use Rattle.selfcheck.specs.Input.{IsRefusedFor}
 use Rattle.selfcheck.specs.Orders.{order_fault_text}
 use Rattle.selfcheck.specs.ScriptInput.{IsScriptInput, IsRunInside, IsRunOf, IsReplayOf, IsCertifiedOf, IsSoakOf}
+use Rattle.selfcheck.specs.MonitorInput.{IsMonitorInput, IsFirstMonitorFault, IsMonitoredOf}
 use Rattle.selfcheck.specs.SetInput.{IsSetInput, IsLegalSetInput, IsIllegalSetInput}
 use Rattle.byte_streams.specs.Told.{HasRead, AppendsPart, read_of}
 use Rattle.selfcheck.specs.Upgrade.{IsOldInput, IsFirstOldFault, IsUpgraded}
@@ -38,6 +39,7 @@ pub data Form : Type 0 where
   OldForm : Form
   SetForm : Form
   ScriptForm : Form
+  MonitorForm : Form
   NoForm : Form
 
 -- the form of text that a command wants
@@ -50,6 +52,7 @@ form_of Sets = SetForm
 form_of (Run behaviour) = ScriptForm
 form_of (Replay behaviour) = ScriptForm
 form_of (Certify behaviour) = ScriptForm
+form_of (Monitor behaviour) = MonitorForm
 form_of (Soak number) = NoForm
 
 -- the bytes are a text of this form
@@ -59,6 +62,7 @@ IsTextOf CertificateForm bytes = IsTextOfCertificate bytes
 IsTextOf OldForm bytes = IsOldInput bytes
 IsTextOf SetForm bytes = IsSetInput bytes
 IsTextOf ScriptForm bytes = IsScriptInput bytes
+IsTextOf MonitorForm bytes = IsMonitorInput bytes
 IsTextOf NoForm bytes = bytes ≡ []
 
 -- the first fault of bytes that are no text of this form
@@ -68,6 +72,7 @@ IsFirstFaultOf CertificateForm bytes fault = IsFirstCertificateFault bytes fault
 IsFirstFaultOf OldForm bytes fault = IsFirstOldFault bytes fault
 IsFirstFaultOf SetForm bytes fault = IsFirstSetBookFault bytes fault
 IsFirstFaultOf ScriptForm bytes fault = IsFirstScriptFault Second bytes fault
+IsFirstFaultOf MonitorForm bytes fault = IsFirstMonitorFault bytes fault
 IsFirstFaultOf NoForm bytes fault = ⊥
 
 -- the command takes the bytes: there are few enough, and they are a text of the form that it wants
@@ -121,6 +126,7 @@ IsAnswerOf Sets bytes status text = IsSetVerdict bytes status text
 IsAnswerOf (Run behaviour) bytes status text = IsRunOf behaviour bytes status text
 IsAnswerOf (Replay behaviour) bytes status text = IsReplayOf behaviour bytes status text
 IsAnswerOf (Certify behaviour) bytes status text = IsCertifiedOf behaviour bytes status text
+IsAnswerOf (Monitor behaviour) bytes status text = IsMonitoredOf behaviour bytes status text
 IsAnswerOf (Soak number) bytes status text = (bytes ≡ []) × IsSoakOf number status text
 
 -- the line and the name of the fault for which a command refuses the bytes

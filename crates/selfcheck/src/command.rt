@@ -25,6 +25,9 @@ pub enum Command {
     Replay(Behaviour),
     /// Run a script as [`Command::Run`] does, and write a certificate of what was delivered.
     Certify(Behaviour),
+    /// Run a script over the object of a behaviour, each caller in a thread, while two monitors watch, and write what
+    /// they say.
+    Monitor(Behaviour),
     /// Run the script made from this number over the lawful object, and write the report's counts.
     Soak(u64),
 }
@@ -71,6 +74,7 @@ impl Command {
             "run" => Some(Command::Run(behaviour_named(argument)?)),
             "replay" => Some(Command::Replay(behaviour_named(argument)?)),
             "certify" => Some(Command::Certify(behaviour_named(argument)?)),
+            "monitor" => Some(Command::Monitor(behaviour_named(argument)?)),
             "soak" => Some(Command::Soak(soak_number(argument)?)),
             _ => None,
         }
@@ -82,7 +86,7 @@ impl Command {
         ensures { result ≡ has_argument word.now }
     {
         match word {
-            "run" | "replay" | "certify" | "soak" => true,
+            "run" | "replay" | "certify" | "monitor" | "soak" => true,
             _ => false,
         }
     }
@@ -99,6 +103,7 @@ impl Command {
             | Command::Sets
             | Command::Replay(_)
             | Command::Certify(_)
+            | Command::Monitor(_)
             | Command::Run(_) => true,
             Command::Soak(_) => false,
         }

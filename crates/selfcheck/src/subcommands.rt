@@ -62,6 +62,7 @@ fn command_line<'a>(alloc: Global) -> Result<clap::Command<'a>, AllocError>
     let line = with_argued(line, alloc, "run")?;
     let line = with_argued(line, alloc, "replay")?;
     let line = with_argued(line, alloc, "certify")?;
+    let line = with_argued(line, alloc, "monitor")?;
     let line = with_argued(line, alloc, "soak")?;
     Ok(line)
 }

@@ -11,6 +11,7 @@ ghost use Rattle.byte_streams.specs.Writing.{EndsWriting};
 
 use crate::command::Command;
 use crate::draw::draw;
+use crate::monitor_script::monitor_script;
 use crate::order::order;
 use crate::run_script::run_script;
 use crate::script_task::ScriptTask;
@@ -74,6 +75,7 @@ fn answer<R: Threads + Sync, K: Sink>(
         Command::Certify(behaviour) => {
             run_script(rt, alloc, ScriptTask::Certify, behaviour, bytes, sink)
         }
+        Command::Monitor(behaviour) => monitor_script(rt, alloc, behaviour, bytes, sink),
         Command::Soak(number) => soak(rt, alloc, number, sink),
     }
 }

@@ -1,0 +1,43 @@
+-- What a run says that two monitors watch, and that opens the table of rows itself.
+use Rattle.std.specs.Prelude.{ℕ, ◌+◌, List, Option, length, slice_index}
+use Rattle.seq_objects.specs.declared.kind.Kind.{Kind}
+use Rattle.world_core.specs.Local.{Local}
+use Rattle.world_core.specs.Calls.{Made, AreTogether, calls_in, local_at}
+use Rattle.client_scripts.specs.Plans.{Plan}
+use Rattle.faulty_objects.specs.declared.behaviour.Behaviour.{Behaviour}
+use Rattle.byte_streams.specs.declared.status.Status.{Status}
+use Rattle.monitored_runs.specs.Monitoring.{allotments_in, HaveMadeAll}
+use Rattle.monitor_writer.specs.MonitorTexts.{IsMonitorText}
+use Rattle.named_runs.specs.Worlds.{outside_shape}
+use Rattle.named_runs.specs.NamedObjects.{AreTold, IsOfBehaviour}
+
+-- How many phases a caller of a plan makes; the monitors, which come after them, make none. And the calls of a caller.
+abbrev pub phases_in : Plan → ℕ → ℕ
+phases_in plan i = slice_index (allotments_in plan) i
+
+abbrev pub calls_at : List Local → ℕ → List Made
+calls_at locals i = calls_in (local_at locals i)
+
+-- These locals are those of one reachable world of a plan's callers and of two monitors, whose object is outside: each of the plan's callers
+-- has made exactly the phases up to its stop, or all of its calls, and the monitors have made no call.
+pub record AreMonitored (plan : Plan) (locals : List Local) : Type 0 where
+  pub together : AreTogether (outside_shape (length plan.operations + 2)) locals
+  pub made : HaveMadeAll plan locals
+
+-- So they are, and the passes of the plan's callers, in order, tell of their calls.
+pub record AreToldMonitored {T : Type 0} (told : T → Option (List (ℕ × ℕ))) (passes : List T) (plan : Plan) (locals : List Local) : Type 0 where
+  pub monitored : AreMonitored plan locals
+  pub told_in : AreTold told (phases_in plan) (calls_at locals) passes
+
+-- So they are, and their calls were answered as this says of the calls of callers, of a script of this kind.
+pub record AreExplainedMonitored (explains : Kind → ℕ → (ℕ → ℕ) → (ℕ → List Made) → Type 0) (plan : Plan) (locals : List Local) : Type 0 where
+  pub monitored : AreMonitored plan locals
+  pub object : explains plan.kind (length plan.operations + 2) (phases_in plan) (calls_at locals)
+
+-- So they are, and the object of a behaviour answered their calls.
+abbrev pub AreNamedMonitored : Behaviour → Plan → List Local → Type 0
+AreNamedMonitored behaviour plan locals = AreExplainedMonitored (IsOfBehaviour behaviour) plan locals
+
+-- The output of a run that left such locals: a status and a text, right of the records that they have published.
+abbrev pub IsMonitorOutput : (List Local → Type 0) → Kind → Status → List ℕ → Type 0
+IsMonitorOutput Are kind status text = (locals : List Local) × Are locals × IsMonitorText kind locals status text
