@@ -1,0 +1,4 @@
+pub mod Counts
+pub mod Leaving
+pub mod LeastCuts
+pub mod Building

@@ -1,0 +1,24 @@
+use Rattle.std.proofs.Common.{◌≡◌, ℕ, ◌+◌, ◌-◌, ◌*◌, ◌/◌, ◌≤◌, ◌<◌, ◌⊎◌, List, set, length, sym, subst, inr, arith}
+use Rattle.book_base.specs.BookAt.{book_at}
+use Rattle.book_base.specs.Order.{HasLegalOrder}
+use Rattle.seq_objects.specs.Objects.{kind_init, kind_next}
+use Rattle.smaller_book.proofs.LeastCuts.{least_from_search}
+use Rattle.smaller_book.proofs.cuts.least_count.Goals as goal
+
+pub loop-low-preserved : goal.loop-low-preserved
+loop-low-preserved c =
+    let inv = c.loop-low.invariant in
+    let middle : ℕ = c.loop-low.low + (c.loop-low.high - c.loop-low.low) / 2 in
+    let at : List ℕ → Type 0 = λ cut. HasLegalOrder (kind_init c.args.kind) (kind_next c.args.kind) (book_at cut c.args.book.now) in
+    let legal : at (set c.args.cut.now c.args.caller middle) = subst at c.with_count-tried.ensures (c.in_ok-is_illegal_at.ensures.legal c.if-branch.false) in
+    let next : middle ≡ middle + 1 - 1 = omega arith in
+    (omega arith, inv.1, inv.2, inr (subst (λ (n : ℕ). at (set c.args.cut.now c.args.caller n)) next legal))
+
+pub returns-clause-least : goal.returns-clause-least
+returns-clause-least c =
+    let inv = c.loop-low.invariant in
+    let at : List ℕ → Type 0 = λ cut. HasLegalOrder (kind_init c.args.kind) (kind_next c.args.kind) (book_at cut c.args.book.now) in
+    let same : c.loop-low.low ≡ c.loop-low.high = omega arith in
+    let inside : c.args.caller < length c.args.cut.now = omega (arith, c.requires.caller, c.requires.cut.wide) in
+    least_from_search (kind_init c.args.kind) (kind_next c.args.kind) c.args.book.now c.args.cut.now c.args.caller c.loop-low.high inside
+    (subst (λ (n : ℕ). (n ≡ 0) ⊎ at (set c.args.cut.now c.args.caller (n - 1))) same inv.3)

@@ -1,0 +1,4 @@
+pub mod Part
+pub mod Numbers
+pub mod Leaving
+pub mod Earliest

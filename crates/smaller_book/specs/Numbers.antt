@@ -1,0 +1,14 @@
+-- Which calls a part is to have.
+use Rattle.std.specs.Prelude.{◌≡◌, ℕ, ◌<◌, List, Vec, length, map, slice_index}
+use Rattle.book_base.specs.Book.{Page, calls_of}
+use Rattle.smaller_book.specs.Part.{numbers_of, AreRising}
+
+-- the lists that these lists in memory hold
+abbrev pub numbers_in : {A : Type 0} → List (Vec ℕ A) → List (List ℕ)
+numbers_in rows = map (λ row. row.items) rows
+
+-- These are rising numbers of calls of the book, a list for each caller.
+pub record AreNumbersOf (book : List Page) (names : List (List ℕ)) : Type 0 where
+  pub wide : length names ≡ length book
+  pub rising : (i : ℕ) → AreRising (numbers_of names i)
+  pub inside : (i k : ℕ) → k < length (numbers_of names i) → slice_index (numbers_of names i) k < calls_of book i
