@@ -1,18 +1,21 @@
 -- A part of a book, put together: its calls, their operations, and then their answers.
-use Rattle.std.proofs.Common.{◌≡◌, ◌≢◌, ℕ, zero, suc, ◌+◌, ◌<◌, ◌≤◌, ◌⊎◌, ◌∙◌, List, [], ◌∷◌, ◌++◌, length, get_or, set, Some, refl, sym, ap, subst, inl, inr, slice_get, arith}
+use Rattle.std.proofs.Common.{◌≡◌, ◌≢◌, ℕ, zero, suc, ◌+◌, ◌<◌, ◌≤◌, ◌∙◌, List, [], ◌∷◌, ◌++◌, length, map, get_or, set, Some, zero-add, refl, sym, ap, subst, inl, inr, slice_get, arith}
 use Rattle.std.specs.Option.{IsSomeAnd}
 use Rattle.std.proofs.lemmas.Bool.{cases_lt, cases_eq}
 use Rattle.std.proofs.lemmas.List.{length-set, length_push, length-map, length-replicate, get_or-map}
+use Rattle.std.specs.List.{range_with_len}
+use Rattle.std.proofs.lemmas.List.{map-append, map-id}
+use Rattle.std.proofs.lemmas.List.FromFn.{map-range_with_len_more}
 use Rattle.std.specs.Prelude.{Vec, Result, Ok, Err, OnOk}
-use Rattle.std.proofs.lemmas.Option.{slice_get_within, none-some}
+use Rattle.std.proofs.lemmas.Option.{slice_get_within}
 use Rattle.book_base.specs.declared.call.Call.{Call}
 use Rattle.book_base.specs.declared.call.Record.{Record}
-use Rattle.book_base.specs.Cut.{IsWithin, AreComparable}
-use Rattle.book_base.specs.Book.{Page, page_of, calls_of, answers_of, IsCall, IsAnswered, operation_of, record_of, announced, IsValid, with_answer, with_operation, first_unanswered, unanswered_page, unanswered_book}
+use Rattle.book_base.specs.Cut.{IsWithin}
+use Rattle.book_base.specs.Book.{Page, page_of, calls_of, answers_of, IsCall, operation_of, record_of, IsValid, with_answer, with_operation, first_unanswered, unanswered_page, unanswered_book}
 use Rattle.book_base.specs.Refusal.{MayAnswer}
 use Rattle.book_base.proofs.GrowthLemmas.{page_of-unanswered_book, page_of-set_same, page_of-set_other, within_announced, calls_of-with_answer, calls_of-with_operation, records-with_operation, record_of-with_answer_cases}
 use Rattle.book_laws.proofs.LegalOrder.{same_call}
-use Rattle.smaller_book.specs.Part.{numbers_of, AreRising, count_below, original, IsRenumbered, IsPart, KeepsAnswers}
+use Rattle.smaller_book.specs.Part.{numbers_of, AreRising, count_below, original, IsRenumbered, IsPart}
 use Rattle.smaller_book.specs.Numbers.{numbers_in}
 use Rattle.smaller_book.proofs.Counts.{counted_from_below, below_from_counted, count_below-within, count_below-past}
 use Rattle.smaller_book.proofs.Leaving.{record_was}
@@ -210,3 +213,19 @@ blank part calls e = (
 pub OnOk_then : {T E P Q : Type 0} (r : Result T E) → OnOk r P → (P → Q) → OnOk r Q
 OnOk_then (Ok x) h f = f h
 OnOk_then (Err e) h f = h
+
+-- one number more
+pub range_with_len-more : (a n j : ℕ) → a + n ≡ j → range_with_len a (n + 1) ≡ range_with_len a n ++ j ∷ []
+range_with_len-more a n j e =
+    sym (map-id (range_with_len a (n + 1))) ∙ (map-range_with_len_more (λ (x : ℕ). x) a n j e ∙ ap (λ (xs : List ℕ). xs ++ j ∷ []) (map-id (range_with_len a n)))
+
+-- one list in memory more
+pub numbers_in-more : {A : Type 0} (f : ℕ → List ℕ) (rows new : List (Vec ℕ A)) (row : Vec ℕ A) (i : ℕ) → numbers_in rows ≡ map f (range_with_len 0 i) → new ≡ rows ++ row ∷ []
+    → row.items ≡ f i → numbers_in new ≡ map f (range_with_len 0 (i + 1))
+numbers_in-more {A} f rows new row i before is same =
+    let items : Vec ℕ A → List ℕ = λ r. r.items in
+    ap numbers_in is
+    ∙ (map-append items rows (row ∷ [])
+    ∙ (ap (λ (xs : List (List ℕ)). xs ++ row.items ∷ []) before
+    ∙ (ap (λ (x : List ℕ). map f (range_with_len 0 i) ++ x ∷ []) same
+    ∙ sym (map-range_with_len_more f 0 i i (zero-add i)))))

@@ -1,24 +1,23 @@
 -- The book at the least cuts at which it has no legal order.
-use Rattle.std.proofs.Common.{◌≡◌, ◌≢◌, ℕ, zero, suc, ◌+◌, ◌-◌, ◌<◌, ◌≤◌, ◌⊎◌, ◌∙◌, List, [], ◌∷◌, length, map, get_or, set, Some, refl, sym, ap, subst, inl, inr, zero-add, arith}
+use Rattle.std.proofs.Common.{◌≡◌, ◌≢◌, ℕ, zero, suc, ◌-◌, ◌<◌, ◌≤◌, ◌⊎◌, ◌∙◌, List, [], length, map, get_or, set, Some, refl, sym, ap, subst, inl, inr, zero-add, arith}
 use Rattle.std.specs.List.{range_with_len}
 use Rattle.std.specs.Option.{IsSomeAnd}
 use Rattle.std.proofs.lemmas.Bool.{cases_lt, cases_eq}
-use Rattle.std.proofs.lemmas.List.{get_or-map, get_or_past, get_or-set_same, get_or-set_other, set-set, length-set, length-map, ext_get_or}
+use Rattle.std.proofs.lemmas.List.{get_or_past, get_or-set_same, get_or-set_other, set-set, length-set, length-map}
 use Rattle.std.proofs.lemmas.List.FromFn.{get_or-range_with_len, length-range_with_len, get_or-map-range_with_len, length-map-range_with_len}
 use Rattle.std.proofs.lemmas.Option.{slice_get_within}
 use Rattle.book_base.specs.declared.call.Call.{Call}
 use Rattle.book_base.specs.declared.call.Record.{Record}
-use Rattle.book_base.specs.Cut.{Holds, IsWithin}
-use Rattle.book_base.specs.Book.{Page, page_of, calls_of, answers_of, IsCall, operation_of, record_of, announced, answered, IsValid}
+use Rattle.book_base.specs.Cut.{IsWithin}
+use Rattle.book_base.specs.Book.{Page, calls_of, IsCall, operation_of, record_of, answered, IsValid}
 use Rattle.book_base.specs.BookAt.{IsBookAt, book_at}
 use Rattle.book_base.specs.Order.{HasLegalOrder}
-use Rattle.book_base.proofs.PageLemmas.{empty, page_past}
+use Rattle.book_base.proofs.PageLemmas.{page_past}
 use Rattle.book_base.proofs.GrowthLemmas.{below_calls}
-use Rattle.book_laws.specs.BooksAtCuts.{IsHeldByAView}
 use Rattle.book_laws.proofs.BookAt.{record_from_part, record_of-part, answered_at}
-use Rattle.book_laws.proofs.BookAtLaws.{is_the_only_one, is_the_book_at, stays_valid, is_the_book_at_the_smaller, record_counts_are_the_cut, has_one_where_the_book_has, smaller_has_one}
+use Rattle.book_laws.proofs.BookAtLaws.{is_the_only_one, stays_valid, is_the_book_at_the_smaller, record_counts_are_the_cut, has_one_where_the_book_has, smaller_has_one}
 use Rattle.book_laws.proofs.LegalOrder.{same_call}
-use Rattle.smaller_book.specs.Part.{numbers_of, AreRising, count_below, original, IsRenumbered, IsPart}
+use Rattle.smaller_book.specs.Part.{numbers_of, AreRising, count_below, original, IsRenumbered, IsPart, CarriesOver}
 use Rattle.smaller_book.specs.Earliest.{all_numbers, IsEarliest, IsIllegalCut, one_less, IsLeastAt, IsLeastCut}
 use Rattle.smaller_book.proofs.Counts.{counted_from_below, count_below-at, count_below-within}
 
@@ -201,3 +200,10 @@ pub illegal_from_least : (init : List ℕ) (next : List ℕ → ℕ → List ℕ
     → IsBookAt book cut part → ¬ HasLegalOrder init next part
 illegal_from_least init next book cut part valid is at h =
     is.here.illegal (subst (λ (b : List Page). HasLegalOrder init next b) (is_the_only_one book cut part valid at) h)
+
+-- A legal order of the book gives one of the book at the cut.
+pub carried_to_cut : (next : List ℕ → ℕ → List ℕ × ℕ) (book : List Page) (cut : List ℕ) (part : List Page) → IsValid book → IsWithin cut (answered book) → IsBookAt book cut part
+    → CarriesOver next book part
+carried_to_cut next book cut part valid within at init legal =
+    subst (λ (b : List Page). HasLegalOrder init next b) (sym (is_the_only_one book cut part valid at))
+    (smaller_has_one init next book cut (answered book) valid within ((has_one_where_the_book_has init next book valid).1 legal))

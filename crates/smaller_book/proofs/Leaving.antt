@@ -1,22 +1,22 @@
 -- What is left of a legal order of a book, where the calls that a part lacks leave every list.
-use Rattle.std.proofs.Common.{◌≡◌, ◌≢◌, ℕ, zero, ◌+◌, ◌<◌, ◌≤◌, ◌∙◌, List, [], ◌∷◌, length, get_or, replicate, unwrap_or, slice_get, Option, Some, None, refl, sym, ap, subst, inl, inr, arith, ltb}
+use Rattle.std.proofs.Common.{◌≡◌, ℕ, ◌+◌, ◌<◌, ◌≤◌, ◌∙◌, List, [], ◌∷◌, length, get_or, replicate, unwrap_or, Option, Some, None, refl, sym, ap, subst, inl, inr, arith, ltb}
 use Rattle.std.specs.Option.{IsSomeAnd}
 use Rattle.std.proofs.lemmas.Bool.{cases_lt, cases_eq, cond-false, le-ltb}
-use Rattle.std.proofs.lemmas.List.{get_or-replicate, get_or_past, length-replicate, length-set}
+use Rattle.std.proofs.lemmas.List.{length-replicate, length-set}
 use Rattle.std.proofs.lemmas.Option.{slice_get_within}
 use Rattle.list_laws.proofs.Places.{get_or-replicate_default}
 use Rattle.book_base.specs.declared.call.Call.{Call}
 use Rattle.book_base.specs.declared.call.Record.{Record}
 use Rattle.book_base.specs.declared.call.Place.{Place}
 use Rattle.book_base.specs.Cut.{Holds}
-use Rattle.book_base.specs.Book.{Page, calls_of, answers_of, IsCall, IsAnswered, operation_of, record_of, Precedes}
-use Rattle.book_base.specs.Order.{call_at, step_at, HasLegalOrder}
-use Rattle.book_base.specs.Next.{raised, MayComeNext, MayStandNext, HoldsAnswered, Continues, list_after}
+use Rattle.book_base.specs.Book.{Page, IsCall, IsAnswered, operation_of, record_of, Precedes}
+use Rattle.book_base.specs.Order.{call_at, step_at}
+use Rattle.book_base.specs.Next.{raised, MayStandNext, HoldsAnswered, Continues, list_after}
 use Rattle.book_base.specs.Foresight.{Leaves}
 use Rattle.book_laws.proofs.LegalOrder.{raised_same, raised_other, same_call, answer_stands, within_cut, legal_order_from_continues, continues_from_legal_order}
-use Rattle.smaller_book.specs.Part.{numbers_of, AreRising, count_below, original, IsNamed, IsRenumbered, IsPart}
+use Rattle.smaller_book.specs.Part.{numbers_of, AreRising, count_below, original, IsRenumbered, IsPart}
 use Rattle.smaller_book.specs.Leaving.{LeavesEveryList, LacksLeavingAlone, HasOneWithoutLeaving}
-use Rattle.smaller_book.proofs.Counts.{counted_from_below, below_from_counted, count_below-at, count_below-past, count_below-without, find_number}
+use Rattle.smaller_book.proofs.Counts.{counted_from_below, count_below-at, count_below-past, count_below-without, find_number}
 
 -- what a test of an option's value says of it
 pub some_that : {X : Type 0} (o : Option X) (P : X → Type 0) → IsSomeAnd o P → (x : X) × (o ≡ Some x) × P x
@@ -198,7 +198,7 @@ no_call_below [] = refl
 no_call_below (x ∷ xs) = cond-false (ltb x 0) (1 + count_below xs 0) 0 (le-ltb x 0 (omega arith))
 
 pub has_one_without_leaving : HasOneWithoutLeaving
-has_one_without_leaving init next book names part is lacks (order, legal) =
+has_one_without_leaving next book names part is lacks init (order, legal) =
     let start : List ℕ = replicate (length book) 0 in
     let wide : length book ≤ length start = omega (arith, length-replicate {A = ℕ} (length book) 0) in
     let zeros : (i : ℕ) → get_or start i 0 ≡ 0 = λ i. get_or-replicate_default (length book) i 0 in

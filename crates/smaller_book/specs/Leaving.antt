@@ -3,8 +3,7 @@ use Rattle.std.specs.Prelude.{ℕ, List, unwrap_or, IsSomeAnd}
 use Rattle.book_base.specs.declared.call.Call.{Call}
 use Rattle.book_base.specs.Book.{Page, IsCall, operation_of, record_of}
 use Rattle.book_base.specs.Foresight.{Leaves}
-use Rattle.book_base.specs.Order.{HasLegalOrder}
-use Rattle.smaller_book.specs.Part.{IsNamed, IsPart}
+use Rattle.smaller_book.specs.Part.{IsNamed, IsPart, CarriesOver}
 
 -- The call is answered, and its operation leaves every list of the object with this reply.
 abbrev pub LeavesEveryList : (List ℕ → ℕ → List ℕ × ℕ) → List Page → Call → Type 0
@@ -16,5 +15,5 @@ LacksLeavingAlone next book names = (call : Call) → IsCall book call → ¬ Is
 
 -- A part that lacks only calls that leave every list has a legal order where the book has one.
 abbrev pub HasOneWithoutLeaving : Type 0
-HasOneWithoutLeaving = (init : List ℕ) (next : List ℕ → ℕ → List ℕ × ℕ) (book : List Page) (names : List (List ℕ)) (part : List Page)
-    → IsPart book names part → LacksLeavingAlone next book names → HasLegalOrder init next book → HasLegalOrder init next part
+HasOneWithoutLeaving = (next : List ℕ → ℕ → List ℕ × ℕ) (book : List Page) (names : List (List ℕ)) (part : List Page)
+    → IsPart book names part → LacksLeavingAlone next book names → CarriesOver next book part

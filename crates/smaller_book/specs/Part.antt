@@ -4,6 +4,7 @@ use Rattle.std.specs.List.{prefix_len}
 use Rattle.book_base.specs.declared.call.Call.{Call}
 use Rattle.book_base.specs.declared.call.Record.{Record}
 use Rattle.book_base.specs.Book.{Page, calls_of, answers_of, IsCall, IsAnswered, operation_of, record_of}
+use Rattle.book_base.specs.Order.{HasLegalOrder}
 
 -- the numbers of a caller's calls that a part has
 abbrev pub numbers_of : List (List ℕ) → ℕ → List ℕ
@@ -50,3 +51,8 @@ pub record IsPart (book : List Page) (names : List (List ℕ)) (part : List Page
 -- what is answered in the book is answered in the part
 abbrev pub KeepsAnswers : List Page → List (List ℕ) → List Page → Type 0
 KeepsAnswers book names part = (call : Call) → IsCall part call → IsAnswered book (original names call) → IsAnswered part call
+
+-- Whichever list the object begins with: where the book has a legal order, the part has one. So where the part has none, the book
+-- has none.
+abbrev pub CarriesOver : (List ℕ → ℕ → List ℕ × ℕ) → List Page → List Page → Type 0
+CarriesOver next book part = (init : List ℕ) → HasLegalOrder init next book → HasLegalOrder init next part

@@ -3,7 +3,7 @@ ghost use Rattle.std.specs.Prelude.{◌≡◌, ◌<◌, ◌≤◌, length, slice
 ghost use Rattle.book_base.specs.Book.{answered};
 ghost use Rattle.book_base.specs.Order.{HasLegalOrder};
 ghost use Rattle.seq_objects.specs.Objects.{kind_init, kind_next};
-ghost use Rattle.smaller_book.specs.Part.{IsPart};
+ghost use Rattle.smaller_book.specs.Part.{IsPart, CarriesOver};
 ghost use Rattle.smaller_book.specs.Earliest.{all_numbers, IsEarliest, IsIllegalCut, IsLeastAt, IsLeastCut};
 
 use crate::judging::is_illegal_at;
@@ -19,6 +19,7 @@ use std::alloc::Global;
 pub fn earliest(alloc: Global, kind: Kind, book: &Book) -> Result<Book, NoMemory>
     requires { ¬ HasLegalOrder (kind_init kind) (kind_next kind) book.now }
     ensures part { IfOk result (λ part. IsPart book.now (all_numbers part) part) }
+    ensures evidence { IfOk result (CarriesOver (kind_next kind) book.now) }
     ensures illegal { IfOk result (λ part.
         ¬ HasLegalOrder (kind_init kind) (kind_next kind) part) }
     ensures earliest { IfOk result (IsEarliest (kind_init kind) (kind_next kind)) }

@@ -1,10 +1,16 @@
 //! Of an illegal book an illegal book that is smaller, and the laws that say why it is evidence.
 #![tactic(auto)]
 
+pub mod cases;
+mod composing;
 mod cuts;
 mod judging;
 pub mod laws;
 mod numbered;
+mod removal;
+mod shrinking;
 
 pub use cuts::earliest;
 pub use numbered::part;
+pub use removal::Smaller;
+pub use shrinking::shrink;

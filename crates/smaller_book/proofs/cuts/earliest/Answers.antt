@@ -1,8 +1,7 @@
-use Rattle.std.proofs.Common.{List, sym, subst}
-use Rattle.book_base.specs.Book.{answered}
+use Rattle.std.proofs.Common.{sym, subst}
 use Rattle.seq_objects.specs.Objects.{kind_init, kind_next}
 use Rattle.smaller_book.specs.Earliest.{IsIllegalCut}
-use Rattle.smaller_book.proofs.LeastCuts.{illegal_at_all, part_from_book_at, illegal_from_least, earliest_from_least}
+use Rattle.smaller_book.proofs.LeastCuts.{illegal_at_all, part_from_book_at, illegal_from_least, earliest_from_least, carried_to_cut}
 use Rattle.smaller_book.proofs.cuts.earliest.Goals as goal
 
 pub least_cut-requires : goal.least_cut-requires
@@ -20,3 +19,7 @@ returns-clause-illegal c =
 pub returns-clause-earliest : goal.returns-clause-earliest
 returns-clause-earliest c =
     earliest_from_least (kind_init c.args.kind) (kind_next c.args.kind) c.args.book.now c.in_ok-cut.cut c.in_ok-part.part c.callers-callers.ensures.valid c.in_ok-cut.ensures c.in_ok-part.ensures
+
+pub returns-clause-evidence : goal.returns-clause-evidence
+returns-clause-evidence c =
+    carried_to_cut (kind_next c.args.kind) c.args.book.now c.in_ok-cut.cut c.in_ok-part.part c.callers-callers.ensures.valid c.in_ok-cut.ensures.here.within c.in_ok-part.ensures

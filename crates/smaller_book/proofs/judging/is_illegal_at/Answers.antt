@@ -1,4 +1,4 @@
-use Rattle.std.proofs.Common.{◌≡◌, false, IfOk, IsTrue, List, sym, subst}
+use Rattle.std.proofs.Common.{◌≡◌, false, IfOk, IsTrue, List, subst}
 use Rattle.book_base.specs.Book.{Page}
 use Rattle.book_base.specs.Order.{HasLegalOrder}
 use Rattle.book_laws.proofs.BookAtLaws.{is_the_only_one}

@@ -1,8 +1,8 @@
-use Rattle.std.proofs.Common.{◌≡◌, ℕ, ◌+◌, ◌<◌, ◌≤◌, ◌∙◌, List, length, get_or, refl, sym, ap, subst, inl, inr, arith}
+use Rattle.std.proofs.Common.{◌≡◌, ℕ, ◌+◌, ◌<◌, ◌≤◌, ◌∙◌, List, length, get_or, sym, ap, subst, inl, inr, arith}
 use Rattle.std.proofs.lemmas.List.{length-map}
 use Rattle.std.proofs.lemmas.Bool.{cases_eq}
 use Rattle.book_base.specs.declared.call.Call.{Call}
-use Rattle.book_base.specs.Book.{Page, calls_of, answers_of, IsCall, operation_of}
+use Rattle.book_base.specs.Book.{Page, calls_of, IsCall, operation_of}
 use Rattle.book_base.proofs.PageLemmas.{caller_from_call}
 use Rattle.smaller_book.specs.Part.{numbers_of, original}
 use Rattle.smaller_book.specs.Numbers.{numbers_in}

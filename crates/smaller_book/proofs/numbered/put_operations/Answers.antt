@@ -1,4 +1,4 @@
-use Rattle.std.proofs.Common.{ℕ, ◌+◌, ◌<◌, List, length, sym, subst, arith}
+use Rattle.std.proofs.Common.{◌+◌, ◌<◌, List, sym, subst, arith}
 use Rattle.book_base.specs.Book.{Page, calls_of}
 use Rattle.book_base.proofs.PageLemmas.{caller_from_call}
 use Rattle.smaller_book.proofs.Building.{PutsTo, puts_more}

@@ -1,0 +1,16 @@
+use Rattle.std.proofs.Common.{◌≡◌, ℕ, List, [], ◌∷◌, length, refl, ap, arith}
+use Rattle.book_base.specs.Foresight.{Leaves}
+use Rattle.book_laws.specs.Cases.{line_next}
+use Rattle.smaller_book.proofs.cases.calls_that_leave.Goals as goal
+
+-- a list of one item isn't the list without items
+one_is_not_none : (item : ℕ) → ◌≡◌ {A = List ℕ} [] (item ∷ []) → ⊥
+one_is_not_none item same =
+    let long : ◌≡◌ {A = ℕ} 0 1 = ap length same in
+    omega (arith, long)
+
+pub returns-clause-takes : goal.returns-clause-takes
+returns-clause-takes c = λ (leaves : Leaves line_next 0 6). one_is_not_none 6 (leaves (6 ∷ []) refl)
+
+pub returns-clause-takes_none : goal.returns-clause-takes_none
+returns-clause-takes_none c = λ (leaves : Leaves line_next 0 0). one_is_not_none 0 (leaves (0 ∷ []) refl)

@@ -1,0 +1,40 @@
+use Rattle.std.proofs.Common.{◌≡◌, ℕ, ◌<◌, List, length, get_or, sym, ap, subst, ◌∙◌, arith}
+use Rattle.seq_objects.specs.Objects.{kind_init, kind_next}
+use Rattle.smaller_book.specs.Part.{numbers_of}
+use Rattle.smaller_book.specs.Numbers.{numbers_in}
+use Rattle.smaller_book.specs.Minimal.{composed, IsShrunk}
+use Rattle.smaller_book.proofs.Removing.{size-within}
+use Rattle.smaller_book.proofs.PartsOfParts.{places_inside, shrunk_twice}
+use Rattle.smaller_book.proofs.shrinking.settled.Goals as goal
+
+pub numbers_through-requires-clause-inside : goal.numbers_through-requires-clause-inside
+numbers_through-requires-clause-inside c =
+    let without = c.args.without in
+    let part = c.in_ok-part.part in
+    let all = places_inside c.args.book.now without.book part.book (numbers_in without.numbers.items) (numbers_in part.numbers.items) c.requires.is_part c.in_ok-part.ensures.is_part in
+    let P : List (List ℕ) → List (List ℕ) → Type 0 = λ first second. (i k : ℕ) → k < length (numbers_of second i) → get_or (numbers_of second i) k 0 < length (numbers_of first i) in
+    subst (λ rows. P (numbers_in rows) (numbers_in c.deref-2.result.now)) (sym c.deref.ensures.value)
+    (subst (λ rows. P (numbers_in without.numbers.items) (numbers_in rows)) (sym c.deref-2.ensures.value) all)
+
+pub returns-clause-shrunk : goal.returns-clause-shrunk
+returns-clause-shrunk c =
+    let init = kind_init c.args.kind in
+    let next = kind_next c.args.kind in
+    let book = c.args.book.now in
+    let without = c.args.without in
+    let part = c.in_ok-part.part in
+    let first : List (List ℕ) = numbers_in without.numbers.items in
+    let second : List (List ℕ) = numbers_in part.numbers.items in
+    let whole : IsShrunk init next book (composed first second) part.book
+    = shrunk_twice init next book without.book part.book first second c.requires.is_part c.requires.evidence c.in_ok-part.ensures in
+    let same : numbers_in c.in_ok-numbers.numbers.items ≡ composed first second
+    = c.in_ok-numbers.ensures
+    ∙ (ap (λ rows. composed (numbers_in rows) (numbers_in c.deref-2.result.now)) c.deref.ensures.value
+    ∙ ap (λ rows. composed first (numbers_in rows)) c.deref-2.ensures.value) in
+    subst (λ names. IsShrunk init next book names part.book) (sym same) whole
+
+pub returns-clause-fewer : goal.returns-clause-fewer
+returns-clause-fewer c =
+    let without = c.args.without in
+    let part = c.in_ok-part.part in
+    omega (arith, size-within without.book (numbers_in part.numbers.items) part.book c.in_ok-part.ensures.is_part, c.requires.fewer)

@@ -1,0 +1,61 @@
+-- A book that no rule makes smaller.
+use Rattle.std.specs.Prelude.{◌≡◌, ℕ, ◌+◌, ◌-◌, ◌<◌, ◌++◌, cond, nat_eq, List, length, map, sum, slice_index}
+use Rattle.std.specs.List.{range_with_len}
+use Rattle.book_base.specs.declared.call.Call.{Call}
+use Rattle.book_base.specs.Book.{Page, calls_of, announced}
+use Rattle.book_base.specs.Order.{HasLegalOrder}
+use Rattle.smaller_book.specs.Part.{numbers_of, IsPart, KeepsAnswers, CarriesOver}
+use Rattle.smaller_book.specs.Leaving.{LeavesEveryList}
+use Rattle.smaller_book.specs.Earliest.{IsEarliest}
+
+-- the numbers below a count, but this one
+abbrev pub numbers_except : ℕ → ℕ → List ℕ
+numbers_except count number = range_with_len 0 number ++ range_with_len (number + 1) (count - (number + 1))
+
+-- the numbers of a caller's calls but this call
+abbrev pub row_but : List Page → Call → ℕ → List ℕ
+row_but book call i = cond (nat_eq i call.caller) (numbers_except (calls_of book i) call.number) (range_with_len 0 (calls_of book i))
+
+-- the numbers of all calls of a book but this call
+abbrev pub all_but : List Page → Call → List (List ℕ)
+all_but book call = map (row_but book call) (range_with_len 0 (length book))
+
+-- The part of the book without this call has a legal order.
+abbrev pub IsNeeded : List ℕ → (List ℕ → ℕ → List ℕ × ℕ) → List Page → Call → Type 0
+IsNeeded init next book call =
+    (part : List Page) × IsPart book (all_but book call) part × KeepsAnswers book (all_but book call) part × HasLegalOrder init next part
+
+-- No rule makes the book smaller and leaves it without a legal order.
+pub record IsMinimal (init : List ℕ) (next : List ℕ → ℕ → List ℕ × ℕ) (book : List Page) : Type 0 where
+  -- the book at each earlier cut has a legal order
+  pub earliest : IsEarliest init next book
+  -- and so does the book without a call that leaves every list
+  pub leaving : (call : Call) → LeavesEveryList next book call → IsNeeded init next book call
+
+-- how many calls a book has
+abbrev pub size_of : List Page → ℕ
+size_of book = sum (announced book)
+
+-- A part of a book that has no legal order, and lacks a call.
+pub record IsSmaller (init : List ℕ) (next : List ℕ → ℕ → List ℕ × ℕ) (book : List Page) (names : List (List ℕ)) (part : List Page) : Type 0 where
+  pub is_part : IsPart book names part
+  pub wide : length names ≡ length book
+  pub evidence : CarriesOver next book part
+  pub illegal : ¬ HasLegalOrder init next part
+  pub fewer : size_of part < size_of book
+
+-- the numbers at these places
+abbrev pub picked : List ℕ → List ℕ → List ℕ
+picked numbers places = map (λ place. slice_index numbers place) places
+
+-- the numbers in a book of the calls of a part of a part
+abbrev pub composed : List (List ℕ) → List (List ℕ) → List (List ℕ)
+composed first second = map (λ i. picked (numbers_of first i) (numbers_of second i)) (range_with_len 0 (length second))
+
+-- A part of a book that has no legal order, while each earlier cut of it has one.
+pub record IsShrunk (init : List ℕ) (next : List ℕ → ℕ → List ℕ × ℕ) (book : List Page) (names : List (List ℕ)) (part : List Page) : Type 0 where
+  pub is_part : IsPart book names part
+  pub wide : length names ≡ length book
+  pub evidence : CarriesOver next book part
+  pub illegal : ¬ HasLegalOrder init next part
+  pub earliest : IsEarliest init next part

@@ -1,0 +1,53 @@
+//! The numbers of a book's calls, and of those of a part of a part.
+ghost use Rattle.std.specs.Prelude.{◌≡◌, ℕ, ◌<◌, length, slice_index, IfOk};
+ghost use Rattle.smaller_book.specs.Part.{numbers_of};
+ghost use Rattle.smaller_book.specs.Numbers.{numbers_in};
+ghost use Rattle.smaller_book.specs.Earliest.{all_numbers};
+ghost use Rattle.smaller_book.specs.Minimal.{picked, composed};
+
+use crate::removal::numbers_below;
+use book_base::{Book, NoMemory};
+use std::alloc::Global;
+
+/// The numbers of all calls of a book.
+pub fn numbers_of_all(alloc: Global, book: &Book) -> Result<Vec<Vec<u64>>, NoMemory>
+    ensures { IfOk result (λ rows. numbers_in rows.items ≡ all_numbers book.now) }
+{
+    let mut rows = Vec::new(alloc);
+    for caller in 0..book.callers() {
+        rows.push(numbers_below(alloc, book.calls(caller))?)?;
+    }
+    Ok(rows)
+}
+
+/// The numbers in a book of the calls of a part of a part: the first numbers at the places that the
+/// second ones say.
+pub fn numbers_through(
+    alloc: Global,
+    first: &[Vec<u64>],
+    second: &[Vec<u64>],
+) -> Result<Vec<Vec<u64>>, NoMemory>
+    requires callers { length first.now ≡ length second.now }
+    requires inside { (i k : ℕ) → k < length (numbers_of (numbers_in second.now) i)
+        → slice_index (numbers_of (numbers_in second.now) i) k < length (numbers_of (numbers_in first.now) i) }
+    ensures { IfOk result (λ rows.
+        numbers_in rows.items ≡ composed (numbers_in first.now) (numbers_in second.now)) }
+{
+    let mut rows = Vec::new(alloc);
+    for caller in 0..second.len() {
+        rows.push(numbers_at(alloc, &first[caller], &second[caller])?)?;
+    }
+    Ok(rows)
+}
+
+// The numbers at these places.
+fn numbers_at(alloc: Global, numbers: &[u64], places: &[u64]) -> Result<Vec<u64>, NoMemory>
+    requires { (k : ℕ) → k < length places.now → slice_index places.now k < length numbers.now }
+    ensures { IfOk result (λ found. found.items ≡ picked numbers.now places.now) }
+{
+    let mut found = Vec::new(alloc);
+    for place in places {
+        found.push(numbers[*place as usize])?;
+    }
+    Ok(found)
+}

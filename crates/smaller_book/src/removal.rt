@@ -1,0 +1,155 @@
+//! Calls that leave every list, taken out of a book.
+ghost use Rattle.std.specs.Prelude.{◌≡◌, ℕ, ◌+◌, ◌-◌, ◌<◌, ◌≤◌, ◌++◌, ◌↔◌, length, IfOk, IfSome, IfNone, IsTrue};
+ghost use Rattle.std.specs.List.{range_with_len};
+ghost use Rattle.book_base.specs.declared.call.Call.{Call};
+ghost use Rattle.book_base.specs.Book.{IsAnswered, IsCall};
+ghost use Rattle.seq_objects.specs.Objects.{kind_init, kind_next};
+ghost use Rattle.smaller_book.specs.Numbers.{numbers_in};
+ghost use Rattle.smaller_book.specs.Leaving.{LeavesEveryList};
+ghost use Rattle.smaller_book.specs.Minimal.{numbers_except, row_but, all_but, IsNeeded, IsSmaller};
+
+use crate::judging::is_illegal;
+use crate::numbered::part;
+use book_base::{Book, Call, NoMemory, SeqObject};
+use seq_objects::Kind;
+use std::alloc::Global;
+
+/// A smaller book, and the numbers that its calls had, by caller.
+#[derive(Debug, Drop)]
+pub struct Smaller {
+    pub book: Book,
+    pub numbers: Vec<Vec<u64>>,
+}
+
+/// The book without the first call, from this caller on, that leaves every list and isn't needed for the
+/// book to have no legal order.
+pub fn without_one(
+    alloc: Global,
+    kind: Kind,
+    book: &Book,
+    from: u32,
+) -> Result<Option<(Smaller, u32)>, NoMemory>
+    ensures smaller { IfOk result (λ found. IfSome found (λ (smaller, caller).
+        IsSmaller (kind_init kind) (kind_next kind) book.now (numbers_in smaller.numbers.items) smaller.book)) }
+    ensures none { IfOk result (λ found. IfNone found ((call : Call) → from ≤ call.caller
+        → LeavesEveryList (kind_next kind) book.now call
+        → IsNeeded (kind_init kind) (kind_next kind) book.now call)) }
+{
+    for caller in from..book.callers() {
+        let found = without_one_of(alloc, kind, book, caller)?;
+        match found {
+            Some(smaller) => return Ok(Some((smaller, caller))),
+            None => {}
+        }
+    }
+    Ok(None)
+}
+
+// The book without a call of this caller.
+fn without_one_of(
+    alloc: Global,
+    kind: Kind,
+    book: &Book,
+    caller: u32,
+) -> Result<Option<Smaller>, NoMemory>
+    requires { caller < length book.now }
+    ensures smaller { IfOk result (λ found. IfSome found (λ smaller.
+        IsSmaller (kind_init kind) (kind_next kind) book.now (numbers_in smaller.numbers.items) smaller.book)) }
+    ensures none { IfOk result (λ found. IfNone found ((number : ℕ)
+        → LeavesEveryList (kind_next kind) book.now (record { caller = caller; number = number })
+        → IsNeeded (kind_init kind) (kind_next kind) book.now (record { caller = caller; number = number }))) }
+{
+    for number in 0..book.answers(caller) {
+        let call = Call { caller, number };
+        if leaves_every_list(kind, book, call)
+            && let Some(smaller) = without(alloc, kind, book, call)?
+        {
+            return Ok(Some(smaller));
+        }
+    }
+    Ok(None)
+}
+
+// The book without this call, where it has no legal order without it.
+fn without(alloc: Global, kind: Kind, book: &Book, call: Call) -> Result<Option<Smaller>, NoMemory>
+    requires { LeavesEveryList (kind_next kind) book.now call }
+    ensures smaller { IfOk result (λ found. IfSome found (λ smaller.
+        IsSmaller (kind_init kind) (kind_next kind) book.now (numbers_in smaller.numbers.items) smaller.book)) }
+    ensures none { IfOk result (λ found. IfNone found
+        (IsNeeded (kind_init kind) (kind_next kind) book.now call)) }
+{
+    let _callers = book.callers();
+    let numbers = all_numbers_but(alloc, book, call)?;
+    let smaller = part(alloc, book, &numbers)?;
+    if is_illegal(alloc, kind, &smaller)? {
+        Ok(Some(Smaller {
+            book: smaller,
+            numbers,
+        }))
+    } else {
+        Ok(None)
+    }
+}
+
+// Whether a call is answered, and its operation leaves every list with this reply.
+fn leaves_every_list(kind: Kind, book: &Book, call: Call) -> bool
+    requires { IsAnswered book.now call }
+    ensures { IsTrue result ↔ LeavesEveryList (kind_next kind) book.now call }
+{
+    let _callers = book.callers();
+    let record = book.record(call);
+    let op = book.op(call);
+    kind.leaves(op, record.reply)
+}
+
+// The numbers of all calls of a book but this call.
+fn all_numbers_but(alloc: Global, book: &Book, call: Call) -> Result<Vec<Vec<u64>>, NoMemory>
+    requires { IsCall book.now call }
+    ensures { IfOk result (λ rows. numbers_in rows.items ≡ all_but book.now call) }
+{
+    let mut rows = Vec::new(alloc);
+    for caller in 0..book.callers() {
+        rows.push(numbers_but(alloc, book, call, caller)?)?;
+    }
+    Ok(rows)
+}
+
+// The numbers of a caller's calls in a book without a call.
+fn numbers_but(alloc: Global, book: &Book, call: Call, caller: u32) -> Result<Vec<u64>, NoMemory>
+    requires call { IsCall book.now call }
+    requires caller { caller < length book.now }
+    ensures { IfOk result (λ numbers. numbers.items ≡ row_but book.now call caller) }
+{
+    let count = book.calls(caller);
+    if caller == call.caller {
+        numbers_without(alloc, count, call.number)
+    } else {
+        numbers_below(alloc, count)
+    }
+}
+
+// The numbers below a count, but this one.
+fn numbers_without(alloc: Global, count: u64, number: u64) -> Result<Vec<u64>, NoMemory>
+    requires { number < count }
+    ensures { IfOk result (λ numbers. numbers.items ≡ numbers_except count number) }
+{
+    let mut numbers = Vec::new(alloc);
+    for before in 0..number {
+        numbers.push(before)?;
+    }
+    for after in number + 1..count {
+        numbers.push(after)?;
+    }
+    Ok(numbers)
+}
+
+/// The numbers below a count.
+pub fn numbers_below(alloc: Global, count: u64) -> Result<Vec<u64>, NoMemory>
+    ensures { IfOk result (λ numbers. numbers.items ≡ range_with_len 0 count) }
+{
+    let mut numbers = Vec::new(alloc);
+    for number in 0..count {
+        numbers.push(number)?;
+    }
+    Ok(numbers)
+}
