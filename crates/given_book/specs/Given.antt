@@ -1,0 +1,63 @@
+-- The book that an input gives: its text in either version, or the witness behind a report.
+use Rattle.std.specs.Prelude.{◌≡◌, ◌⊎◌, ℕ, ◌<◌, List, [], ◌++◌, drop, codes}
+use Rattle.book_base.specs.declared.fault.TextFault.{TextFault}
+use Rattle.book_base.specs.declared.fault.ReadFault.{ReadFault}
+use Rattle.book_base.specs.declared.fault.ReadFault.TheVariants.{Text, NoMemory}
+use Rattle.book_base.specs.Book.{Page}
+use Rattle.book_text.specs.BookRules.{IsBookText, IsFirstBookFault}
+use Rattle.seq_objects.specs.declared.kind.Kind.{Kind}
+use Rattle.text_fields.specs.declared.version.Version.{Version}
+use Rattle.text_fields.specs.declared.version.Version.TheVariants.{First, Second}
+
+-- the first line is the title of a report
+abbrev pub BeginsAsReport : List ℕ → Type 0
+BeginsAsReport bytes = (rest : List ℕ) × (bytes ≡ codes "report 2\n" ++ rest)
+
+-- the first line is the title of a book of version 1
+abbrev pub BeginsAsOldBook : List ℕ → Type 0
+BeginsAsOldBook bytes = (rest : List ℕ) × (bytes ≡ codes "book 1\n" ++ rest)
+
+-- at this place the bytes have the end of a line, behind it the line `end`, and behind that the rest
+abbrev pub HasEndAt : List ℕ → ℕ → List ℕ → Type 0
+HasEndAt bytes at rest = drop at bytes ≡ codes "\nend\n" ++ rest
+
+-- The rest is what stands behind the first line `end`, which is behind another line.
+pub record IsBehindEnd (bytes rest : List ℕ) : Type 0 where
+  pub at : ℕ
+  pub has : HasEndAt bytes at rest
+  pub first : (i : ℕ) (other : List ℕ) → i < at → ¬ (HasEndAt bytes i other)
+
+-- no line behind another one is `end`
+abbrev pub HasNoEnd : List ℕ → Type 0
+HasNoEnd bytes = (i : ℕ) (rest : List ℕ) → ¬ (HasEndAt bytes i rest)
+
+-- The part is what stands behind the report that the bytes begin with: nothing where the report has no end.
+abbrev pub IsWitnessPart : List ℕ → List ℕ → Type 0
+IsWitnessPart bytes part = IsBehindEnd bytes part ⊎ (HasNoEnd bytes × (part ≡ []))
+
+-- This part of the bytes is read as a book's text, and in this version: what stands behind a report, in version 2; or all
+-- bytes, in version 1 where they begin with its title, and else in version 2.
+abbrev pub IsBookPart : List ℕ → Version → List ℕ → Type 0
+IsBookPart bytes version part =
+    (BeginsAsReport bytes × (version ≡ Second) × IsWitnessPart bytes part)
+    ⊎ ((¬ (BeginsAsReport bytes) × BeginsAsOldBook bytes × (version ≡ First) × (part ≡ bytes))
+    ⊎ (¬ (BeginsAsReport bytes) × ¬ (BeginsAsOldBook bytes) × (version ≡ Second) × (part ≡ bytes)))
+
+-- the input gives this book, of an object of this kind
+pub record IsGiven (bytes : List ℕ) (kind : Kind) (book : List Page) : Type 0 where
+  pub version : Version
+  pub part : List ℕ
+  pub is : IsBookPart bytes version part
+  pub told : IsBookText version part kind book
+
+-- the first fault of an input, with its line counted from the title of the book
+pub record IsFirstGivenFault (bytes : List ℕ) (fault : TextFault) : Type 0 where
+  pub version : Version
+  pub part : List ℕ
+  pub is : IsBookPart bytes version part
+  pub stops : IsFirstBookFault version part fault
+
+-- why no book is read of an input: its first fault, or want of memory
+abbrev pub IsNotGiven : List ℕ → ReadFault → Type 0
+IsNotGiven bytes (Text fault) = IsFirstGivenFault bytes fault
+IsNotGiven bytes NoMemory = Unit {0}

@@ -1,0 +1,81 @@
+//! Which part of an input is a book's text, and in which version.
+
+ghost use Rattle.std.specs.Prelude.{◌↔◌, ◌+◌, ◌<◌, ◌≤◌, drop, length, IsTrue, IsNone, IfSome, List, ℕ};
+ghost use Rattle.given_book.specs.Given.{BeginsAsReport, BeginsAsOldBook, HasEndAt, HasNoEnd, IsWitnessPart, IsBookPart};
+
+use text_fields::Version;
+
+/// The part of an input that is read as a book's text.
+#[derive(Clone, Copy)]
+pub(crate) struct Part<'a> {
+    pub(crate) version: Version,
+    pub(crate) bytes: &'a [u8],
+}
+
+/// The part of the bytes that is read as a book's text, and the version that it is read in.
+pub(crate) fn book_part(bytes: &[u8]) -> Part
+    ensures { IsBookPart bytes.now result.version result.bytes.now }
+{
+    if begins_as_report(bytes) {
+        Part {
+            version: Version::Second,
+            bytes: behind_end(bytes),
+        }
+    } else if begins_as_old_book(bytes) {
+        Part {
+            version: Version::First,
+            bytes,
+        }
+    } else {
+        Part {
+            version: Version::Second,
+            bytes,
+        }
+    }
+}
+
+fn begins_as_report(bytes: &[u8]) -> bool
+    ensures { IsTrue result ↔ BeginsAsReport bytes.now }
+{
+    bytes.starts_with(b"report 2\n")
+}
+
+fn begins_as_old_book(bytes: &[u8]) -> bool
+    ensures { IsTrue result ↔ BeginsAsOldBook bytes.now }
+{
+    bytes.starts_with(b"book 1\n")
+}
+
+// What stands behind the first line `end`, and nothing where no line is `end`.
+fn behind_end(bytes: &[u8]) -> &[u8]
+    ensures { IsWitnessPart bytes.now result.now }
+{
+    match place_of_end(bytes) {
+        Some(at) => &bytes[at + 5..],
+        None => &bytes[bytes.len()..],
+    }
+}
+
+// The first place where a line ends and the line `end` comes behind it.
+fn place_of_end(bytes: &[u8]) -> Option<usize>
+    ensures within { IfSome result (λ at. at + 5 ≤ length bytes.now) }
+    ensures found { IfSome result (λ at. HasEndAt bytes.now at (drop (at + 5) bytes.now)) }
+    ensures first { IfSome result (λ at.
+        (i : ℕ) (rest : List ℕ) → i < at → ¬ (HasEndAt bytes.now i rest)) }
+    ensures none { IsNone result → HasNoEnd bytes.now }
+{
+    for at in 0..bytes.len() {
+        if has_end_at(bytes, at) {
+            return Some(at);
+        }
+    }
+    None
+}
+
+fn has_end_at(bytes: &[u8], at: usize) -> bool
+    requires { at < length bytes.now }
+    ensures within { IsTrue result → at + 5 ≤ length bytes.now }
+    ensures has { IsTrue result ↔ ((rest : List ℕ) × HasEndAt bytes.now at rest) }
+{
+    bytes[at..].starts_with(b"\nend\n")
+}
