@@ -8,8 +8,7 @@ use Rattle.book_base.specs.Book.{Page}
 use Rattle.book_base.specs.Order.{HasLegalOrder}
 use Rattle.seq_objects.specs.declared.kind.Kind.{Kind}
 use Rattle.seq_objects.specs.Objects.{kind_init, kind_next}
-use Rattle.text_fields.specs.declared.version.Version.TheVariants.{Second}
-use Rattle.book_text.specs.BookRules.{IsBookText, IsFirstBookFault}
+use Rattle.given_book.specs.Given.{IsGiven, IsFirstGivenFault}
 use Rattle.byte_streams.specs.declared.TheConstants.{INPUT_LIMIT}
 use Rattle.book_picture.specs.Elements.{ShowsEachCall}
 use Rattle.book_picture.specs.Titles.{SaysVerdict}
@@ -19,22 +18,22 @@ abbrev pub IsJudged : Kind → List Page → Bool → Type 0
 IsJudged kind book true = HasLegalOrder (kind_init kind) (kind_next kind) book
 IsJudged kind book false = HasLegalOrder (kind_init kind) (kind_next kind) book → ⊥
 
--- The bytes are the text of a book, and the text is a picture of it: its first line of text says whether the book is legal.
+-- The bytes give a book, and the text is a picture of it: its first line of text says whether the book is legal.
 pub record IsPictureOf (bytes text : List ℕ) : Type 0 where
   pub kind : Kind
   pub book : List Page
   pub short : length bytes ≤ INPUT_LIMIT
-  pub told : IsBookText Second bytes kind book
+  pub told : IsGiven bytes kind book
   pub shown : ShowsEachCall book text
   pub legal : Bool
   pub judged : IsJudged kind book legal
   pub says : SaysVerdict legal text
 
--- The input is refused for this fault: there are too many bytes, or else it is the first fault of the bytes as a book's text.
+-- The input is refused for this fault: there are too many bytes, or else it is the first fault of the input.
 abbrev pub IsRefusedFor : List ℕ → TextFault → Type 0
 IsRefusedFor bytes fault =
     ((INPUT_LIMIT < length bytes) × (fault ≡ record { line = 0; what = Long }))
-    ⊎ ((length bytes ≤ INPUT_LIMIT) × IsFirstBookFault Second bytes fault)
+    ⊎ ((length bytes ≤ INPUT_LIMIT) × IsFirstGivenFault bytes fault)
 
 -- why no picture is made of the bytes: their fault, or want of memory
 abbrev pub IsNoPicture : List ℕ → ReadFault → Type 0

@@ -1,4 +1,4 @@
-//! The program: it reads a book, and writes its picture.
+//! The program: it reads a book, or the whole output of a run, and writes the picture of the book or of the witness.
 #![tactic(auto)]
 
 ghost use Rattle.std.specs.Prelude.{◌≡◌, ◌⊎◌, string_bytes, IfOk, IfErr};
@@ -7,16 +7,16 @@ ghost use Rattle.witness_picture.specs.Output.{IsPictureOf, IsNoPicture};
 
 use book_base::{NoMemory, ReadFault, TextFault, What};
 use book_picture::draw_book;
-use book_text::read_book;
 use byte_streams::{
     INPUT_LIMIT, ReadAllError, Sink, Source, Status, StdSink, StdSource, read_all, write_text,
 };
 use frontier_check::check;
+use given_book::read_given;
 use std::alloc::Global;
 use std::process::ExitCode;
 use text_refusals::refusal;
 
-// The picture of the book that the bytes are the text of.
+// The picture of the book that the bytes give.
 fn picture(alloc: Global, bytes: &[u8]) -> Result<String, ReadFault>
     ensures shown { IfOk result (λ text. IsPictureOf bytes.now (string_bytes text)) }
     ensures refused { IfErr result (IsNoPicture bytes.now) }
@@ -27,12 +27,12 @@ fn picture(alloc: Global, bytes: &[u8]) -> Result<String, ReadFault>
             what: What::Long,
         }));
     }
-    let (kind, book) = read_book(alloc, bytes)?;
+    let (kind, book) = read_given(alloc, bytes)?;
     let verdict = check(alloc, &kind, &book)?;
     Ok(draw_book(alloc, kind, &book, &verdict)?)
 }
 
-// Reads the source, and writes the picture of its book, or why it is no book's text.
+// Reads the source, and writes the picture of its book, or why it gives none.
 fn answer<S: Source, K: Sink>(alloc: Global, source: &mut S, sink: &mut K) -> Status
     ensures read_fault { result ≡ Status.ReadFault
         → Rose (S.faults source.old) (S.faults source.new) }
@@ -51,7 +51,7 @@ fn answer<S: Source, K: Sink>(alloc: Global, source: &mut S, sink: &mut K) -> St
     }
 }
 
-// Writes why the input is no book's text.
+// Writes why the input gives no book.
 fn refuse<K: Sink>(alloc: Global, fault: TextFault, sink: &mut K) -> Status
     ensures status { (result ≡ Status.Refused) ⊎ (result ≡ Status.WriteFault)
         ⊎ (result ≡ Status.NoMemory) }
