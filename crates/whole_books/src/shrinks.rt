@@ -8,16 +8,20 @@ use std::test::Fail;
 
 // Nobody writes 7. The read of 5 and all that comes after the read of 7 have nothing to do with it; the
 // other caller's read is in a view, and is unanswered once its record is gone.
-const INVENTED: &[u8] = b"book 2\nobject register\ncallers 2\ncalls 3 2\n0 0 write 5 done view 0:1\n0 1 read =5 view 0:2 1:1\n0 2 read =7 view 0:3 1:1\n1 0 read =5 view 0:1 1:1\n1 1 write 9 done view 0:3 1:2\nend\n";
+const INVENTED: &[u8] =
+    b"book 2\nobject register\ncallers 2\ncalls 3 2\n0 0 write 5 done view 0:1\n0 1 read =5 view 0:2 1:1\n0 2 read =7 view 0:3 1:1\n1 0 read =5 view 0:1 1:1\n1 1 write 9 done view 0:3 1:2\nend\n";
 
 // The first read sees the write, and the second one doesn't. Without either there is a legal order.
-const SEEN_ONCE: &[u8] = b"book 2\nobject register\ncallers 2\ncalls 1 2\n0 0 write 5 done view 0:1 1:2\n1 0 read =5 view 0:1 1:1\n1 1 read =0 view 0:1 1:2\nend\n";
+const SEEN_ONCE: &[u8] =
+    b"book 2\nobject register\ncallers 2\ncalls 1 2\n0 0 write 5 done view 0:1 1:2\n1 0 read =5 view 0:1 1:1\n1 1 read =0 view 0:1 1:2\nend\n";
 
 // 5 is put in, and then a take finds nothing.
-const LOST: &[u8] = b"book 2\nobject queue\ncallers 2\ncalls 1 1\n0 0 enq 5 done view 0:1\n1 0 deq none view 0:1 1:1\nend\n";
+const LOST: &[u8] =
+    b"book 2\nobject queue\ncallers 2\ncalls 1 1\n0 0 enq 5 done view 0:1\n1 0 deq none view 0:1 1:1\nend\n";
 
 // 5 is put in, and then it is taken.
-const TAKEN: &[u8] = b"book 2\nobject queue\ncallers 2\ncalls 1 1\n0 0 enq 5 done view 0:1\n1 0 deq =5 view 0:1 1:1\nend\n";
+const TAKEN: &[u8] =
+    b"book 2\nobject queue\ncallers 2\ncalls 1 1\n0 0 enq 5 done view 0:1\n1 0 deq =5 view 0:1 1:1\nend\n";
 
 fn shrunk(alloc: Global, text: &[u8]) -> Result<Option<Smaller>, Fail> {
     let (kind, book) = read_book(alloc, text)?;
