@@ -19,11 +19,11 @@ use Rattle.smaller_book.proofs.Removing.{original_is_call}
 -- the numbers of a caller
 numbers_of-composed : (first second : List (List ℕ)) (i : ℕ) → numbers_of (composed first second) i ≡ picked (numbers_of first i) (numbers_of second i)
 numbers_of-composed first second i =
-    let row : ℕ → List ℕ = λ j. picked (numbers_of first j) (numbers_of second j) in
+    let kept_by : ℕ → List ℕ = λ j. picked (numbers_of first j) (numbers_of second j) in
     elim (cases_lt i (length second)) [
-      | inl inside ↦ get_or-map-range_with_len row 0 (length second) i i [] inside (zero-add i)
+      | inl inside ↦ get_or-map-range_with_len kept_by 0 (length second) i i [] inside (zero-add i)
       | inr past ↦
-          get_or_past (map row (range_with_len 0 (length second))) i [] (omega (arith, length-map-range_with_len row 0 (length second), past))
+          get_or_past (map kept_by (range_with_len 0 (length second))) i [] (omega (arith, length-map-range_with_len kept_by 0 (length second), past))
           ∙ sym (ap (picked (numbers_of first i)) (get_or_past second i [] past))
     ]
 
@@ -120,8 +120,8 @@ pub shrunk_twice : (init : List ℕ) (next : List ℕ → ℕ → List ℕ × �
 shrunk_twice init next book mid part first second outer evidence inner = record {
   is_part = part_of_part book mid part first second outer inner.is_part;
   wide =
-      let row : ℕ → List ℕ = λ i. picked (numbers_of first i) (numbers_of second i) in
-      length-map-range_with_len row 0 (length second) ∙ (inner.wide ∙ outer.callers);
+      let kept_by : ℕ → List ℕ = λ i. picked (numbers_of first i) (numbers_of second i) in
+      length-map-range_with_len kept_by 0 (length second) ∙ (inner.wide ∙ outer.callers);
   evidence = carried_twice next book mid part evidence inner.evidence;
   illegal = inner.illegal;
   earliest = inner.earliest;

@@ -70,20 +70,20 @@ has-numbers_except n k other inside here apart =
 -- The numbers of one caller in a book without a call.
 numbers_of-own : (book : List Page) (call : Call) → IsCall book call → numbers_of (all_but book call) call.caller ≡ numbers_except (calls_of book call.caller) call.number
 numbers_of-own book call inside =
-    let row : ℕ → List ℕ = row_but book call in
-    get_or-map-range_with_len row 0 (length book) call.caller call.caller [] (caller_from_call book call.caller call.number inside) (zero-add call.caller)
+    let kept_by : ℕ → List ℕ = row_but book call in
+    get_or-map-range_with_len kept_by 0 (length book) call.caller call.caller [] (caller_from_call book call.caller call.number inside) (zero-add call.caller)
     ∙ cond-true (nat_eq call.caller call.caller) (numbers_except (calls_of book call.caller) call.number) (range_with_len 0 (calls_of book call.caller)) (eq-eqb call.caller call.caller refl)
 
 numbers_of-other : (book : List Page) (call : Call) (i : ℕ) → i ≢ call.caller → i < length book → numbers_of (all_but book call) i ≡ range_with_len 0 (calls_of book i)
 numbers_of-other book call i apart inside =
-    let row : ℕ → List ℕ = row_but book call in
-    get_or-map-range_with_len row 0 (length book) i i [] inside (zero-add i)
+    let kept_by : ℕ → List ℕ = row_but book call in
+    get_or-map-range_with_len kept_by 0 (length book) i i [] inside (zero-add i)
     ∙ cond-false (nat_eq i call.caller) (numbers_except (calls_of book i) call.number) (range_with_len 0 (calls_of book i)) (ne_eqb i call.caller apart)
 
 numbers_of-past : (book : List Page) (call : Call) (i : ℕ) → length book ≤ i → numbers_of (all_but book call) i ≡ []
 numbers_of-past book call i past =
-    let row : ℕ → List ℕ = row_but book call in
-    get_or_past (map row (range_with_len 0 (length book))) i [] (omega (arith, length-map-range_with_len row 0 (length book), past))
+    let kept_by : ℕ → List ℕ = row_but book call in
+    get_or_past (map kept_by (range_with_len 0 (length book))) i [] (omega (arith, length-map-range_with_len kept_by 0 (length book), past))
 
 -- what holds of the three kinds of lists holds of the caller's
 cases_all_but : (book : List Page) (call : Call) → IsCall book call → (P : ℕ → List ℕ → Type 0) → P call.caller (numbers_except (calls_of book call.caller) call.number)
@@ -100,8 +100,8 @@ cases_all_but book call inside P own others past i =
 pub all_but_are_numbers : (book : List Page) (call : Call) → IsCall book call → AreNumbersOf book (all_but book call)
 all_but_are_numbers book call inside = record {
   wide =
-      let row : ℕ → List ℕ = row_but book call in
-      length-map-range_with_len row 0 (length book);
+      let kept_by : ℕ → List ℕ = row_but book call in
+      length-map-range_with_len kept_by 0 (length book);
   rising = cases_all_but book call inside (λ i xs. AreRising xs) (rising-numbers_except (calls_of book call.caller) call.number inside)
       (λ i apart here. range-rising (calls_of book i)) (λ i past j k less room. absurd (omega arith));
   inside = cases_all_but book call inside (λ i xs. (k : ℕ) → k < length xs → get_or xs k 0 < calls_of book i)
