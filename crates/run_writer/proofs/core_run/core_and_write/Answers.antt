@@ -20,4 +20,4 @@ pub returns-in-Ok-clause-fine : goal.returns-in-Ok-clause-fine
 returns-in-Ok-clause-fine g c = c.write_report.ensures.fine c.in-Ok.ensures.no_error
 
 pub returns-in-Ok-clause-free : goal.returns-in-Ok-clause-free
-returns-in-Ok-clause-free g c some report is = one_standing _ _ _ _ _ _ _ _ _ c.in-Ok.ensures.report is c.in-Ok.ensures.free
+returns-in-Ok-clause-free g c some report is = one_standing _ _ _ _ c.run_core.new.bench _ _ _ _ c.in-Ok.ensures.report is c.in-Ok.ensures.free

@@ -25,7 +25,7 @@ returns-in-Ok-clause-fine g c report is none =
 
 pub returns-in-Ok-clause-free : goal.returns-in-Ok-clause-free
 returns-in-Ok-clause-free g c some report is =
-    one_standing _ _ _ _ _ _ _ _ _ (by_its_kind _ _ _ _ _ _ c.kind-kind.ensures c.in-Ok.ensures.report) is c.in-Ok.ensures.free
+    one_standing _ _ _ _ c.run_over.new.bench _ _ _ _ (by_its_kind _ _ _ _ _ _ c.kind-kind.ensures c.in-Ok.ensures.report) is c.in-Ok.ensures.free
 
 pub returns-in-Ok-clause-back : goal.returns-in-Ok-clause-back
 returns-in-Ok-clause-back g c i low = back_by_kind _ _ c.kind-kind.ensures _ _ _ _ _ _ _ c.args.script.now _ _ _ _ (c.in-Ok.ensures.back i low)
