@@ -31,7 +31,9 @@ pub use laws::{
     verify_has_one_output, what_is_not_taken_is_refused, words_have_their_command,
 };
 pub use monitor_writer::monitor_and_write;
-pub use named_runs::{monitor_behaviour, monitor_fresh, replay_behaviour, replay_fresh, run_behaviour, run_fresh};
+pub use named_runs::{
+    monitor_behaviour, monitor_fresh, replay_behaviour, replay_fresh, run_behaviour, run_fresh,
+};
 pub use run_writer::{
     Form, a_report_and_its_counts_have_one_text, certificates_are_legal_and_tell_one_book,
     core_and_write, replay_and_write, run_and_write, write_report,

@@ -4,13 +4,12 @@ use Rattle.selfcheck.proofs.MonitorLemmas.{one_opening}
 use Rattle.selfcheck.proofs.monitor_script.is_crowded.Goals as goal
 
 pub returns-in-Some : goal.returns-in-Some
-returns-in-Some c =
-    (
-      λ many. (c.in-Some.callers, c.in-Some.ensures.found, omega (arith, many)),
-      λ crowded.
+returns-in-Some c = (
+  λ many. (c.in-Some.callers, c.in-Some.ensures.found, omega (arith, many)),
+  λ crowded.
       let same : crowded.0 ≡ c.in-Some.callers = one_opening c.args.bytes.now crowded.0 c.in-Some.callers crowded.1 c.in-Some.ensures.found in
       omega (arith, same, crowded.2),
-    )
+)
 
 pub returns-in-None : goal.returns-in-None
 returns-in-None c = (λ e. absurd (false≢true e), λ crowded. absurd (c.in-None.ensures.none crowded.0 crowded.1))
