@@ -3,7 +3,7 @@ use std::sync::atomic::{AtomicU64, Ordering};
 use std::thread::yield_now;
 
 /// How often noise gives a thread away, and for how long.
-#[derive(Clone, Copy, Debug, PartialEq, Eq)]
+#[derive(Clone, Copy, Debug, Default, PartialEq, Eq)]
 pub struct Loudness {
     /// At how many of 256 pauses it does so: none at 0.
     pub share: u32,
@@ -13,8 +13,8 @@ pub struct Loudness {
 
 /// Noise for the callers of a run: at a pause it gives the thread away or not, as the seed has it for the pauses in
 /// the order in which they come. So callers meet in the midst of their calls who else would each be through before
-/// the next one starts. All callers share it.
-#[derive(Drop)]
+/// the next one starts. All callers share it. The default noise is silent.
+#[derive(Default, Drop)]
 pub struct Noise {
     key: u64,
     loudness: Loudness,
