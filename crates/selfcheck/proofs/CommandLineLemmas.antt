@@ -161,7 +161,7 @@ argued_rows_are_met : AllByRecursion (λ (row : List ℕ × (List ℕ → Option
 unfolding clap_on_literals
 argued_rows_are_met = (
   λ argument plain. rw (plain.dashes, plain.long, plain.short) refl,
-  (λ argument plain. rw (plain.dashes, plain.long, plain.short) refl, (λ argument plain. rw (plain.dashes, plain.long, plain.short) refl, (λ argument plain. rw (plain.dashes, plain.long, plain.short) refl, tt))),
+  (λ argument plain. rw (plain.dashes, plain.long, plain.short) refl, (λ argument plain. rw (plain.dashes, plain.long, plain.short) refl, (λ argument plain. rw (plain.dashes, plain.long, plain.short) refl, (λ argument plain. rw (plain.dashes, plain.long, plain.short) refl, tt)))),
 )
 
 argued_rows_are_taken : AllByRecursion (λ (row : List ℕ × (List ℕ → Option Command)). (argument : Text) → IsPlainText argument
@@ -169,7 +169,7 @@ argued_rows_are_taken : AllByRecursion (λ (row : List ℕ × (List ℕ → Opti
 unfolding clap_on_literals
 argued_rows_are_taken = (
   λ argument plain. rw (plain.dashes, plain.long, plain.short) refl,
-  (λ argument plain. rw (plain.dashes, plain.long, plain.short) refl, (λ argument plain. rw (plain.dashes, plain.long, plain.short) refl, (λ argument plain. rw (plain.dashes, plain.long, plain.short) refl, tt))),
+  (λ argument plain. rw (plain.dashes, plain.long, plain.short) refl, (λ argument plain. rw (plain.dashes, plain.long, plain.short) refl, (λ argument plain. rw (plain.dashes, plain.long, plain.short) refl, (λ argument plain. rw (plain.dashes, plain.long, plain.short) refl, tt)))),
 )
 
 text_is_plain : (argument : Text) → begins_with_hyphen argument ≡ false → IsPlainText argument

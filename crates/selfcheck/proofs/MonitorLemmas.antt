@@ -1,5 +1,5 @@
 -- Lemmas on the scripts that leave two callers for monitors, and on what is written of their runs.
-use Rattle.std.proofs.Common.{◌≡◌, ◌∙◌, ◌⊎◌, refl, sym, ap, subst, true, ℕ, ◌+◌, ◌<◌, List, [], ◌∷◌, ◌++◌, length, map, decimal, codes, Option, None, Some, Result, Ok, Err, inl, inr, arith}
+use Rattle.std.proofs.Common.{◌≡◌, ◌∙◌, ◌⊎◌, refl, sym, ap, subst, true, ℕ, ◌+◌, ◌≤◌, List, [], ◌∷◌, ◌++◌, length, decimal, codes, Option, None, Some, Result, Ok, Err, inl, inr, arith}
 use Rattle.std.proofs.lemmas.Bool.{cases_lt}
 use Rattle.std.proofs.lemmas.List.{length-map}
 use Rattle.std.specs.Prelude.{IfOk, IfErr, IfSome}
@@ -50,7 +50,9 @@ same_line_at : (text : Unread) (a b : List ℕ) (left right : Unread) → line_a
 same_line_at text a b left right one other = here (sym one ∙ other)
   where
     here : ◌≡◌ {A = Result (List ℕ × Unread) TextFault} (Ok (a, left)) (Ok (b, right)) → (a ≡ b) × (left ≡ right)
-    here e = (cc, cc)
+    here e =
+        let pair : ◌≡◌ {A = List ℕ × Unread} (a, left) (b, right) = cc in
+        (ap (λ (p : List ℕ × Unread). p.0) pair, ap (λ (p : List ℕ × Unread). p.1) pair)
 
 -- the bytes tell of one number of callers
 pub one_opening : (bytes : List ℕ) (n m : ℕ) → IsOpening bytes n → IsOpening bytes m → n ≡ m
@@ -160,11 +162,12 @@ leaves_two bytes plan told roomy =
 -- ---- a text, or one first fault
 
 pub monitor_input_or_fault : (bytes : List ℕ) (fault : TextFault) → IsMonitorInput bytes → IsFirstMonitorFault bytes fault → ⊥
-unfolding IsMonitorInput
+unfolding IsMonitorInput IsFirstMonitorFault
 monitor_input_or_fault bytes fault told (inl crowded) = roomy_script bytes told.0 told.1 told.2 crowded.0
 monitor_input_or_fault bytes fault told (inr other) = no_first_fault Second bytes told.0 fault told.1 other.1
 
 pub one_monitor_fault : (bytes : List ℕ) (a b : TextFault) → IsFirstMonitorFault bytes a → IsFirstMonitorFault bytes b → a ≡ b
+unfolding IsFirstMonitorFault
 one_monitor_fault bytes a b (inl one) (inl other) = one.1 ∙ sym other.1
 one_monitor_fault bytes a b (inl one) (inr other) = absurd (other.0 one.0)
 one_monitor_fault bytes a b (inr one) (inl other) = absurd (one.0 other.0)
@@ -181,6 +184,7 @@ monitored_few bytes (Err fault) roomy told = tt
 pub monitored_refused : (bytes : List ℕ) (result : Result Plan ReadFault) → length bytes ≤ INPUT_LIMIT → ¬ IsCrowded bytes
     → IfErr result (λ e. (e ≡ NoMemory) ⊎ ((fault : TextFault) × (e ≡ Text fault) × IsFirstScriptFault Second bytes fault × IsNoScriptText Second bytes))
     → IfErr result (IsReadFault IsFirstMonitorFault bytes)
+unfolding IsFirstMonitorFault
 monitored_refused bytes (Ok script) short roomy why = tt
 monitored_refused bytes (Err e) short roomy (inl none) = subst (IsReadFault IsFirstMonitorFault bytes) (sym none) tt
 monitored_refused bytes (Err e) short roomy (inr why) = subst (IsReadFault IsFirstMonitorFault bytes) (sym why.1) (inr (short, inr (roomy, why.2)))

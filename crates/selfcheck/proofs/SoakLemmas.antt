@@ -11,7 +11,6 @@ use Rattle.call_lines.specs.declared.line.LineEnd.TheVariants.{Pending, Unchecke
 use Rattle.call_lines.specs.Lines.{made_of, reached_of, lines_at, delivered_in, error_in, is_error, any_error}
 use Rattle.call_lines.specs.Phases.{mark_of, Seen, marks_of, marks_after}
 use Rattle.call_lines.specs.Allotments.{phases_of}
-use Rattle.reports.specs.declared.counts.Counts.{Counts}
 use Rattle.reports.specs.Findings.{Findings}
 use Rattle.reports.specs.Tally.{is_delivered, counts_of}
 use Rattle.faulty_objects.specs.declared.behaviour.Behaviour.TheVariants.{Lawful}

@@ -44,7 +44,7 @@ abbrev pub IsCrowded : List ℕ → Type 0
 IsCrowded bytes = (callers : ℕ) × IsOpening bytes callers × (MAX_CALLERS < callers + 2)
 
 -- The first fault of bytes that are no text of a script that leaves two callers: too many callers fail in the third line, whatever follows.
-abbrev pub IsFirstMonitorFault : List ℕ → TextFault → Type 0
+unfoldable pub IsFirstMonitorFault : List ℕ → TextFault → Type 0
 IsFirstMonitorFault bytes fault =
     (IsCrowded bytes × (fault ≡ record { line = 3; what = Callers }))
     ⊎ ((¬ IsCrowded bytes) × IsFirstScriptFault Second bytes fault)
