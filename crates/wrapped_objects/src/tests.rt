@@ -130,7 +130,7 @@ fn counted<R: Threads, C: Increments + Sync>(rt: &R, counter: &C) -> u64 {
 
 // Whether some increments of a torn counter are lost, at one of many trials.
 fn loses_some<R: Threads>(rt: &R) -> bool {
-    for _ in 0..100 {
+    for _ in 0..10_000 {
         if counted(rt, &TornCounter::default()) != value_reply(40_000) {
             return true;
         }
