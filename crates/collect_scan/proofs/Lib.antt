@@ -4,4 +4,3 @@ pub mod Ending
 pub mod Turning
 pub mod Leaving
 pub mod Owning
-pub mod Finding

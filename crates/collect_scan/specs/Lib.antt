@@ -1,4 +1,3 @@
 pub mod Scanned
 pub mod Turns
 pub mod Given
-pub mod Worked

@@ -4,8 +4,9 @@ ghost use Rattle.book_base.specs.Pruning.{HasOneOpen};
 
 use book_base::{Book, Call, Cut};
 
-/// Whether each view of a book holds at most one unanswered call of each caller, as in each book that a run
-/// gathers. A caller's views rise, so that its last one is looked at alone.
+/// Looks whether each view of a book holds at most one unanswered call of each caller, as in each book that a
+/// run gathers. A caller's views rise, so that its last one is looked at alone. No clause says that a book with
+/// one open is found to be one: where it isn't, the search only tries more.
 pub fn has_one_open(book: &Book) -> bool
     ensures { IsTrue result → HasOneOpen book.now }
 {

@@ -10,8 +10,9 @@ ghost use Rattle.frontier_check.specs.declared.choice.Choice.{Choice};
 use crate::choice::Choice;
 use book_base::{Book, Call, NoMemory, Place};
 
-/// Adds a choice to others, the best one last. In a book with one open, of two that have one operation one
-/// is kept, with the lesser turn of both.
+/// Adds a choice to others, the best one last. In a book with one open it may take the place of another one
+/// with its operation, or leave it there: one of the two is kept, with the lesser turn of both. No clause says
+/// that such a one is found: where it isn't, the search only tries more.
 pub fn choose(
     book: &Book,
     one_open: bool,

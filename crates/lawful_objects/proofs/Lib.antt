@@ -2,6 +2,5 @@ pub mod Replaying
 pub mod Pairing
 pub mod Telling
 pub mod Equipping
-pub mod Calls
 pub mod Forming
 pub mod Wording

@@ -3,7 +3,6 @@ pub mod Replays
 pub mod Pairs
 pub mod Passes
 pub mod Equipment
-pub mod Calling
 pub mod Deeds
 pub mod Forms
 pub mod WordPasses

@@ -3,5 +3,4 @@ pub mod Words
 pub mod Known
 pub mod Filling
 pub mod Exact
-pub mod Worked
 pub mod Gathered

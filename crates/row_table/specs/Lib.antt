@@ -8,5 +8,4 @@ pub mod Callers
 pub mod Worlds
 pub mod Found
 pub mod ObjectSteps
-pub mod Worked
 pub mod Progress
