@@ -1,0 +1,59 @@
+-- What the program writes of an input, and how it ends.
+use Rattle.std.specs.Prelude.{◌≡◌, ◌⊎◌, ℕ, ◌<◌, ◌≤◌, List, length, Option, codes}
+use Rattle.std.specs.Io.KnownBytes.{Keeps}
+use Rattle.book_base.specs.declared.fault.TextFault.{TextFault}
+use Rattle.book_base.specs.declared.fault.What.TheVariants.{Long}
+use Rattle.book_base.specs.Book.{Page}
+use Rattle.book_base.specs.Order.{HasLegalOrder}
+use Rattle.book_text.specs.BookRules.{IsBookText}
+use Rattle.byte_streams.specs.declared.TheConstants.{INPUT_LIMIT}
+use Rattle.byte_streams.specs.declared.status.Status.{Status}
+use Rattle.byte_streams.specs.declared.status.Status.TheVariants.{Fine, Found, Refused, ReadFault, NoMemory}
+use Rattle.byte_streams.specs.Told.{HasRead}
+use Rattle.byte_streams.specs.Writing.{EndsWriting}
+use Rattle.given_book.specs.Given.{IsGiven, IsFirstGivenFault}
+use Rattle.seq_objects.specs.declared.kind.Kind.{Kind}
+use Rattle.seq_objects.specs.Objects.{kind_init, kind_next}
+use Rattle.smaller_book.specs.Part.{IsPart, CarriesOver}
+use Rattle.smaller_book.specs.Minimal.{IsMinimal}
+use Rattle.text_fields.specs.declared.version.Version.TheVariants.{Second}
+use Rattle.text_refusals.specs.Refusal.{refusal_text}
+
+-- the bytes give a book that has a legal order
+pub record IsLegalGiven (bytes : List ℕ) : Type 0 where
+  pub kind : Kind
+  pub book : List Page
+  pub told : IsGiven bytes kind book
+  pub legal : HasLegalOrder (kind_init kind) (kind_next kind) book
+
+-- The bytes give a book, and the text is that of a part of it without a legal order, which shows that the book has none either
+-- and which no rule makes smaller.
+pub record IsSmallerWitness (bytes text : List ℕ) : Type 0 where
+  pub kind : Kind
+  pub book part : List Page
+  pub names : List (List ℕ)
+  pub told : IsGiven bytes kind book
+  pub is_part : IsPart book names part
+  pub evidence : CarriesOver (kind_next kind) book part
+  pub illegal : ¬ (HasLegalOrder (kind_init kind) (kind_next kind) part)
+  pub minimal : IsMinimal (kind_init kind) (kind_next kind) part
+  pub written : IsBookText Second text kind part
+
+-- The input is refused for this fault: there are too many bytes, or else it is the first fault of the input.
+abbrev pub IsRefusedFor : List ℕ → TextFault → Type 0
+IsRefusedFor bytes fault =
+    ((INPUT_LIMIT < length bytes) × (fault ≡ record { line = 0; what = Long }))
+    ⊎ ((length bytes ≤ INPUT_LIMIT) × IsFirstGivenFault bytes fault)
+
+-- The output with this status: that the book is legal, the smaller book, or why the input gives no book.
+abbrev pub IsOutput : List ℕ → Status → List ℕ → Type 0
+IsOutput bytes Fine text = (length bytes ≤ INPUT_LIMIT) × IsLegalGiven bytes × (text ≡ codes "legal\n")
+IsOutput bytes Found text = (length bytes ≤ INPUT_LIMIT) × IsSmallerWitness bytes text
+IsOutput bytes Refused text = (fault : TextFault) × IsRefusedFor bytes fault × (text ≡ refusal_text fault)
+IsOutput bytes status text = ⊥
+
+-- The program has ended with a status: no input was read and nothing is written, or the output of what was read is written.
+abbrev pub Ends : Status → Option (List ℕ) → Option (List ℕ) → Option (List ℕ) → Option (List ℕ) → Type 0
+Ends status left left' taken taken' =
+    (((status ≡ ReadFault) ⊎ (status ≡ NoMemory)) × Keeps taken taken')
+    ⊎ ((bytes : List ℕ) × HasRead left left' bytes × EndsWriting (IsOutput bytes) status taken taken')
