@@ -30,7 +30,8 @@ pub record IsLegalGiven (bytes : List ℕ) : Type 0 where
 -- and which no rule makes smaller.
 pub record IsSmallerWitness (bytes text : List ℕ) : Type 0 where
   pub kind : Kind
-  pub book part : List Page
+  pub book : List Page
+  pub part : List Page
   pub names : List (List ℕ)
   pub told : IsGiven bytes kind book
   pub is_part : IsPart book names part
