@@ -14,13 +14,13 @@ callers_differ : first ≡ second → ⊥
 callers_differ e = let n : 0 ≡ 1 = ap (λ (c : Call). c.caller) e in omega (arith, n)
 
 -- what stands at a place
-at_place : (ds : List Done) (k : ℕ) (d : Done) → k < length ds → slice_index_or ds k d ≡ d → slice_get ds k ≡ Some d
+pub at_place : (ds : List Done) (k : ℕ) (d : Done) → k < length ds → slice_index_or ds k d ≡ d → slice_get ds k ≡ Some d
 at_place [] k d below is = absurd (omega arith)
 at_place (x ∷ xs) zero d below is = ap Some is
 at_place (x ∷ xs) (suc k) d below is = at_place xs k d (omega arith) is
 
 -- each reply is the number of operations before
-numbered : (ds : List Done) (list : List ℕ) → IsRunFrom numbering list (map step_of ds) → (k : ℕ) (d : Done) → k < length ds → (slice_index_or ds k d).reply ≡ length list + k
+pub numbered : (ds : List Done) (list : List ℕ) → IsRunFrom numbering list (map step_of ds) → (k : ℕ) (d : Done) → k < length ds → (slice_index_or ds k d).reply ≡ length list + k
 numbered [] list run k d below = absurd (omega arith)
 numbered (x ∷ xs) list run zero d below = omega (arith, sym run.0)
 numbered (x ∷ xs) list run (suc k) d below = omega (arith, numbered xs (x.operation ∷ list) run.1 k d (omega arith))
@@ -88,7 +88,7 @@ side_invoked zero d below = (1, omega arith, refl)
 side_invoked (suc zero) d below = (0, omega arith, refl)
 side_invoked (suc (suc k)) d below = absurd (omega arith)
 
-two_once : (a b : Done) → (a.call ≡ b.call → ⊥) → AllPairs (λ (d e : Done). d.call ≢ e.call) (a ∷ b ∷ [])
+pub two_once : (a b : Done) → (a.call ≡ b.call → ⊥) → AllPairs (λ (d e : Done). d.call ≢ e.call) (a ∷ b ∷ [])
 two_once a b apart zero (suc zero) d lt below = apart
 two_once a b apart zero zero d lt below = absurd (omega arith)
 two_once a b apart zero (suc (suc j)) d lt below = absurd (omega arith)

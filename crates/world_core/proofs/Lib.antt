@@ -4,3 +4,11 @@ pub mod Linear
 pub mod Bounds
 pub mod Histories
 pub mod Moments
+pub mod OneCaller
+pub mod Spans
+pub mod Together
+pub mod Published
+pub mod Peeking
+pub mod Gathering
+pub mod Agreeing
+pub mod Steady

@@ -15,3 +15,6 @@ pub mod ScanLayout
 pub mod Schedules
 pub mod Refusals
 pub mod Histories
+pub mod SecondCalls
+pub mod OneCaller
+pub mod Parts

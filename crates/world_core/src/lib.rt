@@ -3,10 +3,12 @@
 
 mod course;
 mod local;
+pub mod parts;
 mod program;
 mod region;
 mod scan_core;
 pub mod schedules;
+pub mod second_calls;
 mod want;
 
 pub use local::Local;

@@ -1,0 +1,132 @@
+//! Worked runs in which one caller makes two calls: what a local, the words, the book and the history keep of
+//! each call, and what the world remembers of each word.
+
+ghost use Rattle.std.specs.Prelude.{◌≡◌, ◌+◌, ◌*◌, ◌^◌, true, false, [], ◌∷◌, ◌++◌, IsTrue, Some, None, take, map};
+ghost use Rattle.world_core.specs.declared.region.Region.TheVariants.{N, M};
+ghost use Rattle.world_core.specs.Local.{own_count, word_of};
+ghost use Rattle.world_core.specs.CallSteps.{operation_now, steps_now, all_steps_of};
+ghost use Rattle.world_core.specs.Event.{Stage, Announce, Object, Look, Begins_view, peeked_at};
+ghost use Rattle.world_core.specs.World.{IsRun, end_of, count_of, row_word, object_word};
+ghost use Rattle.world_core.specs.History.{history_of, call_of, Invoked, Returned, IsLinearizable};
+ghost use Rattle.world_core.specs.Histories.{numbering};
+ghost use Rattle.world_core.specs.OneCaller.{in_turn, out_of_turn, returns_one, returns_none, returns_before};
+ghost use Rattle.world_core.specs.Calls.{calls_in, book_in, Is_announced, Has_record, Has_seen};
+ghost use Rattle.world_core.specs.Schedules.{pair, trio, by, local_at, local_after_all, allows, refuses, allows_in, refuses_in, announcement, moved_twice, borrowed, object_step};
+ghost use Rattle.world_core.specs.Refusals.{entry_peeked};
+ghost use Rattle.world_core.specs.SecondCalls.{twice, two_by_one, first_operation, second_operation, as_announced, as_viewed, as_published, as_judged, second_ready, first_record, second_record, made, book_of_two, contents, staged_again, first_unstaged, peeking, looked_beside, two_words, steps_by_call, by_operation};
+
+/// One caller makes two calls, beside another that announces one: what its local keeps of them, in their order.
+pub fn a_caller_makes_two_calls()
+    ensures run { IsRun twice two_by_one }
+    ensures operations { as_judged.operations ≡ first_operation ∷ second_operation ∷ [] }
+    ensures announced { as_judged.announced ≡ 2 }
+    ensures published { as_judged.published ≡ 2 }
+    ensures replies { as_judged.replies ≡ 50 ∷ 60 ∷ [] }
+    ensures views { as_judged.views ≡ (1 ∷ 1 ∷ []) ∷ (2 ∷ 1 ∷ []) ∷ [] }
+    ensures seen { as_judged.seen ≡ (1 ∷ 0 ∷ []) ∷ (2 ∷ 0 ∷ []) ∷ [] }
+    ensures embedded_in_N { as_judged.embedded_in_N ≡ (0 ∷ 1 ∷ []) ∷ (1 ∷ 1 ∷ []) ∷ [] }
+    ensures embedded_in_M { as_judged.embedded_in_M ≡ (0 ∷ 0 ∷ []) ∷ (1 ∷ 0 ∷ []) ∷ [] }
+    ensures object_steps { as_judged.object_steps ≡ [] ∷ [] ∷ [] }
+    ensures cuts { as_judged.cuts
+        ≡ record { region = N; cut = 0 ∷ 1 ∷ []; since = 0 }
+        ∷ record { region = N; cut = 1 ∷ 1 ∷ []; since = 4 }
+        ∷ record { region = M; cut = 0 ∷ 0 ∷ []; since = 8 }
+        ∷ record { region = M; cut = 1 ∷ 0 ∷ []; since = 12 }
+        ∷ record { region = N; cut = 1 ∷ 1 ∷ []; since = 16 }
+        ∷ record { region = N; cut = 2 ∷ 1 ∷ []; since = 20 }
+        ∷ record { region = M; cut = 1 ∷ 0 ∷ []; since = 24 }
+        ∷ record { region = M; cut = 2 ∷ 0 ∷ []; since = 28 }
+        ∷ [] }
+    ensures words { (end_of twice two_by_one).words
+        ≡ (2 ∷ 1 ∷ 2 ∷ 0 ∷ [])
+        ++ (5 ∷ 7 ∷ 0 ∷ 1 ∷ 50 ∷ 1 ∷ 1 ∷ 0 ∷ 0 ∷ [])
+        ++ (6 ∷ 8 ∷ 1 ∷ 1 ∷ 60 ∷ 2 ∷ 1 ∷ 1 ∷ 0 ∷ [])
+        ++ (9 ∷ 0 ∷ 0 ∷ 0 ∷ 0 ∷ 0 ∷ 0 ∷ 0 ∷ 0 ∷ [])
+        ++ (0 ∷ 0 ∷ 0 ∷ 0 ∷ 0 ∷ 0 ∷ 0 ∷ 0 ∷ 0 ∷ []) }
+    ensures count_of_N { count_of twice (end_of twice two_by_one) N 1 ≡ 1 }
+    ensures count_of_M { count_of twice (end_of twice two_by_one) M 0 ≡ 2 }
+    ensures row_of_N { row_word twice (end_of twice two_by_one) N 0 1 1 ≡ 8 }
+    ensures row_of_M { row_word twice (end_of twice two_by_one) M 0 1 0 ≡ 60 }
+    ensures history { history_of twice two_by_one
+        ≡ Invoked (call_of 1 0) 9
+        ∷ Invoked (call_of 0 0) first_operation
+        ∷ Returned (call_of 0 0) 50
+        ∷ Invoked (call_of 0 1) second_operation
+        ∷ Returned (call_of 0 1) 60
+        ∷ [] }
+    ensures call { call_of 3 2 ≡ record { caller = 3; number = 2 } }
+{}
+
+/// How far the second call of a caller has come, by number: its operation, its record, and its seen cut; and what
+/// belongs at the places of its row and of the row before.
+pub fn second_calls_have_their_own()
+    ensures announced { calls_in as_announced ≡ made first_operation (Has_seen first_record (1 ∷ 0 ∷ [])) ∷ made second_operation Is_announced ∷ [] }
+    ensures viewed { calls_in as_viewed ≡ made first_operation (Has_seen first_record (1 ∷ 0 ∷ [])) ∷ made second_operation (Has_record second_record) ∷ [] }
+    ensures published { calls_in as_published ≡ made first_operation (Has_seen first_record (1 ∷ 0 ∷ [])) ∷ made second_operation (Has_record second_record) ∷ [] }
+    ensures judged { calls_in as_judged ≡ made first_operation (Has_seen first_record (1 ∷ 0 ∷ [])) ∷ made second_operation (Has_seen second_record (2 ∷ 0 ∷ [])) ∷ [] }
+    ensures book { book_in (end_of twice two_by_one).locals ≡ book_of_two }
+    ensures first_words { map (word_of as_judged 0) contents ≡ 5 ∷ 7 ∷ 0 ∷ 1 ∷ 50 ∷ 1 ∷ 1 ∷ 0 ∷ 0 ∷ [] }
+    ensures second_words { map (word_of as_judged 1) contents ≡ 6 ∷ 8 ∷ 1 ∷ 1 ∷ 60 ∷ 2 ∷ 1 ∷ 1 ∷ 0 ∷ [] }
+    ensures count_in_N { own_count as_announced N ≡ 2 }
+    ensures count_in_M { own_count as_announced M ≡ 1 }
+    ensures operation { operation_now as_viewed ≡ second_operation }
+    // The row of the second call takes its own reply and view.
+    ensures own { IsTrue (allows_in twice second_ready (by 0 (Stage M 0 60) ∷ by 0 (Stage M 1 2) ∷ by 0 (Stage M 3 1) ∷ [])) }
+    ensures of_the_first { IsTrue (refuses_in twice second_ready (by 0 (Stage M 0 50) ∷ by 0 (Stage M 1 1) ∷ by 0 (Stage M 3 0) ∷ [])) }
+{}
+
+/// Each object step belongs to the call under way, and is made on the object word that it names; which steps and
+/// replies a program allows may depend on the caller's local.
+pub fn object_steps_belong_to_calls()
+    ensures run { IsRun two_words steps_by_call }
+    ensures by_call { (local_after_all two_words steps_by_call 0).object_steps ≡ (object_step 1 0 3 ∷ object_step 0 0 4 ∷ []) ∷ (object_step 1 3 8 ∷ []) ∷ [] }
+    ensures now { steps_now (local_after_all two_words steps_by_call 0) ≡ object_step 1 3 8 ∷ [] }
+    ensures operation { operation_now (local_after_all two_words steps_by_call 0) ≡ 6 }
+    ensures all { all_steps_of (local_after_all two_words steps_by_call 0) ≡ object_step 1 0 3 ∷ object_step 0 0 4 ∷ object_step 1 3 8 ∷ [] }
+    ensures words { (end_of two_words steps_by_call).words ≡ 2 ∷ 1 ∷ 5 ∷ 0 ∷ 0 ∷ 50 ∷ 1 ∷ 0 ∷ 6 ∷ 0 ∷ 1 ∷ 0 ∷ 0 ∷ 0 ∷ 4 ∷ 8 ∷ [] }
+    ensures second_word { object_word two_words (end_of two_words steps_by_call) 1 ≡ 8 }
+    ensures its_word { IsTrue (refuses_in two_words steps_by_call (by 0 (Object (object_step 1 4 5)) ∷ by 0 (Object (object_step 2 0 5)) ∷ [])) }
+    ensures own_operation { IsTrue (allows_in by_operation (announcement 0 5 (0 ∷ [])) (by 0 (Object (object_step 0 0 5)) ∷ by 0 (Look N 0 1 (Begins_view 5)) ∷ [])) }
+    ensures other_operation { IsTrue (refuses_in by_operation (announcement 0 5 (0 ∷ [])) (by 0 (Object (object_step 0 0 6)) ∷ by 0 (Look N 0 1 (Begins_view 6)) ∷ [])) }
+{}
+
+/// A place may be staged again, and has the last word that was staged there; an operation is announced with its
+/// high word; and no place of a row may lack.
+pub fn places_are_staged_again()
+    ensures run { IsRun pair staged_again }
+    ensures operation { (local_at staged_again 0).operations ≡ second_operation ∷ [] }
+    ensures low { row_word pair (end_of pair staged_again) N 0 0 0 ≡ 6 }
+    ensures high { row_word pair (end_of pair staged_again) N 0 0 1 ≡ 8 }
+    ensures staged { (local_at (take 7 staged_again) 0).staged ≡ record { place = 0; word = 6 } ∷ record { place = 1; word = 7 } ∷ record { place = 0; word = 5 } ∷ [] }
+    ensures invoked { history_of pair staged_again ≡ Invoked (call_of 0 0) second_operation ∷ [] }
+    ensures first_lacks { IsTrue (refuses first_unstaged (by 0 Announce ∷ [])) }
+    ensures first_is_staged { IsTrue (allows (first_unstaged ++ by 0 (Stage N 0 5) ∷ []) (by 0 Announce ∷ [])) }
+{}
+
+/// What a caller keeps of a word that it peeked: the region, the caller, the row, the place, and the word, newest
+/// first. Looks and peeks of the region that a scan isn't of are none of its words.
+pub fn peeks_are_kept()
+    ensures run { IsRun trio peeking }
+    ensures of_N { (local_after_all trio peeking 2).peeked
+        ≡ record { region = N; caller = 1; row = 0; place = 0; word = 7 }
+        ∷ record { region = N; caller = 0; row = 1; place = 4; word = 0 }
+        ∷ record { region = N; caller = 0; row = 1; place = 3; word = 1 }
+        ∷ record { region = N; caller = 0; row = 0; place = 3; word = 0 }
+        ∷ record { region = N; caller = 0; row = 1; place = 2; word = 1 }
+        ∷ [] }
+    ensures of_M { (local_at entry_peeked 1).peeked ≡ record { region = M; caller = 0; row = 0; place = 1; word = 1 } ∷ record { region = M; caller = 0; row = 0; place = 0; word = 50 } ∷ [] }
+    ensures looked_beside { (local_at looked_beside 0).scan ≡ Some (record { region = N; is_view = false; since = 0; taken = 0 ∷ [] }) }
+    ensures peeked_beside { (peeked_at 3 (local_after_all trio (moved_twice ++ take 3 borrowed) 2) M 0 1 4 9).scan ≡ (local_after_all trio (moved_twice ++ take 3 borrowed) 2).scan }
+{}
+
+/// Which histories of one caller are linearizable: its second call stands after its first, though both have one
+/// operation; no call stands twice, or before itself; and the replies are those from the first list on.
+#[tactic(auto, using(crate::proofs::OneCaller::in_turn_linearizable, crate::proofs::OneCaller::caller_forbids, crate::proofs::OneCaller::one_forbids, crate::proofs::OneCaller::list_allows, crate::proofs::OneCaller::list_forbids, crate::proofs::OneCaller::before_forbids))]
+pub fn histories_of_one_caller_are_linearizable()
+    ensures in_turn { IsLinearizable [] numbering in_turn }
+    ensures by_caller { ¬ IsLinearizable [] numbering out_of_turn }
+    ensures once { ¬ IsLinearizable [] numbering returns_one }
+    ensures from_a_list { IsLinearizable (7 ∷ []) numbering returns_one }
+    ensures from_that_list { ¬ IsLinearizable (7 ∷ []) numbering returns_none }
+    ensures before_itself { ¬ IsLinearizable [] numbering returns_before }
+{}
