@@ -17,6 +17,7 @@ pub struct Kept {
 }
 
 /// The callers of a table that are with no thread, each with its local.
+#[derive(Drop)]
 pub struct Bench<P = Outside> {
     pub(crate) callers: u32,
     pub(crate) cap: u64,
