@@ -9,3 +9,9 @@ pub mod MapPlaces
 pub mod Leaving
 pub mod MapReading
 pub mod Reading
+pub mod KeyedItems
+pub mod SetKeys
+pub mod MapKeys
+pub mod Narrowing
+pub mod Lengths
+pub mod CountOnce

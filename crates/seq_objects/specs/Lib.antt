@@ -15,3 +15,5 @@ pub mod ReplyView
 pub mod WorkedSteps
 pub mod MapLaws
 pub mod Readings
+pub mod Keys
+pub mod Counts

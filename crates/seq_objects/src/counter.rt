@@ -1,15 +1,20 @@
-ghost use Rattle.std.specs.Prelude.{[], ◌∷◌, ◌≡◌, ◌↔◌, IsTrue};
+ghost use Rattle.std.specs.Prelude.{[], ◌∷◌, ◌≡◌, ◌↔◌, length, IsTrue};
 ghost use Rattle.book_base.specs.Foresight.{Leaves};
+ghost use Rattle.book_base.specs.Pruning.{IsForced, IsReached, MarksAllNext, MarksSuffice, IsMarkedWithin};
 ghost use Rattle.seq_objects.specs.declared.kind.Kind.TheVariants as kinds;
 ghost use Rattle.seq_objects.specs.Words.{is_known_word};
 ghost use Rattle.seq_objects.specs.Items.{length-one};
+ghost use Rattle.seq_objects.specs.Items as items;
+ghost use Rattle.seq_objects.specs.Counts.{IsNarrowedToCount};
 ghost use Rattle.seq_objects.specs.CounterSteps.{counter_operation, counter_after, length-counter_after, counter_after-unknown};
 
+use crate::counts::{narrow_to_count, sight_of_counts};
 use crate::entry::INC;
 use crate::items::{first_or_zero, set_only};
 use crate::kind::Kind;
 use crate::reply::{is_value, value_reply};
-use book_base::{BAD, OpWord, SeqObject, State};
+use book_base::{BAD, Book, Cut, Marks, NoMemory, OpWord, SeqObject, Sight, State};
+use std::alloc::Global;
 
 /// How many counts there are.
 const COUNTS: u64 = 1 << 32;
@@ -77,5 +82,30 @@ impl SeqObject for Counter {
             Some(CounterOperation::Increment) => !is_value(reply),
             None => true,
         }
+    }
+
+    fn prepare(&self, alloc: Global, book: &Book) -> Result<Option<Sight>, NoMemory> {
+        Ok(Some(sight_of_counts(alloc, book)?))
+    }
+
+    /// Only what may go next at the present count is tried.
+    fn narrow(
+        &self,
+        sight: &Sight,
+        book: &Book,
+        cut: &Cut,
+        words: &[u64],
+        forced: u32,
+        marks: Marks,
+    ) -> Marks
+        requires wide { length cut.now ≡ length book.now }
+        requires reached { IsReached (0 ∷ []) (λ list op. counter_after list (counter_operation op)) book.now cut.now words.now }
+        requires forced { IsForced book.now cut.now forced }
+        requires marks { MarksAllNext book.now cut.now marks }
+        ensures fewer { IsMarkedWithin result marks }
+        ensures suffice { MarksSuffice book.now (λ list op. counter_after list (counter_operation op)) cut.now words.now result }
+        ensures narrowed { IsNarrowedToCount book.now cut.now (items.first_or_zero words.now) marks result }
+    {
+        narrow_to_count(sight, book, cut, words, forced, marks)
     }
 }

@@ -1,15 +1,19 @@
 ghost use Rattle.std.specs.Prelude.{◌≡◌, ◌<◌, [], length, ◌↔◌, IsTrue};
 ghost use Rattle.book_base.specs.Foresight.{Leaves};
+ghost use Rattle.book_base.specs.Pruning.{HasOneOpen, IsForced, MarksAllNext, MarksSuffice, IsMarkedWithin};
 ghost use Rattle.seq_objects.specs.declared.kind.Kind.TheVariants as kinds;
 ghost use Rattle.seq_objects.specs.Words.{is_known_word};
 ghost use Rattle.seq_objects.specs.Items.{length-none};
+ghost use Rattle.seq_objects.specs.Keys.{set_key, IsNarrowedToKey};
 ghost use Rattle.seq_objects.specs.IntSetSteps.{set_operation, set_after, added, removed, length-set_after, set_after-unknown};
 
 use crate::entry::{ADD, HAS, REMOVE, argument_of};
 use crate::items::{insert_in_order, place_of};
+use crate::keyed::{Keyed, empty_sight, narrow_to_key};
 use crate::kind::Kind;
 use crate::reply::{NO, YES};
-use book_base::{BAD, OpWord, SeqObject, State};
+use book_base::{BAD, Book, Cut, Marks, NoMemory, OpWord, SeqObject, Sight, State};
+use std::alloc::Global;
 
 /// A set of numbers below 2^32.
 #[derive(Clone, Copy, Debug)]
@@ -65,6 +69,19 @@ fn remove(state: &mut State, value: u64) -> u64
     YES
 }
 
+impl Keyed for IntSet {
+    ghost key_of = { λ _. set_key };
+
+    fn key(&self, op: OpWord) -> Option<u32> {
+        match IntSetOperation::from_word(op) {
+            Some(IntSetOperation::Add(value)) => Some(value),
+            Some(IntSetOperation::Remove(value)) => Some(value),
+            Some(IntSetOperation::Has(value)) => Some(value),
+            None => None,
+        }
+    }
+}
+
 impl SeqObject for IntSet {
     ghost is_known = { λ _. is_known_word kinds.IntSet };
 
@@ -110,5 +127,30 @@ impl SeqObject for IntSet {
             Some(IntSetOperation::Has(_)) => true,
             None => true,
         }
+    }
+
+    fn prepare(&self, alloc: Global, book: &Book) -> Result<Option<Sight>, NoMemory> {
+        Ok(Some(empty_sight(alloc)))
+    }
+
+    /// Only calls with the forced call's key are tried.
+    fn narrow(
+        &self,
+        sight: &Sight,
+        book: &Book,
+        cut: &Cut,
+        words: &[u64],
+        forced: u32,
+        marks: Marks,
+    ) -> Marks
+        requires open { HasOneOpen book.now }
+        requires wide { length cut.now ≡ length book.now }
+        requires forced { IsForced book.now cut.now forced }
+        requires marks { MarksAllNext book.now cut.now marks }
+        ensures fewer { IsMarkedWithin result marks }
+        ensures suffice { MarksSuffice book.now (λ list op. set_after list (set_operation op)) cut.now words.now result }
+        ensures narrowed { IsNarrowedToKey set_key book.now cut.now forced marks result }
+    {
+        narrow_to_key(self, book, cut, forced, marks)
     }
 }

@@ -16,7 +16,7 @@ use crate::queue::Queue;
 use crate::register::Register;
 use crate::stack::Stack;
 use crate::whole::{put_whole, whole};
-use book_base::{Book, Foresight, NoMemory, OpWord, SeqObject, State};
+use book_base::{Book, Cut, Foresight, Marks, NoMemory, OpWord, SeqObject, Sight, State};
 use std::alloc::Global;
 
 /// A kind of sequential object.
@@ -200,6 +200,41 @@ impl SeqObject for Kind {
             Kind::Pqueue => Pqueue.leaves(op, reply),
             Kind::CasRegister => CasRegister.leaves(op, reply),
             Kind::Map => Map.leaves(op, reply),
+        }
+    }
+
+    fn prepare(&self, alloc: Global, book: &Book) -> Result<Option<Sight>, NoMemory> {
+        match self {
+            Kind::Queue => Queue.prepare(alloc, book),
+            Kind::Stack => Stack.prepare(alloc, book),
+            Kind::Register => Register.prepare(alloc, book),
+            Kind::Counter => Counter.prepare(alloc, book),
+            Kind::IntSet => IntSet.prepare(alloc, book),
+            Kind::Pqueue => Pqueue.prepare(alloc, book),
+            Kind::CasRegister => CasRegister.prepare(alloc, book),
+            Kind::Map => Map.prepare(alloc, book),
+        }
+    }
+
+    #[tactic(auto, unfolding(crate::specs::Objects::kind_next))]
+    fn narrow(
+        &self,
+        sight: &Sight,
+        book: &Book,
+        cut: &Cut,
+        words: &[u64],
+        forced: u32,
+        marks: Marks,
+    ) -> Marks {
+        match self {
+            Kind::Queue => Queue.narrow(sight, book, cut, words, forced, marks),
+            Kind::Stack => Stack.narrow(sight, book, cut, words, forced, marks),
+            Kind::Register => Register.narrow(sight, book, cut, words, forced, marks),
+            Kind::Counter => Counter.narrow(sight, book, cut, words, forced, marks),
+            Kind::IntSet => IntSet.narrow(sight, book, cut, words, forced, marks),
+            Kind::Pqueue => Pqueue.narrow(sight, book, cut, words, forced, marks),
+            Kind::CasRegister => CasRegister.narrow(sight, book, cut, words, forced, marks),
+            Kind::Map => Map.narrow(sight, book, cut, words, forced, marks),
         }
     }
 }

@@ -3,10 +3,12 @@
 
 mod cas_register;
 mod counter;
+mod counts;
 mod digits;
 mod entry;
 mod int_set;
 mod items;
+mod keyed;
 mod kind;
 mod laws;
 mod map;

@@ -1,16 +1,20 @@
 ghost use Rattle.std.specs.Prelude.{◌≡◌, ◌<◌, [], length, ◌↔◌, IsTrue};
 ghost use Rattle.book_base.specs.Foresight.{Leaves};
+ghost use Rattle.book_base.specs.Pruning.{HasOneOpen, IsForced, MarksAllNext, MarksSuffice, IsMarkedWithin};
 ghost use Rattle.seq_objects.specs.declared.kind.Kind.TheVariants as kinds;
 ghost use Rattle.seq_objects.specs.Words.{is_known_word};
 ghost use Rattle.seq_objects.specs.Items.{length-none};
+ghost use Rattle.seq_objects.specs.Keys.{map_key, IsNarrowedToKey};
 ghost use Rattle.seq_objects.specs.MapSteps as steps;
 ghost use Rattle.seq_objects.specs.MapSteps.{map_operation, map_after, length-map_after, map_after-unknown, put_in, value_at, without, place_of_key};
 
 use crate::entry::{DEL, GET, PUT, argument_of, extra_of};
 use crate::items::insert_in_order;
+use crate::keyed::{Keyed, empty_sight, narrow_to_key};
 use crate::kind::Kind;
 use crate::reply::{NONE, is_value, value_reply};
-use book_base::{BAD, OpWord, SeqObject, State};
+use book_base::{BAD, Book, Cut, Marks, NoMemory, OpWord, SeqObject, Sight, State};
+use std::alloc::Global;
 
 /// How many values a key can have.
 const VALUES: u64 = 1 << 32;
@@ -99,6 +103,19 @@ fn delete(state: &mut State, key: u32) -> u64
     }
 }
 
+impl Keyed for Map {
+    ghost key_of = { λ _. map_key };
+
+    fn key(&self, op: OpWord) -> Option<u32> {
+        match MapOperation::from_word(op) {
+            Some(MapOperation::Put(key, _)) => Some(key),
+            Some(MapOperation::Get(key)) => Some(key),
+            Some(MapOperation::Delete(key)) => Some(key),
+            None => None,
+        }
+    }
+}
+
 impl SeqObject for Map {
     ghost is_known = { λ _. is_known_word kinds.Map };
 
@@ -141,5 +158,30 @@ impl SeqObject for Map {
             Some(MapOperation::Delete(_)) => !is_value(reply),
             None => true,
         }
+    }
+
+    fn prepare(&self, alloc: Global, book: &Book) -> Result<Option<Sight>, NoMemory> {
+        Ok(Some(empty_sight(alloc)))
+    }
+
+    /// Only calls with the forced call's key are tried.
+    fn narrow(
+        &self,
+        sight: &Sight,
+        book: &Book,
+        cut: &Cut,
+        words: &[u64],
+        forced: u32,
+        marks: Marks,
+    ) -> Marks
+        requires open { HasOneOpen book.now }
+        requires wide { length cut.now ≡ length book.now }
+        requires forced { IsForced book.now cut.now forced }
+        requires marks { MarksAllNext book.now cut.now marks }
+        ensures fewer { IsMarkedWithin result marks }
+        ensures suffice { MarksSuffice book.now (λ list op. map_after list (map_operation op)) cut.now words.now result }
+        ensures narrowed { IsNarrowedToKey map_key book.now cut.now forced marks result }
+    {
+        narrow_to_key(self, book, cut, forced, marks)
     }
 }

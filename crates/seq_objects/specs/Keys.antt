@@ -1,0 +1,54 @@
+-- Keys of operations: a set and a map do what an operation asks with the items of its key alone.
+use Rattle.std.specs.Prelude.{◌≡◌, ℕ, ◌==◌, ◌↔◌, List, Option, None, Some, unwrap_or}
+use Rattle.std.specs.List.{filter}
+use Rattle.book_base.specs.declared.marks.Marks.{Marks}
+use Rattle.book_base.specs.Book.{Page, operation_of}
+use Rattle.book_base.specs.Next.{next_call}
+use Rattle.book_base.specs.Pruning.{IsMarked}
+use Rattle.seq_objects.specs.declared.int_set.IntSetOperation.{IntSetOperation}
+use Rattle.seq_objects.specs.declared.int_set.IntSetOperation.TheVariants.{Add, Remove, Has}
+use Rattle.seq_objects.specs.declared.map.MapOperation.{MapOperation}
+use Rattle.seq_objects.specs.declared.map.MapOperation.TheVariants.{Put, Get, Delete}
+use Rattle.seq_objects.specs.IntSetSteps.{set_operation}
+use Rattle.seq_objects.specs.MapSteps.{key_of, map_operation}
+
+-- The operation word of a caller's next call after a cut.
+abbrev pub next_word : List Page → List ℕ → ℕ → ℕ
+next_word book cut caller = unwrap_or (operation_of book (next_call cut caller)) 0
+
+-- Where the forced call has a key, those of the marked callers keep their marks whose next calls have it too.
+-- Where it has none, all do.
+pub record IsNarrowedToKey (key : ℕ → Option ℕ) (book : List Page) (cut : List ℕ) (forced : ℕ) (old new : Marks) : Type 0 where
+  pub keyed : (k : ℕ) → key (next_word book cut forced) ≡ Some k
+      → (i : ℕ) → IsMarked new i ↔ (IsMarked old i × (key (next_word book cut i) ≡ Some k))
+  pub unkeyed : key (next_word book cut forced) ≡ None → new ≡ old
+
+-- The key of what is asked of a set: the value that is added, removed or looked for.
+abbrev pub key_in_set : Option IntSetOperation → Option ℕ
+key_in_set (Some (Add value)) = Some value
+key_in_set (Some (Remove value)) = Some value
+key_in_set (Some (Has value)) = Some value
+key_in_set None = None
+
+-- The key of an operation word of a set, where the set knows the word.
+abbrev pub set_key : ℕ → Option ℕ
+set_key word = key_in_set (set_operation word)
+
+-- The key of what is asked of a map.
+abbrev pub key_in_map : Option MapOperation → Option ℕ
+key_in_map (Some (Put key value)) = Some key
+key_in_map (Some (Get key)) = Some key
+key_in_map (Some (Delete key)) = Some key
+key_in_map None = None
+
+-- The key of an operation word of a map, where the map knows the word.
+abbrev pub map_key : ℕ → Option ℕ
+map_key word = key_in_map (map_operation word)
+
+-- The items of a set that are a key.
+abbrev pub set_part : ℕ → List ℕ → List ℕ
+set_part k list = filter (λ item. item == k) list
+
+-- The items of a map that have a key.
+abbrev pub map_part : ℕ → List ℕ → List ℕ
+map_part k list = filter (λ item. key_of item == k) list

@@ -1,0 +1,94 @@
+ghost use Rattle.std.specs.Prelude.{◌≡◌, ◌↔◌, ◌<◌, ℕ, List, length, Option, Some, IsTrue};
+ghost use Rattle.book_base.specs.Book.{IsCall};
+ghost use Rattle.book_base.specs.Next.{next_call};
+ghost use Rattle.book_base.specs.Pruning.{HasOneOpen, IsForced, MarksAllNext, MarksSuffice, IsMarkedWithin};
+ghost use Rattle.pruning_laws.specs.Keys.{IsKeyed};
+ghost use Rattle.seq_objects.specs.Keys.{next_word, IsNarrowedToKey};
+
+use book_base::{Book, Call, Cut, Marks, OpWord, Sight};
+use std::alloc::Global;
+use std::collections::BTreeMap;
+
+/// An object of keys, which reads the key that an operation is on.
+pub trait Keyed {
+    /// The key that an operation word is on, where it is on one.
+    ghost key_of: { Self → ℕ → Option ℕ };
+
+    /// The key that an operation word is on, where it is on one.
+    fn key(&self, op: OpWord) -> Option<u32>
+        ensures { result ≡ key_of self.now op };
+}
+
+/// A sight of nothing, for an object that looks at the book alone.
+pub fn empty_sight(alloc: Global) -> Sight {
+    Sight {
+        labelled: Vec::new(alloc),
+        places: BTreeMap::new(alloc),
+        spans: Vec::new(alloc),
+    }
+}
+
+/// Of the marked callers those whose next calls have the forced call's key, or all where it has none.
+///
+/// They suffice: in any order that goes on, all that stands before the first call with this key may change
+/// places with it, and it may come next (after Herlihy and Wing 1990, on locality).
+pub fn narrow_to_key<K: Keyed>(
+    object: &K,
+    book: &Book,
+    cut: &Cut,
+    forced: u32,
+    marks: Marks,
+) -> Marks
+    requires open { HasOneOpen book.now }
+    requires wide { length cut.now ≡ length book.now }
+    requires forced { IsForced book.now cut.now forced }
+    requires marks { MarksAllNext book.now cut.now marks }
+    ensures narrowed { IsNarrowedToKey (K.key_of object.now) book.now cut.now forced marks result }
+    ensures fewer { IsMarkedWithin result marks }
+    ensures suffice { (part : ℕ → List ℕ → List ℕ) (next : List ℕ → ℕ → List ℕ × ℕ) (list : List ℕ)
+        → IsKeyed (K.key_of object.now) part next → MarksSuffice book.now next cut.now list result }
+{
+    let callers = book.callers();
+    let Some(key) = next_key(object, book, cut, forced) else {
+        return marks;
+    };
+    let mut kept = Marks::none();
+    for caller in 0..callers {
+        if marks.has(caller) && is_next_on(object, book, cut, caller, key) {
+            kept = kept.with(caller);
+        }
+    }
+    kept
+}
+
+/// A caller's next call after a cut.
+pub fn next_of(cut: &Cut, caller: u32) -> Call
+    requires { caller < length cut.now }
+    ensures { result ≡ next_call cut.now caller }
+{
+    Call {
+        caller,
+        number: cut.get(caller),
+    }
+}
+
+/// The key of a caller's next call after a cut, where it has one.
+fn next_key<K: Keyed>(object: &K, book: &Book, cut: &Cut, caller: u32) -> Option<u32>
+    requires caller { caller < length cut.now }
+    requires call { IsCall book.now (next_call cut.now caller) }
+    ensures { result ≡ K.key_of object.now (next_word book.now cut.now caller) }
+{
+    object.key(book.op(next_of(cut, caller)))
+}
+
+/// Whether a caller's next call after a cut is on this key.
+fn is_next_on<K: Keyed>(object: &K, book: &Book, cut: &Cut, caller: u32, key: u32) -> bool
+    requires caller { caller < length cut.now }
+    requires call { IsCall book.now (next_call cut.now caller) }
+    ensures { IsTrue result ↔ (K.key_of object.now (next_word book.now cut.now caller) ≡ Some key) }
+{
+    match next_key(object, book, cut, caller) {
+        Some(other) => other == key,
+        None => false,
+    }
+}
