@@ -15,3 +15,4 @@ pub mod MapKeys
 pub mod Narrowing
 pub mod Lengths
 pub mod CountOnce
+pub mod LeastFirst

@@ -1,13 +1,13 @@
 -- Queues and stacks are what the rules of histories ask for.
-use Rattle.std.proofs.Common.{◌≡◌, ℕ, ◌+◌, ◌/◌, ◌%◌, ◌^◌, ◌<◌, ◌∙◌, Bool, true, false, List, [], ◌∷◌, ◌++◌, length, map, reverse, take, get_or, slice_index, Option, Some, None, if◌then◌else◌, refl, sym, ap, subst, inl, inr, arith}
+use Rattle.std.proofs.Common.{◌≡◌, ℕ, ◌+◌, ◌/◌, ◌^◌, ◌<◌, ◌∙◌, List, [], ◌∷◌, ◌++◌, length, map, reverse, take, get_or, Option, Some, None, refl, sym, ap, subst, arith}
 use Rattle.std.specs.List.{Contains}
-use Rattle.std.proofs.lemmas.Bool.{cond_both, cond-true, eq-eqb, eqb-true}
-use Rattle.std.proofs.lemmas.Option.{same_Some, none-some}
+use Rattle.std.proofs.lemmas.Bool.{cond_both, cond-true, eq-eqb}
+use Rattle.std.proofs.lemmas.Option.{same_Some}
 use Rattle.std.proofs.lemmas.List.{map-append, reverse-append, take_more, take_all, get_or-map, length-map}
 use Rattle.std.proofs.lemmas.List.Elements.{Contains-get_or}
 use Rattle.std.proofs.lemmas.List.Sorted.{Contains-permutation, IsPermutation-reverse}
 use Rattle.list_laws.proofs.Options.{if_some}
-use Rattle.history_rules.specs.Container.{Deed, Puts, Takes, Neither, GivesFirst, IsQueue, IsStack}
+use Rattle.history_rules.specs.Container.{Puts, Takes, Neither, GivesFirst, IsQueue, IsStack}
 use Rattle.object_foresight.specs.Foreseen.{HoldsItsWords}
 use Rattle.seq_objects.specs.declared.queue.QueueOperation.{QueueOperation}
 use Rattle.seq_objects.specs.declared.queue.QueueOperation.TheVariants.{Enqueue, Dequeue}
@@ -22,7 +22,7 @@ use Rattle.seq_objects.specs.StackSteps.{stack_operation, stack_after}
 use Rattle.seq_objects.specs.Readings.{value_of, shown_value, queue_deed, queue_reading, stack_deed, stack_reading}
 
 -- a reply that gives an item shows its value
-shown_item : (item : ℕ) → shown_value (reply_value item) ≡ Some (value_of item)
+pub shown_item : (item : ℕ) → shown_value (reply_value item) ≡ Some (value_of item)
 shown_item item =
     cond-true (is_value (reply_value item)) (Some (value_of (reply_value item))) None (eq-eqb (reply_value item / 2 ^ 32) 2 (omega arith))
     ∙ ap Some (omega arith)

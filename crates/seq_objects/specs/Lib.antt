@@ -17,3 +17,5 @@ pub mod MapLaws
 pub mod Readings
 pub mod Keys
 pub mod Counts
+pub mod PqueueReading
+pub mod Seen

@@ -1,6 +1,6 @@
 -- How queues and stacks are read: as puts and takes of values. A word of a list is the value that its low 32 bits are, which is what a
 -- reply shows of it.
-use Rattle.std.specs.Prelude.{ℕ, ◌%◌, ◌^◌, List, map, reverse, Option, Some, None, if◌then◌else◌}
+use Rattle.std.specs.Prelude.{ℕ, ◌%◌, ◌^◌, map, reverse, Option, Some, None, if◌then◌else◌}
 use Rattle.history_rules.specs.Container.{Deed, Puts, Takes, Neither, Reading}
 use Rattle.seq_objects.specs.declared.queue.QueueOperation.{QueueOperation}
 use Rattle.seq_objects.specs.declared.queue.QueueOperation.TheVariants.{Enqueue, Dequeue}

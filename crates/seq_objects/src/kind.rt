@@ -3,6 +3,7 @@ ghost use Rattle.book_base.specs.Foresight.{Leaves};
 ghost use Rattle.book_base.specs.OperationWord.{IsOperationWord};
 ghost use Rattle.seq_objects.specs.declared.kind.Kind.{Kind};
 ghost use Rattle.seq_objects.specs.Objects.{kind_init, kind_next, length-kind_init, length-kind_next, kind_next-unknown};
+ghost use Rattle.seq_objects.specs.Seen.{kind_sees};
 ghost use Rattle.seq_objects.specs.Words.{kind_name, is_first_kind, is_known_word, operation_text, whole_digits, further, Spells, AppendsFront};
 
 use crate::cas_register::CasRegister;
@@ -132,6 +133,8 @@ impl SeqObject for Kind {
 
     ghost next = { kind_next };
 
+    ghost sees = { kind_sees };
+
     ghost begins_small = { length-kind_init };
 
     ghost grows_by_one = { length-kind_next };
@@ -203,6 +206,7 @@ impl SeqObject for Kind {
         }
     }
 
+    #[tactic(auto, unfolding(crate::specs::Objects::kind_next))]
     fn prepare(&self, alloc: Global, book: &Book) -> Result<Option<Sight>, NoMemory> {
         match self {
             Kind::Queue => Queue.prepare(alloc, book),

@@ -4,12 +4,17 @@ ghost use Rattle.seq_objects.specs.declared.kind.Kind.TheVariants as kinds;
 ghost use Rattle.seq_objects.specs.Words.{is_known_word};
 ghost use Rattle.seq_objects.specs.Items.{length-none};
 ghost use Rattle.seq_objects.specs.PqueueSteps.{pqueue_operation, pqueue_after, length-pqueue_after, pqueue_after-unknown};
+ghost use Rattle.seq_objects.specs.PqueueReading.{pqueue_reading};
+ghost use Rattle.value_pruning.specs.Sights.{ListsValues};
 
 use crate::entry::{INSERT, MIN, argument_of};
 use crate::items::{insert_in_order, take_first};
 use crate::kind::Kind;
-use crate::reply::{DONE, is_value};
-use book_base::{BAD, OpWord, SeqObject, State};
+use crate::reply::{DONE, is_value, shown_value};
+use book_base::{BAD, Book, Cut, Marks, NoMemory, OpWord, SeqObject, Sight, State};
+use object_foresight::{Reader, Role};
+use std::alloc::Global;
+use value_pruning::{narrow_least_first, sight_of_values};
 
 /// A priority queue, which gives the least item first.
 #[derive(Clone, Copy, Debug)]
@@ -37,12 +42,30 @@ impl PqueueOperation {
     }
 }
 
+impl Reader for Pqueue {
+    ghost reading = { λ _. pqueue_reading };
+
+    fn role(&self, op: OpWord) -> Role {
+        match PqueueOperation::from_word(op) {
+            Some(PqueueOperation::Insert(value)) => Role::Put(u64::from(value)),
+            Some(PqueueOperation::Min) => Role::Take,
+            None => Role::Other,
+        }
+    }
+
+    fn shown(&self, reply: u64) -> Option<u64> {
+        shown_value(reply)
+    }
+}
+
 impl SeqObject for Pqueue {
     ghost is_known = { λ _. is_known_word kinds.Pqueue };
 
     ghost init = { λ _. [] };
 
     ghost next = { λ _ list op. pqueue_after list (pqueue_operation op) };
+
+    ghost sees = { λ _ book sight. ListsValues pqueue_reading book sight };
 
     ghost begins_small = { λ _. length-none };
 
@@ -77,5 +100,21 @@ impl SeqObject for Pqueue {
             Some(PqueueOperation::Min) => !is_value(reply),
             None => true,
         }
+    }
+
+    fn prepare(&self, alloc: Global, book: &Book) -> Result<Option<Sight>, NoMemory> {
+        Ok(Some(sight_of_values(alloc, self, book)?))
+    }
+
+    fn narrow(
+        &self,
+        sight: &Sight,
+        book: &Book,
+        cut: &Cut,
+        words: &[u64],
+        forced: u32,
+        marks: Marks,
+    ) -> Marks {
+        narrow_least_first(self, sight, book, cut, words, forced, marks)
     }
 }

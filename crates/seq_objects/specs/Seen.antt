@@ -1,0 +1,19 @@
+-- What a sight of a book says, by the kind of object that prepares it.
+use Rattle.std.specs.Prelude.{List}
+use Rattle.book_base.specs.Book.{Page}
+use Rattle.book_base.specs.declared.sight.Sight.{Sight}
+use Rattle.value_pruning.specs.Sights.{ListsValues}
+use Rattle.seq_objects.specs.declared.kind.Kind.{Kind}
+use Rattle.seq_objects.specs.declared.kind.Kind.TheVariants as kinds
+use Rattle.seq_objects.specs.PqueueReading.{pqueue_reading}
+
+-- The sight of a priority queue lists the calls of each value. Nothing is said of what other kinds prepare.
+abbrev pub kind_sees : Kind → List Page → Sight → Type 0
+kind_sees kinds.Queue book sight = Unit {0}
+kind_sees kinds.Stack book sight = Unit {0}
+kind_sees kinds.Register book sight = Unit {0}
+kind_sees kinds.Counter book sight = Unit {0}
+kind_sees kinds.IntSet book sight = Unit {0}
+kind_sees kinds.Pqueue book sight = ListsValues pqueue_reading book sight
+kind_sees kinds.CasRegister book sight = Unit {0}
+kind_sees kinds.Map book sight = Unit {0}

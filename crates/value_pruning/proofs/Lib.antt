@@ -1,0 +1,5 @@
+pub mod Placing
+pub mod Taking
+pub mod Putting
+pub mod Listing
+pub mod Least

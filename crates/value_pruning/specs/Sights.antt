@@ -1,0 +1,78 @@
+-- The calls of each value, as a sight of a book lists them.
+use Rattle.std.specs.Prelude.{◌≡◌, ℕ, ◌<◌, ◌≤◌, List, [], length, map, Option, Some, None, slice_get, slice_index, slice_index_or}
+use Rattle.std.specs.Ordering.{nat_cmp}
+use Rattle.std.specs.BTreeMap.{is_at}
+use Rattle.std.specs.Map.{lookup}
+use Rattle.book_base.specs.declared.call.Call.{Call}
+use Rattle.book_base.specs.declared.sight.Sight.{Sight}
+use Rattle.book_base.specs.Book.{Page}
+use Rattle.book_base.specs.Pruning.{ViewsAreWithin}
+use Rattle.history_rules.specs.Container.{Reading}
+use Rattle.history_rules.specs.Calls.{PutsIn, TakesOut}
+use Rattle.object_foresight.specs.Uses.{IsReadTo}
+
+-- the place of a value's calls in a sight, where it has one
+abbrev pub place_of : Sight → ℕ → Option ℕ
+place_of sight v = lookup (is_at (nat_cmp v)) sight.places.entries
+
+-- the calls that a place lists as puts, and those whose replies show the value
+abbrev pub puts_at : Sight → Option ℕ → List Call
+puts_at sight None = []
+puts_at sight (Some place) = slice_index_or (map (λ labelled. labelled.puts.items) sight.labelled.items) place []
+
+abbrev pub shows_at : Sight → Option ℕ → List Call
+shows_at sight None = []
+shows_at sight (Some place) = slice_index_or (map (λ labelled. labelled.shows.items) sight.labelled.items) place []
+
+-- the calls that a sight lists as puts of a value, and those whose replies show it
+abbrev pub puts_of : Sight → ℕ → List Call
+puts_of sight v = puts_at sight (place_of sight v)
+
+abbrev pub shows_of : Sight → ℕ → List Call
+shows_of sight v = shows_at sight (place_of sight v)
+
+-- a call is one of a list
+abbrev pub IsListed : List Call → Call → Type 0
+IsListed calls call = (k : ℕ) × (slice_get calls k ≡ Some call)
+
+-- The place of each value is one of the sight's.
+abbrev pub HasItsPlaces : Sight → Type 0
+HasItsPlaces sight = (v place : ℕ) → place_of sight v ≡ Some place → place < length sight.labelled.items
+
+-- A sight lists all that another one lists.
+pub record ListsMore (old new : Sight) : Type 0 where
+  pub puts : (v : ℕ) (call : Call) → IsListed (puts_of old v) call → IsListed (puts_of new v) call
+  pub shows : (v : ℕ) (call : Call) → IsListed (shows_of old v) call → IsListed (shows_of new v) call
+
+-- A sight has a place for a value, and lists all that another one lists.
+pub record HasPlace (old new : Sight) (v found : ℕ) : Type 0 where
+  pub places : HasItsPlaces new
+  pub more : ListsMore old new
+  pub place : place_of new v ≡ Some found
+
+-- A sight lists one more put of a value.
+pub record HasPut (old new : Sight) (v : ℕ) (call : Call) : Type 0 where
+  pub places : HasItsPlaces new
+  pub more : ListsMore old new
+  pub listed : IsListed (puts_of new v) call
+
+-- A sight lists one more call that takes out a value.
+pub record HasTake (old new : Sight) (v : ℕ) (call : Call) : Type 0 where
+  pub places : HasItsPlaces new
+  pub more : ListsMore old new
+  pub listed : IsListed (shows_of new v) call
+
+-- A sight lists the calls that were read: the puts of each value, and the answered takes that show it.
+pub record ListsRead (reading : Reading) (book : List Page) (caller number : ℕ) (sight : Sight) : Type 0 where
+  pub places : HasItsPlaces sight
+  pub puts : (call : Call) (v : ℕ) → IsReadTo caller number call → PutsIn reading book call v → IsListed (puts_of sight v) call
+  pub shows : (call : Call) (v : ℕ) → IsReadTo caller number call → TakesOut reading book call v → IsListed (shows_of sight v) call
+
+-- A sight lists each call of a book that puts in a value, and each answered one that takes it out.
+pub record ListsValues (reading : Reading) (book : List Page) (sight : Sight) : Type 0 where
+  pub puts : (call : Call) (v : ℕ) → PutsIn reading book call v → IsListed (puts_of sight v) call
+  pub takes : (call : Call) (v : ℕ) → TakesOut reading book call v → IsListed (shows_of sight v) call
+
+-- A call's view is within those of all listed calls outside a cut.
+abbrev pub IsLeastListed : List Page → List ℕ → List Call → Call → Type 0
+IsLeastListed book cut calls call = (other : Call) → IsListed calls other → slice_index cut other.caller ≤ other.number → ViewsAreWithin book call other

@@ -1,0 +1,186 @@
+ghost use Rattle.std.specs.Prelude.{◌≡◌, ℕ, ◌+◌, ◌<◌, ◌≤◌, ◌==◌, ◌↔◌, if◌then◌else◌, Some, length, slice_index, IfOk, IfSome, IsTrue, OnOk};
+ghost use Rattle.book_base.specs.Book.{IsCall, IsAnswered};
+ghost use Rattle.value_pruning.specs.Sights as sights;
+ghost use Rattle.value_pruning.specs.Sights.{place_of, HasItsPlaces, HasPlace, HasPut, HasTake, IsLeastListed, ListsRead, ListsValues};
+ghost use Rattle.book_base.specs.Pruning.{ViewsAreWithin};
+
+use crate::values::{value_put, value_taken};
+use book_base::{Book, Call, Cut, Labelled, NoMemory, Sight};
+use object_foresight::Reader;
+use std::alloc::Global;
+use std::collections::BTreeMap;
+
+/// The sight of a book's values: for each value the calls that put it in, and the answered ones that take
+/// it out.
+pub fn sight_of_values<R: Reader>(alloc: Global, reader: &R, book: &Book) -> Result<Sight, NoMemory>
+    ensures { IfOk result (ListsValues (R.reading reader.now) book.now) }
+{
+    let mut sight = Sight {
+        labelled: Vec::new(alloc),
+        places: BTreeMap::new(alloc),
+        spans: Vec::new(alloc),
+    };
+    for caller in 0..book.callers() {
+        list_caller(alloc, reader, book, &mut sight, caller)?;
+    }
+    Ok(sight)
+}
+
+// Lists the calls of a caller.
+fn list_caller<R: Reader>(
+    alloc: Global,
+    reader: &R,
+    book: &Book,
+    sight: &mut Sight,
+    caller: u32,
+) -> Result<(), NoMemory>
+    requires caller { caller < length book.now }
+    requires read { ListsRead (R.reading reader.now) book.now caller 0 sight.old }
+    ensures read { OnOk result (ListsRead (R.reading reader.now) book.now (caller + 1) 0 sight.new) }
+{
+    for number in 0..book.calls(caller) {
+        list_call(alloc, reader, book, sight, Call { caller, number })?;
+    }
+    Ok(())
+}
+
+// Lists a call.
+fn list_call<R: Reader>(
+    alloc: Global,
+    reader: &R,
+    book: &Book,
+    sight: &mut Sight,
+    call: Call,
+) -> Result<(), NoMemory>
+    requires call { IsCall book.now call }
+    requires read { ListsRead (R.reading reader.now) book.now call.caller call.number sight.old }
+    ensures read { OnOk result
+        (ListsRead (R.reading reader.now) book.now call.caller (call.number + 1) sight.new) }
+{
+    if let Some(value) = value_put(reader, book, call) {
+        return list_put(alloc, sight, value, call);
+    }
+    match value_taken(reader, book, call) {
+        Some(value) => list_take(alloc, sight, value, call),
+        None => Ok(()),
+    }
+}
+
+// Lists a call that puts in a value.
+fn list_put(alloc: Global, sight: &mut Sight, value: u64, call: Call) -> Result<(), NoMemory>
+    requires { HasItsPlaces sight.old }
+    ensures { OnOk result (HasPut sight.old sight.new value call) }
+{
+    let place = place_for(alloc, sight, value)?;
+    sight.labelled[place].puts.push(call)?;
+    Ok(())
+}
+
+// Lists an answered call that takes out a value.
+fn list_take(alloc: Global, sight: &mut Sight, value: u64, call: Call) -> Result<(), NoMemory>
+    requires { HasItsPlaces sight.old }
+    ensures { OnOk result (HasTake sight.old sight.new value call) }
+{
+    let place = place_for(alloc, sight, value)?;
+    sight.labelled[place].shows.push(call)?;
+    Ok(())
+}
+
+// The place of a value's calls, which is made where there is none.
+fn place_for(alloc: Global, sight: &mut Sight, value: u64) -> Result<usize, NoMemory>
+    requires { HasItsPlaces sight.old }
+    ensures { IfOk result (HasPlace sight.old sight.new value) }
+{
+    let label = u128::from(value);
+    if let Some(place) = sight.places.get(&label) {
+        return Ok(*place as usize);
+    }
+    let place = sight.labelled.len();
+    sight.labelled.push(Labelled {
+        label,
+        puts: Vec::new(alloc),
+        shows: Vec::new(alloc),
+    })?;
+    set_place(sight, label, place as u64)?;
+    Ok(place)
+}
+
+// Sets the place of a label.
+fn set_place(sight: &mut Sight, label: u128, place: u64) -> Result<(), NoMemory>
+    ensures places { OnOk result ((v : ℕ) → place_of sight.new v ≡ (if v == label then Some place else place_of sight.old v)) }
+    ensures labelled { OnOk result (sight.new.labelled ≡ sight.old.labelled) }
+{
+    sight.places.insert(label, place)?;
+    Ok(())
+}
+
+/// The calls of a value, where any are listed.
+pub fn labelled_of(sight: &Sight, value: u64) -> Option<&Labelled>
+    ensures puts { IfSome result (λ labelled. labelled.now.puts.items ≡ sights.puts_of sight.now value) }
+    ensures shows { IfSome result (λ labelled. labelled.now.shows.items ≡ sights.shows_of sight.now value) }
+{
+    let place = sight.places.get(&u128::from(value))?;
+    sight.labelled.get(*place as usize)
+}
+
+/// Whether one call alone puts in a value.
+pub fn is_put_once(sight: &Sight, value: u64) -> bool
+    ensures { IsTrue result → length (sights.puts_of sight.now value) ≡ 1 }
+{
+    match labelled_of(sight, value) {
+        Some(labelled) => labelled.puts.len() == 1,
+        None => false,
+    }
+}
+
+/// Of the answered calls outside a cut that take out a value one with the least view. No clause says that
+/// one is found: that costs time alone.
+pub fn least_take(sight: &Sight, book: &Book, cut: &Cut, value: u64) -> Option<Call>
+    requires { length cut.now ≡ length book.now }
+    ensures answered { IfSome result (IsAnswered book.now) }
+    ensures least { IfSome result (IsLeastListed book.now cut.now (sights.shows_of sight.now value)) }
+{
+    least_outside(book, cut, &labelled_of(sight, value)?.shows)
+}
+
+// Of the answered ones among these calls that are outside a cut one with the least view.
+fn least_outside(book: &Book, cut: &Cut, calls: &[Call]) -> Option<Call>
+    requires { length cut.now ≡ length book.now }
+    ensures answered { IfSome result (IsAnswered book.now) }
+    ensures least { IfSome result (IsLeastListed book.now cut.now calls.now) }
+{
+    let _callers = book.callers();
+    let mut least = None;
+    for k in 0..calls.len() {
+        let call = calls[k];
+        if is_outside(book, cut, call) && is_before(book, call, least) {
+            least = Some(call);
+        }
+    }
+    least
+}
+
+/// Whether a call is answered, and outside a cut.
+pub fn is_outside(book: &Book, cut: &Cut, call: Call) -> bool
+    requires { length cut.now ≡ length book.now }
+    ensures { IsTrue result ↔ (IsAnswered book.now call × (slice_index cut.now call.caller ≤ call.number)) }
+{
+    call.caller < book.callers()
+        && call.number < book.answers(call.caller)
+        && !cut.holds(call.caller, call.number)
+}
+
+// Whether the view of an answered call is within that of another one, where there is another.
+fn is_before(book: &Book, call: Call, other: Option<Call>) -> bool
+    requires answered { IsAnswered book.now call }
+    requires other { IfSome other (IsAnswered book.now) }
+    ensures { IsTrue result ↔ IfSome other (ViewsAreWithin book.now call) }
+{
+    match other {
+        None => true,
+        Some(other) => {
+            let view = book.record(call).view;
+            view.within(&book.record(other).view)
+        }
+    }
+}
