@@ -23,6 +23,7 @@ use Rattle.call_phases.specs.Ends.{Sequential}
 use Rattle.call_phases.specs.Asking.{Fits, PassCount, FitsCaller}
 use Rattle.call_phases.specs.Course.{HasCome, HasTold, HasAskedFor, HasCounted, Counts}
 use Rattle.call_phases.proofs.Told.{if_some_as}
+use Rattle.call_phases.specs.Keeping.{KeepsStanding}
 use Rattle.call_phases.specs.declared.sheet.Sheet.{Sheet}
 use Rattle.call_phases.specs.declared.client.Client.{Client}
 use Rattle.bench_clients.specs.Work.{Says}
@@ -133,13 +134,13 @@ fresh_fits meaning r fits pass c caller fresh h =
 
 -- the worker of a fresh caller
 module _ {P T E : Type 0} (meaning : P → ℕ → ℕ → Meaning) (r : Rows P) (says : Says) (object : E → Sequential) (fits : Fits T) (count : T → Option PassCount) (course : Course) (plan : Plan) where
-  pub fresh_start : (c : Caller P) (pass : T) (sheet : Sheet E) (kept : ∥ IsGatheredBy (local_with c) sheet.gathered ∥₁) (allotment : ℕ)
+  pub fresh_start : (c : Caller P) (pass : T) (sheet : Sheet E) (kept : ∥ IsGatheredBy (local_with c) sheet.gathered ∥₁) (stands : KeepsStanding (object sheet.ending) sheet) (allotment : ℕ)
       → course ≡ course_of plan (allotments_of plan.operations plan.stops) course.object → HaveRoomFor plan r
       → IsCallerOf meaning r c → IsFresh c → IsFreshPass r fits count plan.operations (who_of c) pass
       → sheet.who ≡ who_of c → sheet.operations.now ≡ operations_at plan.operations (who_of c) → IsRoomFor plan.operations (who_of c) (record { lines = sheet.lines }) → object sheet.ending ≡ course.object
       → allotment ≡ slice_index (allotments_of plan.operations plan.stops) (who_of c) → allotment ≤ 5 * length (operations_at plan.operations (who_of c))
       → IsStart meaning r says object fits count course (who_of c) (record { client = Some (record { stand = Idle c; pass = pass; sheet = sheet; kept = kept }); allotment = allotment })
-  fresh_start c pass sheet kept allotment is rows caller fresh free who operations empty judges phases within =
+  fresh_start c pass sheet kept stands allotment is rows caller fresh free who operations empty judges phases within =
       let ops : operations_at course.operations (who_of c) ≡ operations_at plan.operations (who_of c) = ap (λ (k : Course). operations_at k.operations (who_of c)) is in
       let client : Client P T E = record { stand = Idle c; pass = pass; sheet = sheet; kept = kept } in
       let few : length sheet.operations.now ≡ length (operations_at plan.operations (who_of c)) = ap (λ (o : List ℕ). length o) operations in
@@ -159,6 +160,7 @@ module _ {P T E : Type 0} (meaning : P → ℕ → ℕ → Meaning) (r : Rows P)
               rows = omega (arith, few, rows.cap (who_of c));
               lines = omega (arith, few, empty.has_room);
             };
+            stands = stands;
           };
           who = who;
           operations = operations ∙ sym ops;

@@ -9,6 +9,7 @@ use Rattle.call_phases.specs.Ends.{Sequential}
 use Rattle.call_phases.specs.Stands.{GoesOnFrom}
 use Rattle.call_phases.specs.Asking.{Fits, PassCount}
 use Rattle.call_phases.specs.Clients.{phases_by, HasSpent, IsUnderWay, HasPass, HasRoom, IsSameClient}
+use Rattle.call_phases.specs.Keeping.{KeepsStanding}
 use Rattle.call_phases.specs.declared.client.Client.{Client}
 use Rattle.bench_clients.specs.declared.worker.Worker.{Worker}
 
@@ -19,12 +20,13 @@ Says = Sequential → ℕ → Local → Record → List ℕ → LineEnd → Type
 -- In all of these: the meaning of the program, the rows; what the ends of lines say, and by which object an ending judges; whom a pass
 -- fits, and what it counts.
 module _ {P T E : Type 0} where
-  -- A client is at work: it has come as far as it stands, its pass fits its caller and has come along, and there is room for all its
-  -- calls.
+  -- A client is at work: it has come as far as it stands, its pass fits its caller and has come along, there is room for all its calls, and
+  -- what it keeps of an order stands for its object.
   pub record IsAtWork (meaning : P → ℕ → ℕ → Meaning) (r : Rows P) (says : Says) (object : E → Sequential) (fits : Fits T) (count : T → Option PassCount) (c : Client P T E) : Type 0 where
     pub course : IsUnderWay meaning r (says (object c.sheet.ending)) c
     pub pass : HasPass fits count c
     pub has_room : HasRoom r c
+    pub stands : KeepsStanding (object c.sheet.ending) c.sheet
 
   -- A worker is ready: the object serves its caller, and its client is at work, goes on and has that many phases left.
   pub record IsReady (meaning : P → ℕ → ℕ → Meaning) (r : Rows P) (says : Says) (object : E → Sequential) (fits : Fits T) (count : T → Option PassCount) (serves : Type 0) (w : Worker P T E) : Type 0 where

@@ -62,6 +62,7 @@ fn begin<'a, P: Program, T, E: Ending, A: Asks<Program = P, Pass = T>>(
         lines,
         ending,
         gathered: None,
+        standing: None,
     };
     let client = Client {
         stand: Stand::Idle(caller),

@@ -1,5 +1,5 @@
 -- What a judgement's outcome says of the end of its call.
-use Rattle.std.proofs.Common.{◌≡◌, refl, sym, subst, ap, ℕ, true, List, [], ◌∷◌}
+use Rattle.std.proofs.Common.{◌≡◌, refl, inl, inr, sym, subst, ap, ℕ, true, List, [], ◌∷◌}
 use Rattle.std.proofs.lemmas.List.{append-nil}
 use Rattle.book_base.specs.declared.call.Record.{Record}
 use Rattle.world_core.specs.Local.{Local, Phase, Announcing, Asking, Viewing, Publishing, Judging, Staged, IsIdle}
@@ -10,13 +10,15 @@ use Rattle.row_table.specs.Callers.{local_with, stance_of}
 use Rattle.row_gather.specs.Peeks.{HasOnlyPeeked, with_peeked}
 use Rattle.drv_wrapper.specs.Growth.{Grows}
 use Rattle.drv_wrapper.proofs.Growing.{grows_by}
-use Rattle.enforcer.specs.declared.outcome.Outcome.{Outcome}
-use Rattle.enforcer.specs.declared.outcome.Outcome.TheVariants.{Delivered, Illegal}
+use Rattle.call_lines.specs.declared.line.LineEnd.{LineEnd}
+use Rattle.call_lines.specs.declared.line.LineEnd.TheVariants.{Pending, Unchecked, Delivered, Error}
+use Rattle.call_lines.specs.Workers.{IsJudgedBy}
 use Rattle.enforcer.specs.Recorded.{is_announcing}
-use Rattle.enforcer.specs.Judged.{record_in, cut_in, stance_after, IsRightByPeeks}
+use Rattle.enforcer.specs.Lines.{IsVerdictOn, stance_behind}
 use Rattle.call_phases.specs.declared.ended.Ended.{Ended}
+use Rattle.call_phases.specs.declared.ended.Ended.TheVariants.{GoesOn, Halts}
 use Rattle.call_phases.specs.Ends.{Sequential, SaysJudged}
-use Rattle.call_phases.specs.Endings.{caller_ended, StandsBehind, SaysOf, IsEndedBy}
+use Rattle.call_phases.specs.Endings.{caller_ended, StandsBehind, FitsError, SaysOf, IsEndedBy}
 
 announcing_is : (phase : Phase) → is_announcing phase ≡ true → phase ≡ Announcing
 announcing_is Announcing h = refl
@@ -39,20 +41,32 @@ peeks_grow l m before after h =
     subst (λ (k : Local). Grows l k) (sym h.local) (grows_by l (with_peeked l h.more) [] h.more [] refl refl (sym (append-nil l.cuts)))
 
 module _ {P : Type 0} where
-  pub caller_is : (c : Caller P) (outcome : Outcome) (e : Ended P) → IsEndedBy c outcome e → caller_ended e ≡ c
-  caller_is c (Delivered reply view seen order) e is = ap caller_ended is
-  caller_is c (Illegal reply view seen book) e is = ap caller_ended is
+  pub caller_is : (c : Caller P) (end : LineEnd) (e : Ended P) → IsEndedBy c end e → caller_ended e ≡ c
+  caller_is c Pending e is = ap caller_ended is
+  caller_is c (Unchecked r) e is = ap caller_ended is
+  caller_is c (Delivered r cut) e is = ap caller_ended is
+  caller_is c (Error r cut) e is = ap caller_ended is
 
-  pub stands_behind : (c : Caller P) (outcome : Outcome) (e : Ended P) → IsEndedBy c outcome e → IsIdle (local_with c) → stance_of c ≡ stance_after outcome → StandsBehind e
-  stands_behind c (Delivered reply view seen order) e is idle stance =
-      subst (λ (x : Ended P). StandsBehind x) (sym is) (record { idle = idle; stance = stance })
-  stands_behind c (Illegal reply view seen book) e is idle stance =
-      subst (λ (x : Ended P). StandsBehind x) (sym is) (ap (λ (s : Stance). s.live) stance)
+  pub stands_behind : (c : Caller P) (end : LineEnd) (e : Ended P) → IsEndedBy c end e → IsIdle (local_with c) → stance_of c ≡ stance_behind end → StandsBehind e
+  stands_behind c Pending e is idle stance = subst (λ (x : Ended P). StandsBehind x) (sym is) (record { idle = idle; stance = stance })
+  stands_behind c (Unchecked r) e is idle stance = subst (λ (x : Ended P). StandsBehind x) (sym is) (record { idle = idle; stance = stance })
+  stands_behind c (Delivered r cut) e is idle stance = subst (λ (x : Ended P). StandsBehind x) (sym is) (record { idle = idle; stance = stance })
+  stands_behind c (Error r cut) e is idle stance = subst (λ (x : Ended P). StandsBehind x) (sym is) (ap (λ (s : Stance). s.live) stance)
+
+  pub fits_error : (c : Caller P) (end : LineEnd) (e : Ended P) → IsEndedBy c end e → FitsError e
+  fits_error c Pending e is = subst (λ (x : Ended P). FitsError x) (sym is) (λ op. refl)
+  fits_error c (Unchecked r) e is = subst (λ (x : Ended P). FitsError x) (sym is) (λ op. refl)
+  fits_error c (Delivered r cut) e is = subst (λ (x : Ended P). FitsError x) (sym is) (λ op. refl)
+  fits_error c (Error r cut) e is = subst (λ (x : Ended P). FitsError x) (sym is) (λ op. refl)
 
   -- the line says what was judged
-  pub says_judged : (object : Sequential) (n : ℕ) (c : Caller P) (outcome : Outcome) (e : Ended P) (r : Record) (cut : List ℕ) → IsEndedBy c outcome e → record_in outcome ≡ r → cut_in outcome ≡ cut
-      → IsRightByPeeks object.init object.next n (local_with c) outcome → SaysOf (SaysJudged object n) r cut e
-  says_judged object n c (Delivered reply view seen order) e r cut is same_record same_cut right =
-      subst (λ (x : Ended P). SaysOf (SaysJudged object n) r cut x) (sym is) (same_record, same_cut, (right.0, right.1, (order.items, right.2)))
-  says_judged object n c (Illegal reply view seen book) e r cut is same_record same_cut right =
-      subst (λ (x : Ended P). SaysOf (SaysJudged object n) r cut x) (sym is) (same_record, same_cut, (right.0, right.1, right.2.1))
+  pub says_judged : (object : Sequential) (n : ℕ) (c : Caller P) (end : LineEnd) (e : Ended P) (r : Record) (cut : List ℕ) → IsEndedBy c end e → IsVerdictOn r cut end
+      → IsJudgedBy object.init object.next n (local_with c) end → SaysOf (SaysJudged object n) r cut e
+  says_judged object n c end e r cut is (inl same) judged =
+      let ended : e ≡ GoesOn c (Delivered r cut) = subst (λ (x : LineEnd). IsEndedBy c x e) same is in
+      subst (λ (x : Ended P). SaysOf (SaysJudged object n) r cut x) (sym ended)
+      (refl, refl, subst (λ (x : LineEnd). IsJudgedBy object.init object.next n (local_with c) x) same judged)
+  says_judged object n c end e r cut is (inr same) judged =
+      let ended : e ≡ Halts c (Error r cut) = subst (λ (x : LineEnd). IsEndedBy c x e) same is in
+      subst (λ (x : Ended P). SaysOf (SaysJudged object n) r cut x) (sym ended)
+      (refl, refl, subst (λ (x : LineEnd). IsJudgedBy object.init object.next n (local_with c) x) same judged)

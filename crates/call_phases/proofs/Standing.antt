@@ -22,6 +22,7 @@ use Rattle.call_phases.specs.Ends.{Sequential}
 use Rattle.call_phases.specs.Asking.{Fits, PassCount, FitsCaller}
 use Rattle.call_phases.specs.Stands.{caller_at, local_at_stand, phases_at, GoesOnFrom}
 use Rattle.call_phases.specs.Course.{HasCome, Counts}
+use Rattle.call_phases.specs.Keeping.{KeepsStanding}
 
 pub come_at : {P : Type 0} {meaning : P → ℕ → ℕ → Meaning} {r : Rows P} {says : ℕ → Local → Record → List ℕ → LineEnd → Type 0} {who : ℕ} {operations : List ℕ} {own : List Line} (s t : Stand P)
     → s ≡ t → HasCome meaning r says who operations s own → HasCome meaning r says who operations t own
@@ -81,3 +82,7 @@ module _ {P E : Type 0} (s t : Stand P) (h k : Sheet E) (stand_is : s ≡ t) (sh
   kept_with kept =
       subst (λ (z : Stand P). ∥ IsGatheredBy (local_at_stand z) h.gathered ∥₁) (sym stand_is)
       (subst (λ (x : Sheet E). ∥ IsGatheredBy (local_at_stand t) x.gathered ∥₁) (sym sheet_is) kept)
+
+-- What stands by the sheet that this is.
+pub standing_with : {E : Type 0} (h k : Sheet E) → h ≡ k → (object : E → Sequential) → KeepsStanding (object k.ending) k → KeepsStanding (object h.ending) h
+standing_with {E} h k is object stands = subst (λ (x : Sheet E). KeepsStanding (object x.ending) x) (sym is) stands

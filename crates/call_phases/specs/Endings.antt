@@ -4,6 +4,7 @@ use Rattle.book_base.specs.declared.call.Record.{Record}
 use Rattle.world_core.specs.Shape.{Meaning}
 use Rattle.world_core.specs.Local.{Local}
 use Rattle.call_lines.specs.declared.line.LineEnd.{LineEnd}
+use Rattle.call_lines.specs.declared.line.LineEnd.TheVariants.{Pending, Unchecked, Delivered, Error}
 use Rattle.call_lines.specs.declared.line.Line.{Line}
 use Rattle.call_lines.specs.Lines.{is_error}
 use Rattle.call_lines.specs.Phases.{progress_of}
@@ -15,9 +16,6 @@ use Rattle.drv_wrapper.specs.Growth.{Grows}
 use Rattle.enforcer.specs.declared.published_call.Published.{Published}
 use Rattle.enforcer.specs.declared.seen_call.Seen.{Seen}
 use Rattle.enforcer.specs.declared.outcome.Unjudged as unjudged
-use Rattle.enforcer.specs.declared.outcome.Outcome.{Outcome}
-use Rattle.enforcer.specs.declared.outcome.Outcome.TheVariants.{Delivered, Illegal}
-use Rattle.enforcer.specs.Judged.{end_of}
 use Rattle.enforcer.specs.States.{caller_published, reply_published, view_published, reply_seen, view_seen}
 use Rattle.call_phases.specs.declared.stand.Stand.{Stand}
 use Rattle.call_phases.specs.declared.stand.Stand.TheVariants.{Idle, Halted, Unjudged}
@@ -62,10 +60,12 @@ module _ {P : Type 0} where
   SaysOf says r cut (Halts c end) = says (local_with c) r cut end
   SaysOf says r cut (WantsMemory u) = (record_unjudged u ≡ r) × (u.seen ≡ cut)
 
-  -- A call that was judged has ended by its outcome: its caller goes on where the reply is delivered, and is halted at an error.
-  abbrev pub IsEndedBy : Caller P → Outcome → Ended P → Type 0
-  IsEndedBy c (Delivered reply view seen order) ended = ended ≡ GoesOn c (end_of (Delivered reply view seen order))
-  IsEndedBy c (Illegal reply view seen book) ended = ended ≡ Halts c (end_of (Illegal reply view seen book))
+  -- A call has ended as its line does: its caller is halted at an error, and else goes on.
+  abbrev pub IsEndedBy : Caller P → LineEnd → Ended P → Type 0
+  IsEndedBy c Pending ended = ended ≡ GoesOn c Pending
+  IsEndedBy c (Unchecked r) ended = ended ≡ GoesOn c (Unchecked r)
+  IsEndedBy c (Delivered r cut) ended = ended ≡ GoesOn c (Delivered r cut)
+  IsEndedBy c (Error r cut) ended = ended ≡ Halts c (Error r cut)
 
   -- Where the caller stands behind a call that has ended, and its lines with that of the call, where it has one.
   abbrev pub IsNoted : ℕ → List Line → Ended P → List Line → Stand P → Type 0

@@ -7,3 +7,4 @@ pub mod Course
 pub mod Clients
 pub mod Finishing
 pub mod Working
+pub mod Keeping

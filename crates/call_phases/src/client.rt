@@ -31,6 +31,7 @@ impl<'a, P: Program, T, E: Ending> Client<'a, P, T, E> {
     ghost use Rattle.row_table.specs.Callers.{shape_of, local_with, stance_of};
     ghost use Rattle.drv_wrapper.specs.Stands.{IsSame};
     ghost use Rattle.call_phases.specs.Stands.{caller_at, GoesOnFrom};
+    ghost use Rattle.call_phases.specs.Keeping.{KeepsStanding};
     ghost use Rattle.call_phases.specs.Finishing.{is_unjudged, KeepsAsked, IsLeftStanding, Leaves};
     ghost use Rattle.call_phases.specs.Clients.{phases_by, HasSpent, IsUnderWay, HasPass, HasRoom, IsSameClient};
 
@@ -47,12 +48,14 @@ impl<'a, P: Program, T, E: Ending> Client<'a, P, T, E> {
         requires serves { A.serves shared.now.asks.now shared.now.rows.now }
         requires pass { HasPass (A.fits shared.now.asks.now) A.count self }
         requires room { HasRoom shared.now.rows.now self }
+        requires standing { KeepsStanding (E.object self.sheet.ending) self.sheet }
         requires goes { GoesOnFrom self.stand }
         requires left { phases_by self < 5 * length self.sheet.operations.now }
         ensures phase { phases_by result ≡ phases_by self.entry + 1 }
         ensures course { IsUnderWay P.meaning shared.now.rows.now (E.says (E.object result.sheet.ending)) result }
         ensures pass { HasPass (A.fits shared.now.asks.now) A.count result }
         ensures room { HasRoom shared.now.rows.now result }
+        ensures standing { KeepsStanding (E.object result.sheet.ending) result.sheet }
         ensures same { IsSameClient self.entry result }
         ensures object { E.object result.sheet.ending ≡ E.object self.entry.sheet.ending }
     {
@@ -87,12 +90,14 @@ impl<'a, P: Program, T, E: Ending> Client<'a, P, T, E> {
         requires serves { A.serves shared.now.asks.now shared.now.rows.now }
         requires pass { HasPass (A.fits shared.now.asks.now) A.count self }
         requires room { HasRoom shared.now.rows.now self }
+        requires standing { KeepsStanding (E.object self.sheet.ending) self.sheet }
         requires goes { GoesOnFrom self.stand }
         requires left { phases_by self + count ≤ 5 * length self.sheet.operations.now }
         ensures spent { HasSpent (phases_by self.entry + count) result }
         ensures course { IsUnderWay P.meaning shared.now.rows.now (E.says (E.object result.sheet.ending)) result }
         ensures pass { HasPass (A.fits shared.now.asks.now) A.count result }
         ensures room { HasRoom shared.now.rows.now result }
+        ensures standing { KeepsStanding (E.object result.sheet.ending) result.sheet }
         ensures same { IsSameClient self.entry result }
         ensures object { E.object result.sheet.ending ≡ E.object self.entry.sheet.ending }
     {
@@ -142,6 +147,7 @@ impl<'a, P: Program, T, E: Ending> Client<'a, P, T, E> {
             lines,
             ending,
             gathered: _,
+            standing: _,
         } = sheet;
         Finished {
             caller,

@@ -5,7 +5,7 @@ use crate::ended::Ended;
 use crate::ending::Ending;
 use book_base::Record;
 use call_lines::LineEnd;
-use enforcer::{Gathered, Seen};
+use enforcer::{Gathered, Seen, Standing};
 use row_table::{Rows, Steps};
 use std::sync::ledger::Ledger;
 use world_core::Program;
@@ -26,6 +26,7 @@ impl Ending for Deferring {
         _rows: &Rows<P>,
         seen: Seen<P>,
         _gathered: &mut Option<Gathered>,
+        _standing: &mut Option<Standing>,
         _steps: &mut Steps<L>,
     ) -> Ended<P> {
         let reply = seen.reply();

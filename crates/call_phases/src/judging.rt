@@ -4,56 +4,41 @@ ghost use Rattle.call_phases.specs.Staying.{judged_stays};
 
 use crate::ended::Ended;
 use crate::ending::Ending;
-use book_base::{Record, SeqObject};
+use book_base::SeqObject;
 use call_lines::LineEnd;
-use enforcer::{Gathered, Outcome, Seen, judge};
-use frontier_check::Guide;
+use enforcer::{Gathered, Seen, Standing, judge_line};
 use row_table::{Caller, Rows, Steps};
 use std::alloc::Global;
 use std::sync::ledger::Ledger;
 use world_core::Program;
 
-/// Judges each call by a sequential object, and keeps the order that it found last, from which it looks for the
-/// next one.
+/// Judges each call by a sequential object.
 #[derive(Drop)]
 pub struct Judging<'a, S> {
     alloc: Global,
     sequential: &'a S,
-    guide: Guide,
 }
 
 impl<'a, S> Judging<'a, S> {
     ghost use Rattle.std.specs.Prelude.{◌≡◌};
 
-    /// Judges by this object, beginning with this guide.
-    pub fn new(alloc: Global, sequential: &'a S, guide: Guide) -> Judging<'a, S>
+    /// Judges by this object.
+    pub fn new(alloc: Global, sequential: &'a S) -> Judging<'a, S>
         ensures { result.sequential.now ≡ sequential.now }
     {
-        Judging {
-            alloc,
-            sequential,
-            guide,
-        }
+        Judging { alloc, sequential }
     }
 }
 
-// How a judged call has ended.
-fn ended_by<P: Program>(caller: Caller<P>, outcome: Outcome) -> Ended<P>
-    ensures { IsEndedBy caller outcome result }
+// How a call has ended whose line ends so.
+fn ended_by<P: Program>(caller: Caller<P>, end: LineEnd) -> Ended<P>
+    ensures { IsEndedBy caller end result }
 {
-    match outcome {
-        Outcome::Delivered {
-            reply,
-            view,
-            seen,
-            order: _,
-        } => Ended::GoesOn(caller, LineEnd::Delivered(Record { reply, view }, seen)),
-        Outcome::Illegal {
-            reply,
-            view,
-            seen,
-            book: _,
-        } => Ended::Halts(caller, LineEnd::Error(Record { reply, view }, seen)),
+    match end {
+        LineEnd::Error(record, cut) => Ended::Halts(caller, LineEnd::Error(record, cut)),
+        LineEnd::Delivered(record, cut) => Ended::GoesOn(caller, LineEnd::Delivered(record, cut)),
+        LineEnd::Unchecked(record) => Ended::GoesOn(caller, LineEnd::Unchecked(record)),
+        LineEnd::Pending => Ended::GoesOn(caller, LineEnd::Pending),
     }
 }
 
@@ -69,18 +54,19 @@ impl<S: SeqObject> Ending for Judging<'_, S> {
         rows: &Rows<P>,
         seen: Seen<P>,
         gathered: &mut Option<Gathered>,
+        standing: &mut Option<Standing>,
         steps: &mut Steps<L>,
     ) -> Ended<P> {
-        match judge(
+        match judge_line(
             self.alloc,
             self.sequential,
             rows,
             seen,
             gathered,
-            &mut self.guide,
+            standing,
             steps,
         ) {
-            Ok((caller, outcome)) => ended_by(caller, outcome),
+            Ok((caller, end)) => ended_by(caller, end),
             Err(unjudged) => Ended::WantsMemory(unjudged),
         }
     }

@@ -4,13 +4,14 @@ ghost use Rattle.row_gather.specs.Gathered.{IsGatheredBy};
 ghost use Rattle.enforcer.specs.States.{caller_published};
 ghost use Rattle.call_phases.specs.Endings.{Ends, IsNoted};
 ghost use Rattle.call_phases.specs.Stands.{local_at_stand};
+ghost use Rattle.call_phases.specs.Keeping.{StandsBy};
 
 use crate::ended::Ended;
 use crate::ending::Ending;
 use crate::stand::Stand;
 use book_base::OpWord;
 use call_lines::Line;
-use enforcer::{Gathered, Published, seen};
+use enforcer::{Gathered, Published, Standing, seen};
 use row_table::{Rows, Steps};
 use std::sync::ledger::Ledger;
 use world_core::Program;
@@ -18,15 +19,17 @@ use world_core::Program;
 /// What a client works off: whose it is, the operations of that caller, and a line for each call that has ended, by
 /// this ending. There is room for a line for each operation.
 ///
-/// The book that the caller gathered last is kept from call to call, so that the next one is grown from it. There is
-/// none before the first call that is judged, behind an error, and where memory was wanted. Forgetting it would cost
-/// time alone, so no clause says that it is kept; what is kept is the caller's own (`Client`).
+/// The book that the caller gathered last is kept from call to call, so that the next one is grown from it, and so is
+/// what stands of its order. There is none before the first call that is judged, behind an error, and where memory was
+/// wanted. Forgetting them would cost time alone, so no clause says that they are kept; the book that is kept is the
+/// caller's own (`Client`).
 pub struct Sheet<'a, E> {
     pub who: u32,
     pub operations: &'a [OpWord],
     pub lines: Vec<Line>,
     pub ending: E,
     pub gathered: Option<Gathered>,
+    pub standing: Option<Standing>,
 }
 
 // Puts the line of a call that has ended behind those of its caller, where it has one.
@@ -69,15 +72,23 @@ impl<'a, E: Ending> Sheet<'a, E> {
     ) -> Stand<P>
         requires rows { IsCallerOf P.meaning rows.now (caller_published published) }
         requires gathered { IsGatheredBy (local_with (caller_published published)) self.old.gathered }
+        requires standing { StandsBy (E.object self.old.ending) self.old.gathered self.old.standing }
         requires room { vec_len self.old.lines < vec_capacity self.old.lines }
         ensures ends { Ends P.meaning rows.now (E.says (E.object self.new.ending)) published op self.old.lines.items self.new.lines.items result }
         ensures room { vec_capacity self.old.lines ≤ vec_capacity self.new.lines }
         ensures same { (self.new.who ≡ self.old.who) × (self.new.operations.now ≡ self.old.operations.now) }
         ensures object { E.object self.new.ending ≡ E.object self.old.ending }
         ensures kept { IsGatheredBy (local_at_stand result) self.new.gathered }
+        ensures standing { StandsBy (E.object self.new.ending) self.new.gathered self.new.standing }
     {
         let seen = seen(published, rows, steps);
-        let ended = self.ending.end(rows, seen, &mut self.gathered, steps);
+        let ended = self.ending.end(
+            rows,
+            seen,
+            &mut self.gathered,
+            &mut self.standing,
+            steps,
+        );
         noted(ended, op, &mut self.lines)
     }
 }

@@ -4,3 +4,4 @@ pub mod SeenCuts
 pub mod Gathering
 pub mod Outcomes
 pub mod WholeCalls
+pub mod Grown

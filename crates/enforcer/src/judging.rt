@@ -85,7 +85,7 @@ fn decide<P: Program, S: SeqObject, L: Ledger>(
 }
 
 // The caller of these rows, which makes no more calls.
-fn halted<P: Program>(rows: &Rows<P>, caller: Caller<P>) -> Caller<P>
+pub(crate) fn halted<P: Program>(rows: &Rows<P>, caller: Caller<P>) -> Caller<P>
     requires rows { IsCallerOf P.meaning rows.now caller }
     ensures caller { IsStill P.meaning rows.now caller result }
     ensures local { local_with result ≡ local_with caller }

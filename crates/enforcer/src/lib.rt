@@ -4,6 +4,7 @@
 mod enforcing;
 mod judging;
 pub mod laws;
+mod lines;
 mod outcome;
 mod published_call;
 mod publishing;
@@ -12,9 +13,11 @@ mod seen_call;
 
 pub use enforcing::enforce;
 pub use judging::{gather, judge};
+pub use lines::judge_line;
 pub use outcome::{Outcome, Unjudged};
 pub use published_call::Published;
 pub use publishing::publish;
+pub use frontier_check::Standing;
 pub use row_gather::{Gathered, grow_at};
 pub use seeing::seen;
 pub use seen_call::Seen;

@@ -1,4 +1,5 @@
 pub mod Front
+pub mod Standing
 pub mod Twin
 pub mod Search
 pub mod Memo

@@ -1,11 +1,13 @@
-ghost use Rattle.std.specs.Prelude.{◌≡◌, ℕ, ◌+◌, ◌<◌, [], List, length, slice_index, IfOk, IfSome, IsTrue, OnOk, Some};
+ghost use Rattle.std.specs.Prelude.{◌≡◌, ℕ, ◌+◌, ◌<◌, ◌⊎◌, [], ◌∷◌, ◌++◌, List, length, slice_index, IfOk, IfSome, IsTrue, OnOk, Some};
 ghost use Rattle.book_base.specs.declared.call.Record.{Record};
 ghost use Rattle.book_base.specs.Cut.{IsWithin};
-ghost use Rattle.book_base.specs.Book.{record_of};
+ghost use Rattle.book_base.specs.Book.{answered, record_of};
 ghost use Rattle.book_base.specs.Order.{call_at};
 ghost use Rattle.book_base.specs.Next.{next_call};
 ghost use Rattle.frontier_check.specs.Front.{no_calls, IsNext, IsPut, IsFront, LeavesOpen};
+ghost use Rattle.frontier_check.specs.Standing.{AreMarks, MarksEnd, HasOneMark};
 
+use crate::mark::Mark;
 use crate::walk::ROOM;
 use book_base::{Book, Call, Cut, NoMemory, Place, SeqObject, State};
 use std::alloc::Global;
@@ -51,9 +53,9 @@ impl Front {
         ensures { IfOk result (λ found. IfSome found
             (IsFront (S.init object.now) (S.next object.now) book.now)) }
     {
-        let limit = limit_of(book, places);
+        let limit = limit_of(book, &Cut::zero(book.callers()), places);
         let mut front = Front::new(alloc, object, book)?;
-        if front.put_all(object, book, &limit, places)? && front.leaves_open(book) {
+        if front.put_all(object, book, &limit, places)? && leaves_open(book, &front.cut) {
             Ok(Some(front))
         } else {
             Ok(None)
@@ -85,9 +87,71 @@ impl Front {
         Ok(true)
     }
 
-    // Whether a place is the next of its caller, is within the limit, and has the recorded reply and a
-    // view that holds the cut, where its call is answered.
-    fn may_take(&self, book: &Book, limit: &Cut, place: Place) -> bool
+    /// Puts places after the others as long as they follow, and leaves a mark at intervals. Whether the object gave
+    /// their replies.
+    pub fn put_marked<S: SeqObject>(
+        &mut self,
+        alloc: Global,
+        object: &S,
+        book: &Book,
+        limit: &Cut,
+        places: &[Place],
+        marks: &mut Vec<Mark>,
+    ) -> Result<bool, NoMemory>
+        requires limit { length limit.now ≡ length book.now }
+        requires put { IsPut (S.init object.now) (S.next object.now) book.now self.old }
+        requires room { self.old.here.room ≡ ROOM }
+        requires marks { AreMarks (S.init object.now) (S.next object.now) book.now self.old.places.items 0 marks.old.items }
+        ensures put { IfOk result (λ given. IsTrue given
+            → IsPut (S.init object.now) (S.next object.now) book.now self.new) }
+        ensures room { IfOk result (λ given. IsTrue given → self.new.here.room ≡ ROOM) }
+        ensures marks { IfOk result (λ given. IsTrue given
+            → AreMarks (S.init object.now) (S.next object.now) book.now self.new.places.items 0 marks.new.items) }
+    {
+        let answered = answers_in(book);
+        for place in places {
+            if !self.may_take(book, limit, *place) {
+                return Ok(true);
+            }
+            if !self.put(object, book, *place)? {
+                return Ok(false);
+            }
+            self.mark_at_interval(alloc, &answered, marks)?;
+        }
+        Ok(true)
+    }
+
+    /// Leaves a mark where the places end, in a book with these records, if as many are put as lie between two marks.
+    pub fn mark_at_interval(
+        &self,
+        alloc: Global,
+        records: &Cut,
+        marks: &mut Vec<Mark>,
+    ) -> Result<(), NoMemory>
+        ensures { OnOk result ((marks.new.items ≡ marks.old.items) ⊎ HasOneMark self.now records.now marks.old.items marks.new.items) }
+    {
+        if self.places.len() % INTERVAL == 0 {
+            let mark = self.mark(alloc, records)?;
+            marks.push(mark)?;
+        }
+        Ok(())
+    }
+
+    // A mark where the places end, in a book with these records.
+    fn mark(&self, alloc: Global, records: &Cut) -> Result<Mark, NoMemory>
+        ensures { IfOk result (MarksEnd self.now records.now) }
+    {
+        Ok(Mark {
+            len: self.places.len(),
+            cut: self.cut,
+            words: Vec::from_slice(alloc, self.here.words())?,
+            answered: *records,
+        })
+    }
+
+    /// Whether a place is the next of its caller, is within the limit, and has the recorded reply and a
+    /// view that holds the cut, where its call is answered.
+    pub fn may_take(&self, book: &Book, limit: &Cut, place: Place) -> bool
         requires wide { length self.now.cut ≡ length book.now }
         requires limit { length limit.now ≡ length book.now }
         ensures { IsTrue result → IsNext book.now self.now.cut place }
@@ -110,13 +174,14 @@ impl Front {
         record.reply == reply && self.cut.within(&record.view)
     }
 
-    // Puts a place behind the others. Whether the object gave its reply.
-    fn put<S: SeqObject>(&mut self, object: &S, book: &Book, place: Place) -> Result<bool, NoMemory>
+    /// Puts a place behind the others. Whether the object gave its reply.
+    pub fn put<S: SeqObject>(&mut self, object: &S, book: &Book, place: Place) -> Result<bool, NoMemory>
         requires put { IsPut (S.init object.now) (S.next object.now) book.now self.old }
         requires next { IsNext book.now self.old.cut place }
         requires room { self.old.here.room ≡ ROOM }
         ensures put { IfOk result (λ given. IsTrue given
             → IsPut (S.init object.now) (S.next object.now) book.now self.new) }
+        ensures places { OnOk result (self.new.places.items ≡ self.old.places.items ++ place ∷ []) }
         ensures room { self.new.here.room ≡ ROOM }
     {
         let op = book.op(Call {
@@ -128,30 +193,43 @@ impl Front {
         self.places.push(place)?;
         Ok(reply == place.reply)
     }
-
-    // Whether the view of each caller's first call outside the cut holds the cut, where that call is
-    // answered.
-    fn leaves_open(&self, book: &Book) -> bool
-        requires { length self.now.cut ≡ length book.now }
-        ensures { IsTrue result → LeavesOpen book.now self.now.cut }
-    {
-        for caller in 0..book.callers() {
-            let number = self.cut.get(caller);
-            if number < book.answers(caller)
-                && !self.cut.within(&book.record(Call { caller, number }).view)
-            {
-                return false;
-            }
-        }
-        true
-    }
 }
 
-// How many calls of each caller stand at these places, where they are places of the book.
-fn calls_at(book: &Book, places: &[Place]) -> Cut
-    ensures { length result ≡ length book.now }
+/// After how many places there is a mark: as many are stepped through again where a search goes on from one.
+const INTERVAL: usize = 32;
+
+/// Whether the view of each caller's first call outside a cut holds the cut, where that call is answered.
+pub fn leaves_open(book: &Book, cut: &Cut) -> bool
+    requires { length cut.now ≡ length book.now }
+    ensures { IsTrue result → LeavesOpen book.now cut.now }
 {
-    let mut calls = Cut::zero(book.callers());
+    for caller in 0..book.callers() {
+        let number = cut.get(caller);
+        if number < book.answers(caller)
+            && !cut.within(&book.record(Call { caller, number }).view)
+        {
+            return false;
+        }
+    }
+    true
+}
+
+/// How many records of each caller a book has.
+pub fn answers_in(book: &Book) -> Cut
+    ensures { result ≡ answered book.now }
+{
+    let mut answered = Cut::zero(book.callers());
+    for caller in 0..book.callers() {
+        answered.set(caller, book.answers(caller));
+    }
+    answered
+}
+
+// How many calls of each caller are in a cut or stand at these places after it, where they are places of the book.
+fn calls_at(cut: &Cut, places: &[Place]) -> Cut
+    ensures { length result ≡ length cut.now }
+{
+    let mut calls = *cut;
     for place in places {
         if place.caller < calls.n() {
             calls.set(place.caller, place.number.saturating_add(1));
@@ -160,12 +238,13 @@ fn calls_at(book: &Book, places: &[Place]) -> Cut
     calls
 }
 
-// The calls of these places before which no answered call has to stand that isn't at them: by caller,
-// the least count in the views of those calls. No clause says so: it costs or saves time alone.
-fn limit_of(book: &Book, places: &[Place]) -> Cut
+/// The calls of a cut and of the places after it before which no answered call has to stand that is at none of them:
+/// by caller, the least count in the views of those calls. No clause says so: it costs or saves time alone.
+pub fn limit_of(book: &Book, cut: &Cut, places: &[Place]) -> Cut
+    requires { length cut.now ≡ length book.now }
     ensures { length result ≡ length book.now }
 {
-    let calls = calls_at(book, places);
+    let calls = calls_at(cut, places);
     let mut limit = calls;
     for caller in 0..book.callers() {
         let number = calls.get(caller);

@@ -2,11 +2,14 @@
 #![tactic(auto)]
 
 mod choice;
+mod fresh;
 mod front;
 mod guide;
+mod mark;
 mod memo;
 mod one_open;
 mod plan;
+mod resume;
 mod search;
 mod twins;
 mod verdict;
@@ -14,6 +17,7 @@ mod walk;
 
 pub use book_base::Place;
 pub use guide::Guide;
+pub use mark::Standing;
 pub use memo::Memo;
-pub use verdict::{Verdict, check, check_from};
+pub use verdict::{Verdict, check, check_after, check_from};
 pub use walk::load;

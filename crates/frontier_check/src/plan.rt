@@ -15,19 +15,19 @@ pub struct Plan {
 }
 
 impl Plan {
-    /// Behind the places of a front, which are a guide's first ones, the calls of the guide's other places
-    /// come first, in its order, then the answered calls by what their views count, and last all others.
-    pub fn new(alloc: Global, book: &Book, guide: &[Place], front: &Front) -> Result<Plan, NoMemory>
+    /// After the places of a front the calls of a guide's later places come first, in its order, then the answered
+    /// calls by what their views count, and last all others.
+    pub fn new(alloc: Global, book: &Book, later: &[Place], front: &Front) -> Result<Plan, NoMemory>
         requires { length front.now.cut ≡ length book.now }
     {
         let mut plan = Plan {
             turns: vec![in alloc; u32::MAX; MAX_CALLERS * MAX_CALLS as usize]?,
-            guided: u32::try_from(guide.len()).unwrap_or(u32::MAX),
+            guided: u32::try_from(later.len()).unwrap_or(u32::MAX),
         };
         for caller in 0..book.callers() {
-            plan.guess(book, caller, front.cut.get(caller), guide.len());
+            plan.guess(book, caller, front.cut.get(caller), later.len());
         }
-        for (index, place) in guide.iter().enumerate().skip(front.places.len()) {
+        for (index, place) in later.iter().enumerate() {
             plan.put(place.caller, place.number, index);
         }
         Ok(plan)
@@ -81,8 +81,8 @@ fn place_of(caller: u32, number: u64) -> Option<usize> {
     }
 }
 
-// How many calls a view counts.
-fn total(view: &Cut) -> usize {
+/// How many calls a view counts.
+pub fn total(view: &Cut) -> usize {
     let mut calls = 0usize;
     for caller in 0..view.n() {
         calls = calls.saturating_add(view.get(caller) as usize);

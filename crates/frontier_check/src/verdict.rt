@@ -2,13 +2,17 @@ ghost use Rattle.std.specs.Prelude.{◌≡◌, ◌++◌, IfOk, IfSome, IfNone, I
 ghost use Rattle.book_base.specs.Foresight.{IsForesight};
 ghost use Rattle.book_base.specs.Order.{IsLegalOrder, HasLegalOrder};
 ghost use Rattle.book_base.specs.Pruning.{HasOneOpen};
-ghost use Rattle.frontier_check.specs.Front.{IsFront};
+ghost use Rattle.frontier_check.specs.Front.{IsPut, IsFront};
+ghost use Rattle.frontier_check.specs.Standing.{IsStandingFor};
 ghost use Rattle.frontier_check.specs.Verdict.{IsRight, IsKept};
 
-use crate::front::Front;
+use crate::fresh::{holds_answered, put_fresh};
+use crate::front::{Front, leaves_open, limit_of};
 use crate::guide::Guide;
+use crate::mark::Standing;
 use crate::one_open::has_one_open;
 use crate::plan::Plan;
+use crate::resume::resume;
 use crate::search::Search;
 use book_base::{Book, Call, Decision, Foresight, NoMemory, Place, SeqObject, Sight};
 use std::alloc::Global;
@@ -61,6 +65,120 @@ pub fn check_from<S: SeqObject>(
     }
 }
 
+/// Looks for a legal order as `check` does, and first after the places that still stand of the last one.
+///
+/// What stands is of this object, and of this book or of one from which it has grown. The places up to a mark are kept
+/// where the records that are new leave them standing, and only those after it are stepped through, so that a call
+/// costs what is new. There is none to begin with. `None` comes where the book has no legal order.
+pub fn check_after<S: SeqObject>(
+    alloc: Global,
+    object: &S,
+    book: &Book,
+    standing: Option<Standing>,
+) -> Result<Option<Standing>, NoMemory>
+    requires standing { IfSome standing (IsStandingFor (S.init object.now) (S.next object.now) book.now) }
+    ensures legal { IfOk result (λ found. IfSome found
+        (λ s. IsLegalOrder (S.init object.now) (S.next object.now) book.now s.order.items)) }
+    ensures stands { IfOk result (λ found. IfSome found
+        (IsStandingFor (S.init object.now) (S.next object.now) book.now)) }
+    ensures illegal { IfOk result (λ found. IfNone found
+        (HasLegalOrder (S.init object.now) (S.next object.now) book.now → ⊥)) }
+{
+    match standing {
+        None => check_anew(alloc, object, book, &[]),
+        Some(standing) => check_on(alloc, object, book, standing),
+    }
+}
+
+// Looks for a legal order first after the places that still stand.
+fn check_on<S: SeqObject>(
+    alloc: Global,
+    object: &S,
+    book: &Book,
+    standing: Standing,
+) -> Result<Option<Standing>, NoMemory>
+    requires standing { IsStandingFor (S.init object.now) (S.next object.now) book.now standing }
+    ensures legal { IfOk result (λ found. IfSome found
+        (λ s. IsLegalOrder (S.init object.now) (S.next object.now) book.now s.order.items)) }
+    ensures stands { IfOk result (λ found. IfSome found
+        (IsStandingFor (S.init object.now) (S.next object.now) book.now)) }
+    ensures illegal { IfOk result (λ found. IfNone found
+        (HasLegalOrder (S.init object.now) (S.next object.now) book.now → ⊥)) }
+{
+    let Standing { order, mut marks } = standing;
+    let (mut front, later) = resume(alloc, object, book, order, &mut marks)?;
+    let limit = limit_of(book, &front.cut, &later);
+    if !front.put_marked(alloc, object, book, &limit, &later, &mut marks)? {
+        return check_anew(alloc, object, book, &front.places);
+    }
+    if !put_fresh(alloc, object, book, &later, &mut front, &mut marks)? {
+        return check_anew(alloc, object, book, &front.places);
+    }
+    match rest_after(alloc, object, book, &later, &front)? {
+        None => check_anew(alloc, object, book, &front.places),
+        Some(rest) => {
+            let Front {
+                places,
+                cut: _,
+                here: _,
+            } = front;
+            let mut order = places;
+            order.extend_from_slice(&rest)?;
+            Ok(Some(Standing { order, marks }))
+        }
+    }
+}
+
+// Looks for a legal order as `check_from` does. It has no marks yet.
+fn check_anew<S: SeqObject>(
+    alloc: Global,
+    object: &S,
+    book: &Book,
+    guide: &[Place],
+) -> Result<Option<Standing>, NoMemory>
+    ensures legal { IfOk result (λ found. IfSome found
+        (λ s. IsLegalOrder (S.init object.now) (S.next object.now) book.now s.order.items)) }
+    ensures stands { IfOk result (λ found. IfSome found
+        (IsStandingFor (S.init object.now) (S.next object.now) book.now)) }
+    ensures illegal { IfOk result (λ found. IfNone found
+        (HasLegalOrder (S.init object.now) (S.next object.now) book.now → ⊥)) }
+{
+    let found = match order_near(alloc, object, book, guide)? {
+        Some(order) => Some(order),
+        None => order_anywhere(alloc, object, book, guide)?,
+    };
+    match found {
+        None => Ok(None),
+        Some(order) => Ok(Some(Standing {
+            order,
+            marks: Vec::new(alloc),
+        })),
+    }
+}
+
+// The places that make a legal order after those of a front, if there are some that are found soon. The later places
+// are tried first.
+fn rest_after<S: SeqObject>(
+    alloc: Global,
+    object: &S,
+    book: &Book,
+    later: &[Place],
+    front: &Front,
+) -> Result<Option<Vec<Place>>, NoMemory>
+    requires { IsPut (S.init object.now) (S.next object.now) book.now front.now }
+    ensures { IfOk result (λ found. IfSome found (λ rest. IsLegalOrder (S.init object.now)
+        (S.next object.now) book.now (front.now.places.items ++ rest.items))) }
+{
+    if !leaves_open(book, &front.cut) {
+        return Ok(None);
+    }
+    if holds_answered(book, &front.cut) {
+        return Ok(Some(Vec::new(alloc)));
+    }
+    let known = Foresight::none(alloc);
+    places_behind(alloc, object, book, &known, later, front)
+}
+
 // How often a search begins behind fewer of a guide's places: each time it leaves out twice as many as
 // before, so that it has left out nearly all after as many times as this.
 const ATTEMPTS: u32 = 9;
@@ -111,7 +229,8 @@ fn order_behind<S: SeqObject>(
         (λ order. IsLegalOrder (S.init object.now) (S.next object.now) book.now order.items)) }
 {
     let known = Foresight::none(alloc);
-    let Some(rest) = places_behind(alloc, object, book, &known, guide, &front)? else {
+    let later = later_of(guide, front.places.len());
+    let Some(rest) = places_behind(alloc, object, book, &known, later, &front)? else {
         return Ok(None);
     };
     let Front {
@@ -123,13 +242,22 @@ fn order_behind<S: SeqObject>(
     Ok(Some(places))
 }
 
+// The places of a guide but for the first so many.
+fn later_of(guide: &[Place], taken: usize) -> &[Place] {
+    if taken < guide.len() {
+        &guide[taken..]
+    } else {
+        &[]
+    }
+}
+
 // The places that make a legal order behind those of a front, if they are found soon.
 fn places_behind<S: SeqObject>(
     alloc: Global,
     object: &S,
     book: &Book,
     known: &Foresight,
-    guide: &[Place],
+    later: &[Place],
     front: &Front,
 ) -> Result<Option<Vec<Place>>, NoMemory>
     requires foresight { IsForesight (S.init object.now) (S.next object.now) book.now known.now }
@@ -137,7 +265,7 @@ fn places_behind<S: SeqObject>(
     ensures { IfOk result (λ found. IfSome found (λ rest. IsLegalOrder (S.init object.now)
         (S.next object.now) book.now (front.now.places.items ++ rest.items))) }
 {
-    let plan = Plan::new(alloc, book, guide, front)?;
+    let plan = Plan::new(alloc, book, later, front)?;
     let sight: Option<Sight> = None;
     let search = Search {
         alloc,

@@ -10,7 +10,6 @@ use book_base::{NoMemory, SeqObject};
 use call_phases::Judging;
 use client_scripts::Script;
 use drv_wrapper::{BlackBox, ObjectPass};
-use frontier_check::Guide;
 use row_table::Rows;
 use std::alloc::Global;
 
@@ -30,8 +29,7 @@ pub(crate) fn make_judgements<'a, S: SeqObject>(
 {
     let mut endings = Vec::with_capacity(alloc, callers as usize)?;
     for _i in 0..callers {
-        let guide = Guide::new(alloc)?;
-        endings.push(Judging::new(alloc, sequential, guide))?;
+        endings.push(Judging::new(alloc, sequential))?;
     }
     Ok(endings)
 }

@@ -13,5 +13,5 @@ returns g c =
     let operations : c.operations-operations.result.now ≡ operations_at plan.operations who = c.operations-operations.ensures ∙ ap (λ (i : ℕ). operations_at plan.operations i) c.who-who.ensures in
     let allotment : given.result ≡ slice_index (allotments_of plan.operations plan.stops) who = given.ensures.allotment ∙ ap (λ (i : ℕ). slice_index (allotments_of plan.operations plan.stops) i) c.who-who.ensures in
     let within : given.result ≤ 5 * length (operations_at plan.operations who) = subst (λ (i : ℕ). given.result ≤ 5 * length (operations_at plan.operations i)) c.who-who.ensures given.ensures.within in
-    fresh_start _ _ _ _ _ _ _ plan c.args.caller c.args.pass _ _ given.result asked.0 asked.1.1.0 asked.1.1.1.0 asked.1.1.1.1.0 asked.1.1.1.1.1.0
+    fresh_start _ _ _ _ _ _ _ plan c.args.caller c.args.pass _ _ tt given.result asked.0 asked.1.1.0 asked.1.1.1.0 asked.1.1.1.1.0 asked.1.1.1.1.1.0
     c.who-who.ensures operations asked.1.1.1.1.1.1.0 asked.1.1.1.1.1.1.1.0 allotment within

@@ -2,4 +2,4 @@ use Rattle.std.proofs.Common.{◌≡◌, length}
 use Rattle.frontier_check.proofs.front.calls_at.Given as goal
 
 abbrev pub invariant-loop-place : goal.invariant-loop-place
-invariant-loop-place l = length l.calls ≡ length l.book
+invariant-loop-place l = length l.calls ≡ length l.cut

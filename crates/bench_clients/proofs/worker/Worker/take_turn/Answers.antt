@@ -33,6 +33,7 @@ returns g c =
           course = w.advance-client.ensures.course;
           pass = w.advance-client.ensures.pass;
           has_room = w.advance-client.ensures.room;
+          stands = w.advance-client.ensures.standing;
         };
         same = w.advance-client.ensures.same;
         judges = w.advance-client.ensures.object;

@@ -12,7 +12,7 @@ use Rattle.call_phases.specs.declared.stand.Stand.{Stand}
 use Rattle.call_phases.specs.declared.stand.Stand.TheVariants as at
 use Rattle.call_phases.specs.Stands.{caller_at, phases_at}
 use Rattle.call_phases.specs.Course.{HasCome, Counts}
-use Rattle.call_phases.proofs.Standing.{come_at, counted_at, fits_at, fits_stays, stands_before, phases_with, come_with, counted_with, fits_with, kept_with}
+use Rattle.call_phases.proofs.Standing.{come_at, counted_at, fits_at, fits_stays, stands_before, phases_with, come_with, counted_with, fits_with, kept_with, standing_with}
 use Rattle.call_phases.proofs.Kept.{gathered_by_is, stays_kept, stand_noted, kept_at}
 use Rattle.call_phases.proofs.Coming.{none_yet, announced_come, answered_come, viewed_come, published_come}
 use Rattle.call_phases.proofs.Ends.{idle_announced, ended_come, phases_noted}
@@ -209,3 +209,17 @@ ask-requires-clause-left g c =
     call_left c.args.self.sheet.operations.now _ c.in-Announced.announced c.args.self.sheet.lines.items
     (subst (λ (s : Stand _). phases_at (length c.args.self.sheet.lines.items) s < 5 * length c.args.self.sheet.operations.now) c.in-Announced.is c.requires.left)
     (counted_at _ c.args.self.sheet.operations.now c.args.self.sheet.lines.items _ _ c.in-Announced.is c.requires.pass.counts)
+
+pub returns-clause-standing : goal.returns-clause-standing
+returns-clause-standing g c =
+    let object = g.E.Ending.object in
+    let stands = c.requires.standing in
+    let h = c.match-stand.sheet in
+    elim c.match-stand.branch [
+      | in-Idle w ↦ standing_with h _ w.sheet-is object stands
+      | in-Announced w ↦ standing_with h _ w.sheet-is object stands
+      | in-Answered w ↦ standing_with h _ w.sheet-is object stands
+      | in-Viewed w ↦ standing_with h _ w.sheet-is object stands
+      | in-Published w ↦ standing_with h _ w.sheet-is object w.end_call-stand.ensures.standing
+      | in_default w ↦ standing_with h _ w.sheet-is object stands
+    ]

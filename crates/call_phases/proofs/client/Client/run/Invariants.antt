@@ -1,5 +1,6 @@
 use Rattle.std.proofs.Common.{◌≡◌, ◌+◌}
 use Rattle.call_phases.specs.Clients.{phases_by, HasSpent, IsUnderWay, HasPass, HasRoom, IsSameClient}
+use Rattle.call_phases.specs.Keeping.{KeepsStanding}
 use Rattle.call_phases.proofs.client.Client.run.Given as goal
 
 abbrev pub invariant-loop-i : goal.invariant-loop-i
@@ -9,6 +10,7 @@ invariant-loop-i g l =
       course : IsUnderWay g.P.Program.meaning l.shared.rows.now (g.E.Ending.says (g.E.Ending.object l.client.sheet.ending)) l.client;
       pass : HasPass (g.A.Asks.fits l.shared.asks.now) g.A.Asks.count l.client;
       room : HasRoom l.shared.rows.now l.client;
+      standing : KeepsStanding (g.E.Ending.object l.client.sheet.ending) l.client.sheet;
       same : IsSameClient l.fn.self l.client;
       object : g.E.Ending.object l.client.sheet.ending ≡ g.E.Ending.object l.fn.self.sheet.ending;
     }

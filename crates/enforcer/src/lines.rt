@@ -1,0 +1,162 @@
+ghost use Rattle.std.specs.Prelude.{◌≡◌, ◌≤◌, false, None, Some, IfOk, IfErr, IfSome, IfNone};
+ghost use Rattle.book_base.specs.Order.{IsLegalOrder, HasLegalOrder};
+ghost use Rattle.world_core.specs.Local.{IsIdle};
+ghost use Rattle.world_core.specs.Calls.{IsGathered};
+ghost use Rattle.call_lines.specs.Workers.{IsJudgedBy};
+ghost use Rattle.row_table.specs.Callers.{local_with, stance_of, IsCallerOf, IsStill};
+ghost use Rattle.row_gather.specs.Peeks.{OnlyPeeks};
+ghost use Rattle.row_gather.specs.Gathered.{IsGatheredBy, TicksForNew};
+ghost use Rattle.frontier_check.specs.Standing.{IsStandingFor};
+ghost use Rattle.drv_wrapper.specs.Stands.{ready};
+ghost use Rattle.enforcer.specs.Recorded.{HoldsOwn};
+ghost use Rattle.enforcer.specs.States.{caller_seen, reply_seen, view_seen, cut_seen};
+ghost use Rattle.enforcer.specs.Lines.{StandsIn, IsHeldIn, IsVerdictOn, stance_behind, IsKeptBehindLine};
+
+use crate::judging::{gather, halted};
+use crate::outcome::Unjudged;
+use crate::seen_call::Seen;
+use book_base::{Cut, NoMemory, Record, SeqObject};
+use call_lines::LineEnd;
+use frontier_check::{Standing, check_after};
+use row_gather::Gathered;
+use row_table::{Caller, Rows, Steps};
+use std::alloc::Global;
+use std::sync::ledger::Ledger;
+use world_core::Program;
+
+// What stands, where the book that was gathered is of n callers, and this cut holds its own; else nothing.
+fn standing_in(
+    n: u32,
+    gathered: &Option<Gathered>,
+    standing: Option<Standing>,
+    cut: &Cut,
+) -> Option<Standing>
+    ensures same { IfSome result (λ s. standing ≡ Some s) }
+    ensures held { IfSome result (λ _. IsHeldIn n gathered.now cut.now) }
+{
+    let Some(kept) = gathered else {
+        return None;
+    };
+    if kept.book.callers() != n || kept.cut.n() != cut.n() || !kept.cut.within(cut) {
+        return None;
+    }
+    match standing {
+        Some(standing) => Some(standing),
+        None => None,
+    }
+}
+
+// The gathered book, and what stands in it, where it has a legal order.
+fn decide_after<P: Program, S: SeqObject, L: Ledger>(
+    alloc: Global,
+    object: &S,
+    rows: &Rows<P>,
+    seen: &mut Seen<P>,
+    gathered: Option<Gathered>,
+    standing: Option<Standing>,
+    steps: &mut Steps<L>,
+) -> Result<(Gathered, Option<Standing>), NoMemory>
+    requires rows { IsCallerOf P.meaning rows.now (caller_seen seen.old) }
+    requires gathered { IsGatheredBy (local_with (caller_seen seen.old)) gathered }
+    requires stands { StandsIn (S.init object.now) (S.next object.now) gathered standing }
+    ensures caller { IsStill P.meaning rows.now (caller_seen seen.old) (caller_seen seen.new) }
+    ensures record { (reply_seen seen.new ≡ reply_seen seen.old) × (view_seen seen.new ≡ view_seen seen.old) }
+    ensures cut { cut_seen seen.new ≡ cut_seen seen.old }
+    ensures peeks { OnlyPeeks (caller_seen seen.old) (caller_seen seen.new) steps.old steps.new }
+    ensures at { IfOk result (λ r. r.0.cut ≡ cut_seen seen.new) }
+    ensures gathered { IfOk result (λ r.
+        IsGathered rows.now.callers (local_with (caller_seen seen.new)) (cut_seen seen.new) r.0.book) }
+    ensures ticks { IfOk result (λ r.
+        TicksForNew rows.now.callers gathered r.0 steps.old steps.new) }
+    ensures legal { IfOk result (λ r. IfSome r.1
+        (λ s. IsLegalOrder (S.init object.now) (S.next object.now) r.0.book s.order.items)) }
+    ensures stands { IfOk result (λ r. IfSome r.1
+        (IsStandingFor (S.init object.now) (S.next object.now) r.0.book)) }
+    ensures illegal { IfOk result (λ r. IfNone r.1
+        (HasLegalOrder (S.init object.now) (S.next object.now) r.0.book → ⊥)) }
+{
+    let before = standing_in(rows.callers(), &gathered, standing, &seen.cut);
+    let found = gather(alloc, rows, seen, gathered, steps)?;
+    let after = check_after(alloc, object, &found.book, before)?;
+    Ok((found, after))
+}
+
+/// Judges a call as [`judge`](crate::judge) does, for a caller that keeps the line of the call and not the order: answers
+/// how the line ends (Castañeda and Rodríguez 2023).
+///
+/// After `Delivered` the caller is live and idle, and after `Error` it is halted. `Unjudged` comes for want of memory
+/// alone.
+///
+/// `gathered` is what this caller has gathered before, and `standing` what stands of an order in that book, for this
+/// object; both are `None` before the caller's first call. The book is grown, and only what is new is peeked; the
+/// search goes on after the places that the new records leave standing, so that a call costs what is new. After
+/// `Delivered` both are those for the caller's next call, and else `gathered` is `None`. Without a book what stands
+/// counts for nothing, so it needn't be forgotten.
+pub fn judge_line<P: Program, S: SeqObject, L: Ledger>(
+    alloc: Global,
+    object: &S,
+    rows: &Rows<P>,
+    mut seen: Seen<P>,
+    gathered: &mut Option<Gathered>,
+    standing: &mut Option<Standing>,
+    steps: &mut Steps<L>,
+) -> Result<(Caller<P>, LineEnd), Unjudged<P>>
+    requires rows { IsCallerOf P.meaning rows.now (caller_seen seen) }
+    requires gathered { IsGatheredBy (local_with (caller_seen seen)) gathered.old }
+    requires stands { StandsIn (S.init object.now) (S.next object.now) gathered.old standing.old }
+    ensures caller { IfOk result (λ r. IsStill P.meaning rows.now (caller_seen seen) r.0) }
+    ensures peeks { IfOk result (λ r. OnlyPeeks (caller_seen seen) r.0 steps.old steps.new) }
+    ensures idle { IfOk result (λ r. IsIdle (local_with r.0)) }
+    ensures stance { IfOk result (λ r. stance_of r.0 ≡ stance_behind r.1) }
+    ensures end { IfOk result (λ r. IsVerdictOn (record { reply = reply_seen seen; view = view_seen seen }) (cut_seen seen) r.1) }
+    ensures own { IfOk result (λ r. HoldsOwn (cut_seen seen) r.0) }
+    ensures verdict { IfOk result (λ r.
+        IsJudgedBy (S.init object.now) (S.next object.now) rows.now.callers (local_with r.0) r.1) }
+    ensures kept { IfOk result (λ r. IsGatheredBy (local_with r.0) gathered.new) }
+    ensures kept_book { IfOk result (λ r. IsKeptBehindLine rows.now.callers r.1 gathered.new) }
+    ensures stands { StandsIn (S.init object.now) (S.next object.now) gathered.new standing.new }
+    ensures new_words { IfOk result (λ r. IfSome gathered.new (λ g.
+        TicksForNew rows.now.callers gathered.old g steps.old steps.new)) }
+    ensures unjudged_caller { IfErr result (λ u. IsStill P.meaning rows.now (caller_seen seen) u.caller) }
+    ensures unjudged_peeks { IfErr result (λ u. OnlyPeeks (caller_seen seen) u.caller steps.old steps.new) }
+    ensures unjudged_stands { IfErr result (λ u. stance_of u.caller ≡ record ready { live = false }) }
+    ensures unjudged_record { IfErr result (λ u. (u.reply ≡ reply_seen seen) × (u.view ≡ view_seen seen) × (u.seen ≡ cut_seen seen)) }
+    ensures unjudged_own { IfErr result (λ u. HoldsOwn u.seen u.caller) }
+    ensures unjudged_kept { IfErr result (λ u. gathered.new ≡ None) }
+    ensures ticks { steps.old ≤ steps.new }
+{
+    let decided = decide_after(
+        alloc,
+        object,
+        rows,
+        &mut seen,
+        gathered.take(),
+        standing.take(),
+        steps,
+    );
+    let Seen {
+        caller,
+        reply,
+        view,
+        cut: seen,
+    } = seen;
+    match decided {
+        Ok((found, stands)) => match stands {
+            Some(stands) => {
+                *gathered = Some(found);
+                *standing = Some(stands);
+                Ok((caller, LineEnd::Delivered(Record { reply, view }, seen)))
+            }
+            None => Ok((
+                halted(rows, caller),
+                LineEnd::Error(Record { reply, view }, seen),
+            )),
+        },
+        Err(NoMemory) => Err(Unjudged {
+            caller: halted(rows, caller),
+            reply,
+            view,
+            seen,
+        }),
+    }
+}

@@ -1,0 +1,17 @@
+use Rattle.std.proofs.Common.{◌∙◌, length, ap, length-set}
+use Rattle.frontier_check.proofs.Resuming.{marks_put}
+use Rattle.frontier_check.proofs.fresh.put_fresh.Goals as goal
+
+pub loop-preserved : goal.loop-preserved
+loop-preserved g c =
+    let object = c.args.object.now in
+    let put = c.in_ok-put.ensures.put c.if-not-branch.false in
+    record {
+      put = put;
+      room = c.put.ensures.room;
+      spare = c.next_place-next.ensures.room;
+      counts = ap length c.set.ensures ∙ (length-set c.loop.counts c.in-Some.place.caller c.count_of.result ∙ c.loop.invariant.counts);
+      turns = ap length c.set-in-loop.ensures ∙ (length-set c.loop.turns c.in-Some.place.caller c.turn_of.result ∙ c.loop.invariant.turns);
+      marks = marks_put (g.S.SeqObject.init object) (g.S.SeqObject.next object) c.args.book.now c.put.new.self c.loop.front.places.items c.in-Some.place c.answers_in-answered.result c.loop.marks.items
+          c.mark_at_interval.new.marks.items put c.answers_in-answered.ensures c.in_ok-put.ensures.places c.in_ok-mark_at_interval.ensures c.loop.invariant.marks;
+    }

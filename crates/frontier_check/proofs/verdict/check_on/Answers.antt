@@ -1,0 +1,14 @@
+use Rattle.std.proofs.Common.{List, sym, subst}
+use Rattle.book_base.specs.declared.call.Place.{Place}
+use Rattle.frontier_check.specs.Standing.{AreMarks}
+use Rattle.frontier_check.proofs.Resuming.{marks_longer}
+use Rattle.frontier_check.proofs.verdict.check_on.Goals as goal
+
+pub returns-in_ok-extend_from_slice-in-Some-clause-stands : goal.returns-in_ok-extend_from_slice-in-Some-clause-stands
+returns-in_ok-extend_from_slice-in-Some-clause-stands g c =
+    let init = g.S.SeqObject.init c.args.object.now in
+    let next = g.S.SeqObject.next c.args.object.now in
+    let book = c.args.book.now in
+    let marks = c.put_fresh.new.marks.items in
+    subst (λ (ps : List Place). AreMarks init next book ps 0 marks) (sym c.in_ok-extend_from_slice-in-Some.ensures.items)
+    (marks_longer init next book c.put_fresh.new.front.places.items c.deref-in-Some.result.now 0 marks (c.in_ok-put_fresh.ensures.marks c.if-not-branch-2.false))

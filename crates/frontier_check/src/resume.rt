@@ -1,0 +1,106 @@
+ghost use Rattle.std.specs.Prelude.{◌≡◌, ℕ, ◌<◌, ◌≤◌, ◌⊎◌, length, slice_index_or, take, IfOk, IfSome, IsTrue};
+ghost use Rattle.frontier_check.specs.declared.mark.Mark.{Mark};
+ghost use Rattle.frontier_check.specs.Front.{IsPut};
+ghost use Rattle.frontier_check.specs.Standing.{IsQuiet, IsAsWide, StillStands, AreMarks};
+
+use crate::front::{Front, leaves_open};
+use crate::mark::Mark;
+use crate::walk::{ROOM, load};
+use book_base::{Book, Cut, NoMemory, Place, SeqObject, State};
+use std::alloc::Global;
+
+// Whether the calls of a cut that a book has answered were answered already when it had so many records.
+fn is_quiet(book: &Book, cut: &Cut, before: &Cut) -> bool
+    requires cut { length cut.now ≡ length book.now }
+    requires before { length before.now ≡ length book.now }
+    ensures { IsTrue result → IsQuiet cut.now before.now book.now }
+{
+    for caller in 0..book.callers() {
+        let known = before.get(caller);
+        if known < cut.get(caller) && known < book.answers(caller) {
+            return false;
+        }
+    }
+    true
+}
+
+// Whether the places up to a mark follow one another in a book still, and leave each answered call that isn't at them a
+// place after them.
+fn still_stands(book: &Book, mark: &Mark) -> bool
+    requires { IsAsWide book.now mark.now }
+    ensures { IsTrue result → StillStands book.now mark.now }
+{
+    is_quiet(book, &mark.cut, &mark.answered) && leaves_open(book, &mark.cut)
+}
+
+// The last mark whose places still follow one another.
+fn last_standing(book: &Book, marks: &[Mark]) -> Option<usize>
+    requires { (k : ℕ) (mark : Mark) → k < length marks.now → mark ≡ slice_index_or marks.now k mark → IsAsWide book.now mark }
+    ensures within { IfSome result (λ k. k < length marks.now) }
+    ensures stands { IfSome result (λ k. (mark : Mark) → mark ≡ slice_index_or marks.now k mark
+        → StillStands book.now mark) }
+{
+    for back in 0..marks.len() {
+        let index = marks.len() - 1 - back;
+        if still_stands(book, &marks[index]) {
+            return Some(index);
+        }
+    }
+    None
+}
+
+// The places of an order up to a mark, as a front, and the other places.
+fn front_at(
+    alloc: Global,
+    order: Vec<Place>,
+    mark: &Mark,
+) -> Result<(Front, Vec<Place>), NoMemory>
+    requires len { mark.now.len ≤ length order.items }
+    requires words { length mark.now.words.items ≤ ROOM }
+    ensures places { IfOk result (λ r. r.0.places.items ≡ take mark.now.len order.items) }
+    ensures cut { IfOk result (λ r. r.0.cut ≡ mark.now.cut) }
+    ensures words { IfOk result (λ r. r.0.here.words ≡ mark.now.words.items) }
+    ensures room { IfOk result (λ r. r.0.here.room ≡ ROOM) }
+{
+    let mut here = State::with_room(alloc, ROOM)?;
+    load(&mut here, &mark.words);
+    let later = Vec::from_slice(alloc, &order[mark.len..])?;
+    let mut places = order;
+    places.truncate(mark.len);
+    let front = Front {
+        places,
+        cut: mark.cut,
+        here,
+    };
+    Ok((front, later))
+}
+
+/// The places of an order up to the last mark that still stands, as a front, and the other places. The marks after it
+/// are gone.
+pub fn resume<S: SeqObject>(
+    alloc: Global,
+    object: &S,
+    book: &Book,
+    order: Vec<Place>,
+    marks: &mut Vec<Mark>,
+) -> Result<(Front, Vec<Place>), NoMemory>
+    requires marks { AreMarks (S.init object.now) (S.next object.now) book.now order.items 0 marks.old.items }
+    ensures put { IfOk result (λ r. IsPut (S.init object.now) (S.next object.now) book.now r.0) }
+    ensures room { IfOk result (λ r. r.0.here.room ≡ ROOM) }
+    ensures marks { IfOk result (λ r.
+        AreMarks (S.init object.now) (S.next object.now) book.now r.0.places.items 0 marks.new.items) }
+{
+    match last_standing(book, marks) {
+        None => {
+            marks.clear();
+            Ok((Front::new(alloc, object, book)?, order))
+        }
+        Some(index) => {
+            // That a book is valid and small is known by this.
+            let _callers = book.callers();
+            let found = front_at(alloc, order, &marks[index])?;
+            marks.truncate(index + 1);
+            Ok(found)
+        }
+    }
+}
