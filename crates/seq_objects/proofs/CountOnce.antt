@@ -18,14 +18,10 @@ use Rattle.seq_objects.specs.Replies.{reply_value}
 use Rattle.seq_objects.specs.Items.{first_or_zero}
 use Rattle.seq_objects.specs.Words as words
 use Rattle.seq_objects.specs.Words.{is_operation_of}
-use Rattle.seq_objects.specs.CounterSteps.{counter_operation, counter_after, counter_after-inc, counter_after-other}
-use Rattle.seq_objects.specs.Counts.{is_increment, IsGivenLater, MayCount}
+use Rattle.seq_objects.specs.CounterSteps.{counter_after-inc, counter_after-other}
+use Rattle.seq_objects.specs.Counts.{counter_next, is_increment, IsGivenLater, MayCount}
 use Rattle.seq_objects.proofs.Lengths.{order_is_short}
 use Rattle.seq_objects.proofs.Narrowing.{next_is_marked}
-
--- what an operation does to a counter
-abbrev pub counter_next : List ℕ → ℕ → List ℕ × ℕ
-counter_next list op = counter_after list (counter_operation op)
 
 -- a call outside a cut stays so after another one
 outside-raised : (cut : List ℕ) (place : Place) (call : Call) → place.caller < length cut → place.number ≡ get_or cut place.caller 0 → get_or cut call.caller 0 ≤ call.number

@@ -5,7 +5,7 @@ ghost use Rattle.seq_objects.specs.declared.kind.Kind.TheVariants as kinds;
 ghost use Rattle.seq_objects.specs.Words.{is_known_word};
 ghost use Rattle.seq_objects.specs.Items.{length-one};
 ghost use Rattle.seq_objects.specs.Items as items;
-ghost use Rattle.seq_objects.specs.Counts.{IsNarrowedToCount};
+ghost use Rattle.seq_objects.specs.Counts.{counter_next, IsNarrowedToCount};
 ghost use Rattle.seq_objects.specs.CounterSteps.{counter_operation, counter_after, length-counter_after, counter_after-unknown};
 
 use crate::counts::{narrow_to_count, sight_of_counts};
@@ -99,12 +99,13 @@ impl SeqObject for Counter {
         marks: Marks,
     ) -> Marks
         requires wide { length cut.now ≡ length book.now }
-        requires reached { IsReached (0 ∷ []) (λ list op. counter_after list (counter_operation op)) book.now cut.now words.now }
+        requires reached { IsReached (0 ∷ []) counter_next book.now cut.now words.now }
         requires forced { IsForced book.now cut.now forced }
         requires marks { MarksAllNext book.now cut.now marks }
         ensures fewer { IsMarkedWithin result marks }
-        ensures suffice { MarksSuffice book.now (λ list op. counter_after list (counter_operation op)) cut.now words.now result }
-        ensures narrowed { IsNarrowedToCount book.now cut.now (items.first_or_zero words.now) marks result }
+        ensures suffice { MarksSuffice book.now counter_next cut.now words.now result }
+        ensures narrowed { IsNarrowedToCount book.now cut.now (items.first_or_zero words.now) marks
+            result }
     {
         narrow_to_count(sight, book, cut, words, forced, marks)
     }

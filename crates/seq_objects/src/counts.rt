@@ -1,11 +1,11 @@
-ghost use Rattle.std.specs.Prelude.{◌≡◌, ◌↔◌, ◌*◌, ◌%◌, ◌^◌, ◌<◌, ◌≤◌, ◌∷◌, [], ℕ, length, slice_index, IfOk, IfSome, IfNone, IsTrue};
+ghost use Rattle.std.specs.Prelude.{◌≡◌, ◌↔◌, ◌*◌, ◌%◌, ◌^◌, ◌<◌, ◌≤◌, ◌∷◌, [], ℕ, length, IfOk, IfSome, IfNone, IsTrue};
 ghost use Rattle.book_base.specs.declared.TheConstants.{MAX_CALLS};
+ghost use Rattle.book_base.specs.Cut.{Holds};
 ghost use Rattle.book_base.specs.Book.{answers_of, IsCall, IsAnswered, IsValid, IsSmall};
 ghost use Rattle.book_base.specs.Next.{next_call};
 ghost use Rattle.book_base.specs.Pruning.{IsForced, IsReached, MarksAllNext, MarksSuffice, IsMarkedWithin};
 ghost use Rattle.seq_objects.specs.Items as items;
-ghost use Rattle.seq_objects.specs.CounterSteps.{counter_operation, counter_after};
-ghost use Rattle.seq_objects.specs.Counts.{GivesCount, ShowsCount, ShowsCounts, ShowsMore, SeesCounts, IsGivenLater, MayCount, IsNarrowedToCount};
+ghost use Rattle.seq_objects.specs.Counts.{counter_next, GivesCount, ShowsCount, ShowsCounts, ShowsMore, SeesCounts, IsGivenLater, MayCount, IsNarrowedToCount};
 
 use crate::entry::INC;
 use crate::keyed::next_of;
@@ -20,8 +20,8 @@ const NO_CALL: Call = Call {
     number: u64::MAX,
 };
 
-/// A sight of a book's answered increments, under the one label 0: at the index of each count a call whose
-/// reply gives it, where there is one.
+/// A sight of a book's answered increments, under the one label 0: at the index of each count a
+/// call whose reply gives it, where there is one.
 pub fn sight_of_counts(alloc: Global, book: &Book) -> Result<Sight, NoMemory>
     ensures { IfOk result (SeesCounts book.now) }
 {
@@ -71,8 +71,10 @@ fn put_count(book: &Book, call: Call, calls: &mut [Call])
     requires answered { IsAnswered book.now call }
     requires room { length calls.old ≡ length book.now * MAX_CALLS }
     ensures room { length calls.new ≡ length calls.old }
-    ensures old { (count : ℕ) → ShowsCount book.now count calls.old → ShowsCount book.now count calls.new }
-    ensures new { (count : ℕ) → count < length book.now * MAX_CALLS → GivesCount book.now count call → ShowsCount book.now count calls.new }
+    ensures old { (count : ℕ) → ShowsCount book.now count calls.old
+        → ShowsCount book.now count calls.new }
+    ensures new { (count : ℕ) → count < length book.now * MAX_CALLS
+        → GivesCount book.now count call → ShowsCount book.now count calls.new }
 {
     if let Some(count) = count_given(book, call) {
         if (count as usize) < calls.len() {
@@ -86,7 +88,8 @@ fn count_given(book: &Book, call: Call) -> Option<u64>
     requires valid { IsValid book.now }
     requires answered { IsAnswered book.now call }
     ensures some { IfSome result (λ count. GivesCount book.now count call) }
-    ensures same { IfSome result (λ count. (other : ℕ) → GivesCount book.now other call → other % 2 ^ 32 ≡ count) }
+    ensures same { IfSome result (λ count. (other : ℕ) → GivesCount book.now other call
+        → other % 2 ^ 32 ≡ count) }
     ensures none { IfNone result ((other : ℕ) → GivesCount book.now other call → ⊥) }
 {
     if INC.has(book.op(call)) {
@@ -114,7 +117,8 @@ fn is_given_later(sight: &Sight, book: &Book, cut: &Cut, count: u64) -> bool
 /// Whether a call is answered and outside a cut.
 fn is_outside(book: &Book, cut: &Cut, call: Call) -> bool
     requires { length cut.now ≡ length book.now }
-    ensures { IsTrue result → IsAnswered book.now call × (slice_index cut.now call.caller ≤ call.number) }
+    ensures answered { IsTrue result → IsAnswered book.now call }
+    ensures outside { IsTrue result → Holds cut.now call → ⊥ }
 {
     call.caller < cut.n()
         && cut.get(call.caller) <= call.number
@@ -133,8 +137,9 @@ fn gives(book: &Book, call: Call, count: u64) -> bool
     }
 }
 
-/// Of the marked callers those whose next calls may go next at a count: all but increments, those whose reply
-/// gives the count, and unanswered ones where no answered increment outside the cut is known to give it.
+/// Of the marked callers those whose next calls may go next at the count of a list: all but
+/// increments, those whose reply gives the count, and unanswered ones where no answered increment
+/// outside the cut is known to give it.
 ///
 /// They suffice, since a counter gives each count once.
 pub fn narrow_to_count(
@@ -146,12 +151,13 @@ pub fn narrow_to_count(
     marks: Marks,
 ) -> Marks
     requires wide { length cut.now ≡ length book.now }
-    requires reached { IsReached (0 ∷ []) (λ list op. counter_after list (counter_operation op)) book.now cut.now words.now }
+    requires reached { IsReached (0 ∷ []) counter_next book.now cut.now words.now }
     requires forced { IsForced book.now cut.now forced }
     requires marks { MarksAllNext book.now cut.now marks }
     ensures fewer { IsMarkedWithin result marks }
-    ensures suffice { MarksSuffice book.now (λ list op. counter_after list (counter_operation op)) cut.now words.now result }
-    ensures narrowed { IsNarrowedToCount book.now cut.now (items.first_or_zero words.now) marks result }
+    ensures suffice { MarksSuffice book.now counter_next cut.now words.now result }
+    ensures narrowed { IsNarrowedToCount book.now cut.now (items.first_or_zero words.now) marks
+        result }
 {
     let callers = book.callers();
     let count = count_of(words);

@@ -148,7 +148,8 @@ impl SeqObject for IntSet {
         requires forced { IsForced book.now cut.now forced }
         requires marks { MarksAllNext book.now cut.now marks }
         ensures fewer { IsMarkedWithin result marks }
-        ensures suffice { MarksSuffice book.now (λ list op. set_after list (set_operation op)) cut.now words.now result }
+        ensures suffice { MarksSuffice book.now (λ list op. set_after list (set_operation op)) cut.now
+            words.now result }
         ensures narrowed { IsNarrowedToKey set_key book.now cut.now forced marks result }
     {
         narrow_to_key(self, book, cut, forced, marks)

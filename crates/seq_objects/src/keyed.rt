@@ -28,10 +28,11 @@ pub fn empty_sight(alloc: Global) -> Sight {
     }
 }
 
-/// Of the marked callers those whose next calls have the forced call's key, or all where it has none.
+/// Of the marked callers those whose next calls have the forced call's key, or all where it has
+/// none.
 ///
-/// They suffice: in any order that goes on, all that stands before the first call with this key may change
-/// places with it, and it may come next (after Herlihy and Wing 1990, on locality).
+/// They suffice: in any order that goes on, all that stands before the first call with this key may
+/// change places with it, and it may come next (after Herlihy and Wing 1990, on locality).
 pub fn narrow_to_key<K: Keyed>(
     object: &K,
     book: &Book,

@@ -179,7 +179,8 @@ impl SeqObject for Map {
         requires forced { IsForced book.now cut.now forced }
         requires marks { MarksAllNext book.now cut.now marks }
         ensures fewer { IsMarkedWithin result marks }
-        ensures suffice { MarksSuffice book.now (λ list op. map_after list (map_operation op)) cut.now words.now result }
+        ensures suffice { MarksSuffice book.now (λ list op. map_after list (map_operation op)) cut.now
+            words.now result }
         ensures narrowed { IsNarrowedToKey map_key book.now cut.now forced marks result }
     {
         narrow_to_key(self, book, cut, forced, marks)
