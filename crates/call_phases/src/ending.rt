@@ -12,7 +12,8 @@ ghost use Rattle.call_phases.specs.Endings.{record_seen, caller_ended, local_end
 ghost use Rattle.call_phases.specs.Keeping.{StandsBy};
 
 use crate::ended::Ended;
-use enforcer::{Gathered, Seen, Standing};
+use enforcer::{Gathered, Seen};
+use frontier_check::Standing;
 use row_table::{Rows, Steps};
 use std::sync::ledger::Ledger;
 use world_core::Program;

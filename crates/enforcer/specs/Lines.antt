@@ -1,5 +1,5 @@
 -- What a judgement says at the end of a call's line, and what it leaves standing for the next one.
-use Rattle.std.specs.Prelude.{◌≡◌, ℕ, ◌⊎◌, List, Option, Some, None, IsSomeAnd, length}
+use Rattle.std.specs.Prelude.{◌≡◌, ℕ, ◌⊎◌, false, List, Option, Some, None, IsSomeAnd, length}
 use Rattle.book_base.specs.declared.call.Record.{Record}
 use Rattle.book_base.specs.Cut.{IsWithin}
 use Rattle.frontier_check.specs.declared.mark.Standing.{Standing}

@@ -17,7 +17,6 @@ pub use lines::judge_line;
 pub use outcome::{Outcome, Unjudged};
 pub use published_call::Published;
 pub use publishing::publish;
-pub use frontier_check::Standing;
 pub use row_gather::{Gathered, grow_at};
 pub use seeing::seen;
 pub use seen_call::Seen;
