@@ -31,8 +31,8 @@ use Rattle.row_table.specs.declared.caller.Caller.{Caller}
 use Rattle.row_table.specs.Callers.{shape_of, who_of, local_with, stance_of, on_bench, stance_on, IsCallerOf}
 use Rattle.drv_wrapper.specs.Stands.{IsSame}
 use Rattle.bench_clients.specs.Work.{Says, IsReady, HasRun}
-use Rattle.bench_clients.specs.Starts.{Course, IsUnused, IsNewCount, IsFreshPass, IsClientOf, IsStart}
-use Rattle.bench_clients.specs.Places.{AreInOrder}
+use Rattle.client_scripts.specs.Plans.{Plan}
+use Rattle.bench_clients.specs.Starts.{Course, MayStart, IsNewCount, AreFreshPasses, IsClientOf, IsStart}
 use Rattle.bench_clients.proofs.Places.{item_at}
 use Rattle.bench_clients.proofs.Starts.{no_phase}
 use Rattle.bench_clients.specs.Returns.{IsSpent, IsCountOf, IsBackOn, ComesBack, IsBack, AreBack}
@@ -62,15 +62,17 @@ module _ {P T : Type 0} (meaning : P → ℕ → ℕ → Meaning) (r : Rows P) (
       → (on_bench c i ≡ on_bench b i) × (stance_on c i ≡ stance_on b i) → passes' ≡ passes ++ pass ∷ [] → lines' ≡ lines ++ own ∷ [] → (wanted' ≡ false → wanted ≡ false)
       → Back b passes lines wanted i → Back c passes' lines' wanted' i
   still_back b c passes passes' lines lines' wanted wanted' i pass own same pass_put lines_put weaker h = record {
-    local = h.local;
-    pass = h.pass;
+    on = record {
+      local = h.on.local;
+      pass = h.on.pass;
+      phases = h.on.phases;
+      here = same.0 ∙ h.on.here;
+      pass_here = subst (λ (ps : List T). slice_get ps i ≡ Some h.on.pass) (sym pass_put) (slice_get-push_old passes pass i h.on.pass h.on.pass_here);
+      back = h.on.back;
+      stands = record { stance = h.on.stands.stance; here = same.1 ∙ h.on.stands.here; standing = h.on.stands.standing };
+    };
     own = h.own;
-    phases = h.phases;
-    here = same.0 ∙ h.here;
-    pass_here = subst (λ (ps : List T). slice_get ps i ≡ Some h.pass) (sym pass_put) (slice_get-push_old passes pass i h.pass h.pass_here);
     lines_here = subst (λ (ls : List (List Line)). slice_get ls i ≡ Some h.own) (sym lines_put) (slice_get-push_old lines own i h.own h.lines_here);
-    back = h.back;
-    stands = record { stance = h.stands.stance; here = same.1 ∙ h.stands.here; standing = h.stands.standing };
     free = λ none. h.free (weaker none);
     left = λ none. h.left (weaker none);
   }
@@ -99,17 +101,19 @@ module _ {P T : Type 0} (meaning : P → ℕ → ℕ → Meaning) (r : Rows P) (
     back = λ i low.
         elim (cases_lt i k) [
           | inr high ↦ let same : k ≡ i = omega (arith, low, high) in subst (λ (m : ℕ). Back c passes' lines' wanted' m) same (record {
-            local = come.local;
-            pass = come.pass;
+            on = record {
+              local = come.local;
+              pass = come.pass;
+              phases = come.phases;
+              here = come.here;
+              pass_here = subst (λ (m : ℕ). slice_get passes' m ≡ Some come.pass) (sym at_pass)
+                  (subst (λ (ps : List T). slice_get ps (length passes) ≡ Some come.pass) (sym come.pass_put) (slice_get-push_last passes come.pass));
+              back = come.back;
+              stands = come.stands;
+            };
             own = come.own;
-            phases = come.phases;
-            here = come.here;
-            pass_here = subst (λ (m : ℕ). slice_get passes' m ≡ Some come.pass) (sym at_pass)
-                (subst (λ (ps : List T). slice_get ps (length passes) ≡ Some come.pass) (sym come.pass_put) (slice_get-push_last passes come.pass));
             lines_here = subst (λ (m : ℕ). slice_get lines' m ≡ Some come.own) (sym at_lines)
                 (subst (λ (ls : List (List Line)). slice_get ls (length lines) ≡ Some come.own) (sym come.lines_put) (slice_get-push_last lines come.own));
-            back = come.back;
-            stands = come.stands;
             free = λ none. come.free (weaker none).1;
             left = λ none. come.left (weaker none).1;
           })
@@ -216,12 +220,14 @@ module _ {P T E : Type 0} (meaning : P → ℕ → ℕ → Meaning) (r : Rows P)
   }
 
 module _ {P T : Type 0} where
-  -- a caller that made no call is back as it was
-  pub unused_back : (meaning : P → ℕ → ℕ → Meaning) (r : Rows P) (fits : Fits T) (count : T → Option PassCount) (course : Course) (b : Bench P) (passes : List T) (operations : List (List ℕ)) (i : ℕ)
-      → i < length passes → IsUnused b i → AreInOrder (IsFreshPass r fits count operations) passes → IsBackOn meaning r fits count course b passes i
-  unused_back meaning r fits count course b passes operations i low unused fresh =
-      let here = item_at passes i low in
-      let free = fresh i here.0 here.1 in
+  -- callers that made no call are back as they were
+  pub unused_back : (meaning : P → ℕ → ℕ → Meaning) (r : Rows P) (fits : Fits T) (count : T → Option PassCount) (plan : Plan) (allotments : List ℕ) (b : Bench P) (passes : List T)
+      → MayStart meaning plan r b → AreFreshPasses r fits count plan.operations passes → (i : ℕ) → i < length plan.operations
+      → IsBackOn meaning r fits count plan.operations allotments b passes i
+  unused_back meaning r fits count plan allotments b passes starts fresh i low =
+      let unused = starts.unused i low in
+      let here = item_at passes i (omega (arith, low, fresh.as_many)) in
+      let free = fresh.each i here.0 here.1 in
       let calls : calls_in unused.local ≡ [] = ap (λ (p : Progress). p.calls) unused.none in
       record {
         local = unused.local;
@@ -232,9 +238,9 @@ module _ {P T : Type 0} where
         back = record {
           fits_caller = subst (λ (steps : List Object_step). fits r.callers r.cap here.0 i steps) (sym (ap (λ (p : Progress). p.steps) unused.none)) free.fits_caller;
           within = omega arith;
-          phases = subst (λ (p : Progress). IsProgressAfter (operations_at course.operations i) 0 p) (sym unused.none) (no_phase (operations_at course.operations i));
+          phases = subst (λ (p : Progress). IsProgressAfter (operations_at plan.operations i) 0 p) (sym unused.none) (no_phase (operations_at plan.operations i));
           asked = record { unasked = λ e. absurd (omega (arith, e)); asked = λ e. absurd (omega (arith, e)) };
-          counts = if_some_as (count here.0) (IsNewCount (length (operations_at operations i))) (IsCountOf 0 unused.local)
+          counts = if_some_as (count here.0) (IsNewCount (length (operations_at plan.operations i))) (IsCountOf 0 unused.local)
               (λ k h. record {
                 asked_for = h.none;
                 told_is = if_some_as k.told (λ pairs. pairs ≡ []) (IsTold 0 (calls_in unused.local)) (λ pairs none. subst (λ (ps : List (ℕ × ℕ)). IsTold 0 (calls_in unused.local) ps) (sym none)
@@ -247,16 +253,3 @@ module _ {P T : Type 0} where
           standing = record { within = λ other. absurd (other refl); between = λ live. (unused.idle, refl) };
         };
       }
-
-  -- what is said beside its lines
-  pub back_on : (meaning : P → ℕ → ℕ → Meaning) (r : Rows P) (says : Says) (fits : Fits T) (count : T → Option PassCount) (course : Course) (b : Bench P) (passes : List T) (lines : List (List Line)) (wanted : Bool) (i : ℕ)
-      → IsBack meaning r says fits count course b passes lines wanted i → IsBackOn meaning r fits count course b passes i
-  back_on meaning r says fits count course b passes lines wanted i h = record {
-    local = h.local;
-    pass = h.pass;
-    phases = h.phases;
-    here = h.here;
-    pass_here = h.pass_here;
-    back = h.back;
-    stands = h.stands;
-  }

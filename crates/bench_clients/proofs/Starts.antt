@@ -1,11 +1,11 @@
 -- Callers that have made no phase, their clients, and what a script gives them.
 use Rattle.std.proofs.Common.{◌≡◌, ◌≢◌, ◌∙◌, sym, subst, ap, refl, inl, inr, ℕ, zero, suc, ◌+◌, ◌*◌, ◌<◌, ◌≤◌, List, [], ◌∷◌, Some, None, length, slice_index, arith}
-use Rattle.std.specs.Prelude.{Option, IfSome, slice_index_or}
+use Rattle.std.specs.Prelude.{Option, IfSome}
 use Rattle.std.proofs.lemmas.Bool.{cases_lt}
 use Rattle.std.proofs.lemmas.Option.{same_Some}
 use Rattle.std.proofs.lemmas.List.FromFn.{get_or-map-range_with_len}
 use Rattle.world_core.specs.Shape.{Meaning}
-use Rattle.world_core.specs.Local.{Local, Object_step, IsIdle}
+use Rattle.world_core.specs.Local.{Local, Object_step, IsIdle, fresh}
 use Rattle.world_core.specs.CallSteps.{all_steps_of}
 use Rattle.world_core.specs.Calls.{Made}
 use Rattle.call_lines.specs.declared.line.Line.{Line}
@@ -14,7 +14,8 @@ use Rattle.call_lines.specs.Allotments.{phases_for, stop_at, operations_at, allo
 use Rattle.row_table.specs.declared.caller.Caller.{Caller}
 use Rattle.row_table.specs.declared.rows.Rows.{Rows}
 use Rattle.row_table.specs.declared.bench.Bench.{Bench}
-use Rattle.row_table.specs.Callers.{local_with, stance_of, who_of, on_bench, stance_on, IsCallerOf}
+use Rattle.row_table.specs.Benches.{fresh_stance}
+use Rattle.row_table.specs.Callers.{local_with, stance_of, who_of, on_bench, stance_on, IsCallerOf, IsBenchOf}
 use Rattle.row_gather.specs.Gathered.{IsGatheredBy}
 use Rattle.text_fields.specs.Counts.{AreAtMost}
 use Rattle.client_scripts.specs.Plans.{Plan, AreStops, sizes}
@@ -27,7 +28,7 @@ use Rattle.call_phases.specs.Keeping.{KeepsStanding}
 use Rattle.call_phases.specs.declared.sheet.Sheet.{Sheet}
 use Rattle.call_phases.specs.declared.client.Client.{Client}
 use Rattle.bench_clients.specs.Work.{Says}
-use Rattle.bench_clients.specs.Starts.{Course, course_of, HaveRoomFor, IsFresh, IsUnused, HoldsBelow, IsRoomFor, IsNewCount, IsFreshPass, IsStart}
+use Rattle.bench_clients.specs.Starts.{run_allotments, course_of, HaveRoomFor, IsFresh, IsUnused, MayBegin, HoldsBelow, IsRoomFor, IsNewCount, IsFreshPass, IsStart}
 
 -- a caller without calls has made no phase
 pub no_phase : (operations : List ℕ) → IsProgressAfter operations 0 no_progress
@@ -107,6 +108,22 @@ operations_within most [] i h = omega arith
 operations_within most (ops ∷ operations) zero h = h.0
 operations_within most (ops ∷ operations) (suc i) h = operations_within most operations i h.1
 
+-- a run may begin on rows that were opened for a plan's callers and so many more, with their bench
+pub may_begin : {P : Type 0} (meaning : P → ℕ → ℕ → Meaning) (plan : Plan) (beside n cap : ℕ) (r : Rows P) (b : Bench P) → n ≡ length plan.operations + beside → AreAtMost cap (sizes plan.operations)
+    → r.callers ≡ n → r.cap ≡ cap → IsBenchOf meaning r b → ((i : ℕ) → i < n → (on_bench b i ≡ Some fresh) × (stance_on b i ≡ Some fresh_stance)) → MayBegin meaning plan beside r b
+may_begin meaning plan beside n cap r b all few callers most of opened =
+    let unused : (i : ℕ) → i < n → IsUnused b i = λ i low.
+    record { local = fresh; here = (opened i low).0; stance = (opened i low).1; idle = record { announcing = refl; unstaged = refl }; none = refl } in
+    record {
+      starts = record {
+        rows_for = record { callers = omega (arith, callers, all); cap = λ i. omega (arith, operations_within cap plan.operations i few, most) };
+        bench_of = of;
+        unused = λ i low. unused i (omega (arith, low, all));
+      };
+      callers = callers ∙ all;
+      others = λ i high low. unused i (omega (arith, low, callers));
+    }
+
 -- no stop is behind all phases
 pub stops_within : (operations : List (List ℕ)) (stops : List (Option ℕ)) (i : ℕ) → AreStops (sizes operations) stops
     → phases_for (stop_at stops i) (length (operations_at operations i)) ≤ 5 * length (operations_at operations i)
@@ -133,15 +150,14 @@ fresh_fits meaning r fits pass c caller fresh h =
     (subst (λ (steps : List Object_step). fits r.callers r.cap pass (who_of c) steps) (sym (ap (λ (p : Progress). p.steps) fresh.none)) h))
 
 -- the worker of a fresh caller
-module _ {P T E : Type 0} (meaning : P → ℕ → ℕ → Meaning) (r : Rows P) (says : Says) (object : E → Sequential) (fits : Fits T) (count : T → Option PassCount) (course : Course) (plan : Plan) where
+module _ {P T E : Type 0} (meaning : P → ℕ → ℕ → Meaning) (r : Rows P) (says : Says) (object : E → Sequential) (fits : Fits T) (count : T → Option PassCount) (plan : Plan) (judged : Sequential) where
   pub fresh_start : (c : Caller P) (pass : T) (sheet : Sheet E) (kept : ∥ IsGatheredBy (local_with c) sheet.gathered ∥₁) (stands : KeepsStanding (object sheet.ending) sheet) (allotment : ℕ)
-      → course ≡ course_of plan (allotments_of plan.operations plan.stops) course.object → HaveRoomFor plan r
+      → HaveRoomFor plan r
       → IsCallerOf meaning r c → IsFresh c → IsFreshPass r fits count plan.operations (who_of c) pass
-      → sheet.who ≡ who_of c → sheet.operations.now ≡ operations_at plan.operations (who_of c) → IsRoomFor plan.operations (who_of c) (record { lines = sheet.lines }) → object sheet.ending ≡ course.object
-      → allotment ≡ slice_index (allotments_of plan.operations plan.stops) (who_of c) → allotment ≤ 5 * length (operations_at plan.operations (who_of c))
-      → IsStart meaning r says object fits count course (who_of c) (record { client = Some (record { stand = Idle c; pass = pass; sheet = sheet; kept = kept }); allotment = allotment })
-  fresh_start c pass sheet kept stands allotment is rows caller fresh free who operations empty judges phases within =
-      let ops : operations_at course.operations (who_of c) ≡ operations_at plan.operations (who_of c) = ap (λ (k : Course). operations_at k.operations (who_of c)) is in
+      → sheet.who ≡ who_of c → sheet.operations.now ≡ operations_at plan.operations (who_of c) → IsRoomFor plan.operations (who_of c) (record { lines = sheet.lines }) → object sheet.ending ≡ judged
+      → allotment ≡ slice_index (run_allotments plan) (who_of c) → allotment ≤ 5 * length (operations_at plan.operations (who_of c))
+      → IsStart meaning r says object fits count (course_of plan (run_allotments plan) judged) (who_of c) (record { client = Some (record { stand = Idle c; pass = pass; sheet = sheet; kept = kept }); allotment = allotment })
+  fresh_start c pass sheet kept stands allotment rows caller fresh free who operations empty judges phases within =
       let client : Client P T E = record { stand = Idle c; pass = pass; sheet = sheet; kept = kept } in
       let few : length sheet.operations.now ≡ length (operations_at plan.operations (who_of c)) = ap (λ (o : List ℕ). length o) operations in
       record {
@@ -163,11 +179,11 @@ module _ {P T E : Type 0} (meaning : P → ℕ → ℕ → Meaning) (r : Rows P)
             stands = stands;
           };
           who = who;
-          operations = operations ∙ sym ops;
+          operations = operations;
           judges = judges;
         };
         goes = tt;
         none = ap (λ (o : List Line). 5 * length o + 0) empty.none;
-        allotment = phases ∙ sym (ap (λ (k : Course). slice_index k.allotments (who_of c)) is);
+        allotment = phases;
         within = omega (arith, few, within);
       }

@@ -5,7 +5,7 @@ use Rattle.std.specs.List.{AllByRecursion}
 use Rattle.std.proofs.lemmas.Bool.{eq-eqb, ne_eqb}
 use Rattle.std.proofs.lemmas.List.Sums.{count_by_more_yes, count_by_more_no}
 use Rattle.std.proofs.lemmas.List.FromFn.{get_or-map-range_with_len}
-use Rattle.call_lines.specs.Allotments.{operations_at, turns_of, allotments_of, allotments_by_turns}
+use Rattle.call_lines.specs.Allotments.{turns_of}
 use Rattle.client_scripts.specs.Plans.{Plan}
 use Rattle.bench_clients.specs.Places.{AreDownFrom}
 use Rattle.std.proofs.lemmas.Option.{none-some, same_Some}
@@ -20,7 +20,7 @@ use Rattle.call_phases.specs.Stands.{GoesOnFrom}
 use Rattle.call_phases.specs.Clients.{phases_by, HasSpent}
 use Rattle.call_phases.proofs.Spending.{spent_by, spent_exact, spent_more}
 use Rattle.bench_clients.specs.Work.{Says}
-use Rattle.bench_clients.specs.Starts.{Course, course_of, IsClientOf, IsStart}
+use Rattle.bench_clients.specs.Starts.{run_allotments, replay_allotments, Course, course_of, IsClientOf, IsStart}
 use Rattle.bench_clients.specs.Returns.{IsSpent}
 use Rattle.bench_clients.specs.Turns.{IsTurned, IsTurning, HasTurned}
 use Rattle.bench_clients.specs.declared.worker.Worker.{Worker}
@@ -153,23 +153,16 @@ module _ {P T E : Type 0} (meaning : P → ℕ → ℕ → Meaning) (r : Rows P)
             subst (λ (m : ℕ). IsTurned meaning r says object fits count course i m x) (sym (more_other turns k i low unnamed)) (all i j x here other.1)
       ]
 
-  -- behind all turns each worker has spent what it was given
-  pub turned_spent : (plan : Plan) (i : ℕ) (w : Worker P T E) → course ≡ course_of plan (allotments_of plan.operations plan.stops) course.object → i < length plan.operations
-      → IsTurned meaning r says object fits count course i (turns_of plan.turns i) w
-      → IsSpent meaning r says object fits count (course_of plan (allotments_by_turns plan.operations plan.stops plan.turns) course.object) i w
-  turned_spent plan i w is low h =
-      let given : slice_index (allotments_by_turns plan.operations plan.stops plan.turns) i ≡ min (slice_index (allotments_of plan.operations plan.stops) i) (turns_of plan.turns i) =
-      get_or-map-range_with_len (λ i. min (slice_index (allotments_of plan.operations plan.stops) i) (turns_of plan.turns i)) 0 (length plan.operations) i i 0 low (omega arith) in
-      let same : min (slice_index course.allotments i) (turns_of plan.turns i) ≡ slice_index (allotments_by_turns plan.operations plan.stops plan.turns) i =
-      ap (λ (k : Course). min (slice_index k.allotments i) (turns_of plan.turns i)) is ∙ sym given in
-      record {
-        client = h.client;
-        here = h.here;
-        of = record {
-          work = h.of.work;
-          who = h.of.who;
-          operations = h.of.operations ∙ ap (λ (k : Course). operations_at k.operations i) is;
-          judges = h.of.judges;
-        };
-        spent = subst (λ (m : ℕ). HasSpent m h.client) same h.spent;
-      }
+-- behind all turns each worker has spent what it was given
+pub turned_spent : {P T E : Type 0} (meaning : P → ℕ → ℕ → Meaning) (r : Rows P) (says : Says) (object : E → Sequential) (fits : Fits T) (count : T → Option PassCount) (plan : Plan) (judged : Sequential)
+    (i : ℕ) (w : Worker P T E) → i < length plan.operations → IsTurned meaning r says object fits count (course_of plan (run_allotments plan) judged) i (turns_of plan.turns i) w
+    → IsSpent meaning r says object fits count (course_of plan (replay_allotments plan) judged) i w
+turned_spent meaning r says object fits count plan judged i w low h =
+    let given : slice_index (replay_allotments plan) i ≡ min (slice_index (run_allotments plan) i) (turns_of plan.turns i) =
+    get_or-map-range_with_len (λ i. min (slice_index (run_allotments plan) i) (turns_of plan.turns i)) 0 (length plan.operations) i i 0 low (omega arith) in
+    record {
+      client = h.client;
+      here = h.here;
+      of = record { work = h.of.work; who = h.of.who; operations = h.of.operations; judges = h.of.judges };
+      spent = subst (λ (m : ℕ). HasSpent m h.client) (sym given) h.spent;
+    }

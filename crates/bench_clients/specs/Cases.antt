@@ -2,13 +2,7 @@
 use Rattle.std.specs.Prelude.{◌≡◌, ℕ, List, [], ◌∷◌, length, Option, Some, None}
 use Rattle.world_core.specs.Local.{Local, fresh}
 use Rattle.world_core.specs.Programs.{outside}
-use Rattle.call_phases.specs.Ends.{silent}
-use Rattle.bench_clients.specs.Starts.{Course}
 use Rattle.bench_clients.specs.Returns.{IsBackWith}
-
--- A caller with the operations 5 and 7 is given so many phases.
-abbrev pub course_to : ℕ → Course
-course_to given = record { operations = (5 ∷ 7 ∷ []) ∷ []; allotments = given ∷ []; object = silent }
 
 -- The local of a caller with this second operation, and with so many records published: the first call, which has the operation 5, was
 -- answered 50, saw a cut and was judged by it, and the second call is announced.
@@ -27,11 +21,11 @@ pub record Pass : Type 0 where
   pub made : ℕ
   pub told : Option (List (ℕ × ℕ))
 
--- The caller that is given so many phases is back with this local and this pass, and has made p of them.
+-- The caller with the operations 5 and 7 that is given so many phases is back with this local and this pass, and has made p of them.
 abbrev pub IsBackAfter : ℕ → ℕ → Local → Pass → Type 0
 IsBackAfter given p l pass =
     IsBackWith (record { callers = 1; cap = 2; program = outside }) (λ n cap (pass : Pass) who steps. who ≡ 0)
-    (λ (pass : Pass). Some (record { made = pass.made; room = 2; told = pass.told })) (course_to given) 0 p l pass
+    (λ (pass : Pass). Some (record { made = pass.made; room = 2; told = pass.told })) ((5 ∷ 7 ∷ []) ∷ []) (given ∷ []) 0 p l pass
 
 -- The same local, whose second call has an object step.
 abbrev pub with_object_step : Local → Local

@@ -37,10 +37,10 @@ pub record IsCountOf (p : ℕ) (l : Local) (count : PassCount) : Type 0 where
 
 -- Caller i of a world of this shape is back with this local and this pass: it has made so many first phases of its allotment, which its pass
 -- counts, where it counts any, and the pass fits it as it stands now.
-pub record IsBackWith {T : Type 0} (s : Shape) (fits : Fits T) (count : T → Option PassCount) (course : Course) (i p : ℕ) (l : Local) (pass : T) : Type 0 where
+pub record IsBackWith {T : Type 0} (s : Shape) (fits : Fits T) (count : T → Option PassCount) (operations : List (List ℕ)) (allotments : List ℕ) (i p : ℕ) (l : Local) (pass : T) : Type 0 where
   pub fits_caller : fits s.callers s.cap pass i (all_steps_of l)
-  pub within : p ≤ slice_index course.allotments i
-  pub phases : HasMade (operations_at course.operations i) p l
+  pub within : p ≤ slice_index allotments i
+  pub phases : HasMade (operations_at operations i) p l
   pub asked : KeepsAsked s.program i p l
   pub counts : IfSome (count pass) (IsCountOf p l)
 
@@ -57,6 +57,16 @@ pub record StandsAgain {P : Type 0} (b : Bench P) (i phases : ℕ) (l : Local) :
   pub standing : IsLeftStanding phases l stance
 
 module _ {P T : Type 0} where
+  -- Caller i is back on the bench, with its pass among these.
+  pub record IsBackOn (meaning : P → ℕ → ℕ → Meaning) (r : Rows P) (fits : Fits T) (count : T → Option PassCount) (operations : List (List ℕ)) (allotments : List ℕ) (b : Bench P) (passes : List T) (i : ℕ) : Type 0 where
+    pub local : Local
+    pub pass : T
+    pub phases : ℕ
+    pub here : on_bench b i ≡ Some local
+    pub pass_here : slice_get passes i ≡ Some pass
+    pub back : IsBackWith (shape_of meaning r) fits count operations allotments i phases local pass
+    pub stands : StandsAgain b i phases local
+
   -- What a caller i leaves that comes back to the bench: its pass is put behind the others, and so are its lines. Where no
   -- line is an error and it stopped between two calls, or made all of them, it is free for its next call.
   pub record ComesBack (meaning : P → ℕ → ℕ → Meaning) (r : Rows P) (says : Says) (fits : Fits T) (count : T → Option PassCount) (course : Course) (i : ℕ) (b : Bench P) (passes passes' : List T) (lines lines' : List (List Line)) (wanted : Bool) : Type 0 where
@@ -67,37 +77,21 @@ module _ {P T : Type 0} where
     pub here : on_bench b i ≡ Some local
     pub pass_put : passes' ≡ passes ++ pass ∷ []
     pub lines_put : lines' ≡ lines ++ own ∷ []
-    pub back : IsBackWith (shape_of meaning r) fits count course i phases local pass
+    pub back : IsBackWith (shape_of meaning r) fits count course.operations course.allotments i phases local pass
     pub stands : StandsAgain b i phases local
     pub free : wanted ≡ false → any_error own ≡ false → phases % 5 ≡ 0 → stands.stance ≡ fresh_stance
     pub left : wanted ≡ false → HasLeftLines says r.callers course i phases local own
 
-  -- Caller i is back on the bench, with its pass among these and its lines among those. Where memory was wanted, of whichever caller,
-  -- nothing is said of lines.
+  -- Caller i is back on the bench with its pass, and its lines are among these. Where memory was wanted, of whichever caller, nothing is
+  -- said of lines.
   pub record IsBack (meaning : P → ℕ → ℕ → Meaning) (r : Rows P) (says : Says) (fits : Fits T) (count : T → Option PassCount) (course : Course) (b : Bench P) (passes : List T) (lines : List (List Line)) (wanted : Bool) (i : ℕ) : Type 0 where
-    pub local : Local
-    pub pass : T
+    pub on : IsBackOn meaning r fits count course.operations course.allotments b passes i
     pub own : List Line
-    pub phases : ℕ
-    pub here : on_bench b i ≡ Some local
-    pub pass_here : slice_get passes i ≡ Some pass
     pub lines_here : slice_get lines i ≡ Some own
-    pub back : IsBackWith (shape_of meaning r) fits count course i phases local pass
-    pub stands : StandsAgain b i phases local
-    pub free : wanted ≡ false → any_error own ≡ false → phases % 5 ≡ 0 → stands.stance ≡ fresh_stance
-    pub left : wanted ≡ false → HasLeftLines says r.callers course i phases local own
+    pub free : wanted ≡ false → any_error own ≡ false → on.phases % 5 ≡ 0 → on.stands.stance ≡ fresh_stance
+    pub left : wanted ≡ false → HasLeftLines says r.callers course i on.phases on.local own
 
   -- Of the first n callers those below k are back, and no other.
   pub record AreBack (meaning : P → ℕ → ℕ → Meaning) (r : Rows P) (says : Says) (fits : Fits T) (count : T → Option PassCount) (n k : ℕ) (course : Course) (b : Bench P) (passes : List T) (lines : List (List Line)) (wanted : Bool) : Type 0 where
     pub back : (i : ℕ) → i < k → IsBack meaning r says fits count course b passes lines wanted i
     pub gone : (i : ℕ) → k ≤ i → i < n → on_bench b i ≡ None
-
-  -- Caller i is back on the bench, with its pass among these.
-  pub record IsBackOn (meaning : P → ℕ → ℕ → Meaning) (r : Rows P) (fits : Fits T) (count : T → Option PassCount) (course : Course) (b : Bench P) (passes : List T) (i : ℕ) : Type 0 where
-    pub local : Local
-    pub pass : T
-    pub phases : ℕ
-    pub here : on_bench b i ≡ Some local
-    pub pass_here : slice_get passes i ≡ Some pass
-    pub back : IsBackWith (shape_of meaning r) fits count course i phases local pass
-    pub stands : StandsAgain b i phases local

@@ -1,13 +1,13 @@
 -- What callers and passes are before any call, and the workers that are made of them.
-use Rattle.std.specs.Prelude.{◌≡◌, ℕ, ◌*◌, ◌<◌, ◌≤◌, List, [], Option, Some, None, IfSome, length, slice_index, vec_capacity}
+use Rattle.std.specs.Prelude.{◌≡◌, ℕ, ◌+◌, ◌*◌, ◌<◌, ◌≤◌, List, [], Option, Some, None, IfSome, length, slice_index, vec_capacity}
 use Rattle.world_core.specs.Shape.{Meaning}
 use Rattle.world_core.specs.Local.{Local, IsIdle}
 use Rattle.call_lines.specs.Phases.{progress_of, no_progress}
-use Rattle.call_lines.specs.Allotments.{operations_at}
+use Rattle.call_lines.specs.Allotments.{operations_at, allotments_of, allotments_by_turns}
 use Rattle.row_table.specs.declared.rows.Rows.{Rows}
 use Rattle.row_table.specs.declared.caller.Caller.{Caller}
 use Rattle.row_table.specs.declared.bench.Bench.{Bench}
-use Rattle.row_table.specs.Callers.{local_with, stance_of, on_bench, stance_on}
+use Rattle.row_table.specs.Callers.{local_with, stance_of, on_bench, stance_on, IsBenchOf}
 use Rattle.drv_wrapper.specs.Stands.{ready}
 use Rattle.client_scripts.specs.Plans.{Plan}
 use Rattle.reports.specs.declared.report.Own.{Own}
@@ -16,8 +16,20 @@ use Rattle.call_phases.specs.Ends.{Sequential}
 use Rattle.call_phases.specs.Stands.{GoesOnFrom}
 use Rattle.call_phases.specs.Clients.{phases_by}
 use Rattle.call_phases.specs.declared.client.Client.{Client}
+use Rattle.bench_clients.specs.Places.{AreInOrder}
 use Rattle.bench_clients.specs.Work.{Says, IsAtWork}
 use Rattle.bench_clients.specs.declared.worker.Worker.{Worker}
+
+-- A sequential object of some type, by how it begins and goes on.
+abbrev pub object_by : {S : Type 0} → (S → List ℕ) → (S → List ℕ → ℕ → List ℕ × ℕ) → S → Sequential
+object_by init next sequential = record { init = init sequential; next = next sequential }
+
+-- How many phases each of a plan's callers may make, where they go on by themselves, and where they take the plan's turns.
+abbrev pub run_allotments : Plan → List ℕ
+run_allotments plan = allotments_of plan.operations plan.stops
+
+abbrev pub replay_allotments : Plan → List ℕ
+replay_allotments plan = allotments_by_turns plan.operations plan.stops plan.turns
 
 -- What all callers are given: each its operations and how many phases it may make, and the sequential object that calls are judged by.
 pub record Course : Type 0 where
@@ -30,11 +42,6 @@ abbrev pub course_of : Plan → List ℕ → Sequential → Course
 course_of plan allotments object = record { operations = plan.operations; allotments = allotments; object = object }
 
 module _ {P : Type 0} where
-  -- These rows have just the callers of a plan, and room for the calls of each.
-  pub record AreRowsFor (plan : Plan) (r : Rows P) : Type 0 where
-    pub callers : r.callers ≡ length plan.operations
-    pub cap : (i : ℕ) → length (operations_at plan.operations i) ≤ r.cap
-
   -- These rows have room for the callers of a plan, and for the calls of each. They may have more callers.
   pub record HaveRoomFor (plan : Plan) (r : Rows P) : Type 0 where
     pub callers : length plan.operations ≤ r.callers
@@ -53,6 +60,20 @@ module _ {P : Type 0} where
     pub stance : stance_on b i ≡ Some ready
     pub idle : IsIdle local
     pub none : progress_of local ≡ no_progress
+
+  -- The callers of a plan may start on these rows, with this bench: the rows have room for them, and the bench is theirs and holds each of
+  -- the plan's callers, unused.
+  pub record MayStart (meaning : P → ℕ → ℕ → Meaning) (plan : Plan) (r : Rows P) (b : Bench P) : Type 0 where
+    pub rows_for : HaveRoomFor plan r
+    pub bench_of : IsBenchOf meaning r b
+    pub unused : (i : ℕ) → i < length plan.operations → IsUnused b i
+
+  -- A whole run of a plan may begin, with so many callers beside the plan's: its callers may start, the rows have just these callers, and
+  -- those beside the plan's are unused too.
+  pub record MayBegin (meaning : P → ℕ → ℕ → Meaning) (plan : Plan) (beside : ℕ) (r : Rows P) (b : Bench P) : Type 0 where
+    pub starts : MayStart meaning plan r b
+    pub callers : r.callers ≡ length plan.operations + beside
+    pub others : (i : ℕ) → length plan.operations ≤ i → i < r.callers → IsUnused b i
 
   -- From caller n on both benches hold the same callers, standing the same.
   abbrev pub AreAlikeFrom : ℕ → Bench P → Bench P → Type 0
@@ -81,6 +102,11 @@ pub record IsNewCount (operations : ℕ) (count : PassCount) : Type 0 where
 pub record IsFreshPass {P T : Type 0} (r : Rows P) (fits : Fits T) (count : T → Option PassCount) (operations : List (List ℕ)) (i : ℕ) (pass : T) : Type 0 where
   pub fits_caller : fits r.callers r.cap pass i []
   pub counts : IfSome (count pass) (IsNewCount (length (operations_at operations i)))
+
+-- There is such a pass for each caller, in order.
+pub record AreFreshPasses {P T : Type 0} (r : Rows P) (fits : Fits T) (count : T → Option PassCount) (operations : List (List ℕ)) (passes : List T) : Type 0 where
+  pub as_many : length passes ≡ length operations
+  pub each : AreInOrder (IsFreshPass r fits count operations) passes
 
 module _ {P T E : Type 0} where
   -- The client of caller i, at work on its course.

@@ -1,11 +1,11 @@
-ghost use Rattle.std.specs.Prelude.{◌≡◌, ℕ, ◌<◌, ◌≤◌, false, List, [], map, length, vec_len, vec_capacity, IfOk};
+ghost use Rattle.std.specs.Prelude.{◌≡◌, ℕ, ◌<◌, ◌≤◌, false, length, vec_len, vec_capacity, IfOk};
 ghost use Rattle.std.specs.List.{All, AllZip};
-ghost use Rattle.call_lines.specs.Allotments.{allotments_of};
 ghost use Rattle.row_table.specs.Callers.{IsBenchOf};
+ghost use Rattle.call_phases.specs.Ends.{Sequential};
 ghost use Rattle.reports.specs.ReportLayout.{lines_in};
 ghost use Rattle.bench_clients.specs.Places.{AreInOrder};
 ghost use Rattle.bench_clients.specs.Work.{IsReady, HasRun};
-ghost use Rattle.bench_clients.specs.Starts.{Course, course_of, HaveRoomFor, AreAlikeFrom, IsUnused, IsRoomFor, IsFreshPass};
+ghost use Rattle.bench_clients.specs.Starts.{run_allotments, course_of, MayStart, AreAlikeFrom, IsRoomFor, AreFreshPasses};
 ghost use Rattle.bench_clients.specs.Returns.{IsBackOn, AreBack};
 
 use crate::end::end_all;
@@ -75,30 +75,25 @@ pub fn run_all<
     script: &'a Script,
     endings: Vec<E>,
 ) -> Result<Vec<Own>, NoMemory>
-    ghost course: { Course }
-    requires course { course ≡ course_of script.now
-        (allotments_of script.now.operations script.now.stops) course.object }
+    ghost object: { Sequential }
     requires serves { A.serves shared.now.asks.now shared.now.rows.now }
-    requires rows { HaveRoomFor script.now shared.now.rows.now }
-    requires bench { IsBenchOf P.meaning shared.now.rows.now bench.old }
-    requires unused { (i : ℕ) → i < length script.now.operations → IsUnused bench.old i }
-    requires all_passes { vec_len passes.old ≡ length script.now.operations }
-    requires passes { AreInOrder (IsFreshPass shared.now.rows.now (A.fits shared.now.asks.now) A.count
-        script.now.operations) passes.old.items }
+    requires starts { MayStart P.meaning script.now shared.now.rows.now bench.old }
+    requires passes { AreFreshPasses shared.now.rows.now (A.fits shared.now.asks.now) A.count
+        script.now.operations passes.old.items }
     requires all_endings { vec_len endings ≡ length script.now.operations }
-    requires endings { All (λ e. E.object e ≡ course.object) endings.items }
+    requires endings { All (λ e. E.object e ≡ object) endings.items }
     ensures bench { IsBenchOf P.meaning shared.now.rows.now bench.new }
     ensures others { AreAlikeFrom (length script.now.operations) bench.old bench.new }
     ensures all_passes { vec_len passes.new ≡ length script.now.operations }
     ensures capacity { vec_capacity passes.old ≤ vec_capacity passes.new }
     ensures back { (i : ℕ) → i < length script.now.operations
-        → IsBackOn P.meaning shared.now.rows.now
-        (A.fits shared.now.asks.now) A.count course bench.new passes.new.items i }
+        → IsBackOn P.meaning shared.now.rows.now (A.fits shared.now.asks.now) A.count
+        script.now.operations (run_allotments script.now) bench.new passes.new.items i }
     ensures all_lines { IfOk result (λ lines. vec_len lines ≡ length script.now.operations) }
     ensures lines { IfOk result (λ lines. AreBack P.meaning shared.now.rows.now E.says
-        (A.fits shared.now.asks.now) A.count
-        (length script.now.operations) (length script.now.operations) course bench.new
-        passes.new.items (lines_in lines.items) false) }
+        (A.fits shared.now.asks.now) A.count (length script.now.operations) (length script.now.operations)
+        (course_of script.now (run_allotments script.now) object)
+        bench.new passes.new.items (lines_in lines.items) false) }
 {
     let callers = script.callers() as usize;
     let room = make_room(alloc, script)?;

@@ -1,11 +1,12 @@
 ghost use Rattle.std.specs.Prelude.{◌≡◌, ℕ, ◌*◌, ◌<◌, ◌≤◌, [], None, length, slice_index, vec_len, vec_capacity};
 ghost use Rattle.std.specs.List.{All};
 ghost use Rattle.row_table.specs.Callers.{IsBenchOf, IsCallerOf, who_of, on_bench};
-ghost use Rattle.call_lines.specs.Allotments.{operations_at, allotments_of};
+ghost use Rattle.call_lines.specs.Allotments.{operations_at};
+ghost use Rattle.call_phases.specs.Ends.{Sequential};
 ghost use Rattle.text_fields.specs.declared.version.Version.TheVariants.{Second};
 ghost use Rattle.client_scripts.specs.Plans.{IsPlan};
 ghost use Rattle.bench_clients.specs.Places.{AreDownFrom, AreInOrder};
-ghost use Rattle.bench_clients.specs.Starts.{Course, course_of, HaveRoomFor, AreAlikeFrom, IsFresh, IsUnused, IsRoomFor, IsFreshPass, IsStart};
+ghost use Rattle.bench_clients.specs.Starts.{run_allotments, course_of, HaveRoomFor, MayStart, AreAlikeFrom, IsFresh, IsRoomFor, IsFreshPass, AreFreshPasses, IsStart};
 
 use crate::worker::Worker;
 use call_phases::{Asks, Client, Ending, Shared, Sheet, Stand};
@@ -19,7 +20,7 @@ use world_core::Program;
 pub fn allotment_of(script: &Script, who: u32) -> u64
     requires plan { IsPlan Second script.now }
     requires who { who < length script.now.operations }
-    ensures allotment { result ≡ slice_index (allotments_of script.now.operations script.now.stops) who }
+    ensures allotment { result ≡ slice_index (run_allotments script.now) who }
     ensures within { result ≤ 5 * length (operations_at script.now.operations who) }
 {
     match script.stop(who) {
@@ -37,9 +38,7 @@ fn begin<'a, P: Program, T, E: Ending, A: Asks<Program = P, Pass = T>>(
     own: Own,
     ending: E,
 ) -> Worker<'a, P, T, E>
-    ghost course: { Course }
-    requires course { course ≡ course_of script.now
-        (allotments_of script.now.operations script.now.stops) course.object }
+    ghost object: { Sequential }
     requires plan { IsPlan Second script.now }
     requires rows { HaveRoomFor script.now _shared.now.rows.now }
     requires caller { IsCallerOf P.meaning _shared.now.rows.now caller }
@@ -47,10 +46,10 @@ fn begin<'a, P: Program, T, E: Ending, A: Asks<Program = P, Pass = T>>(
     requires pass { IsFreshPass _shared.now.rows.now (A.fits _shared.now.asks.now) A.count
         script.now.operations (who_of caller) pass }
     requires room { IsRoomFor script.now.operations (who_of caller) own }
-    requires ending { E.object ending ≡ course.object }
+    requires ending { E.object ending ≡ object }
     requires below { who_of caller < length script.now.operations }
-    ensures { IsStart P.meaning _shared.now.rows.now E.says E.object
-        (A.fits _shared.now.asks.now) A.count course (who_of caller) result }
+    ensures { IsStart P.meaning _shared.now.rows.now E.says E.object (A.fits _shared.now.asks.now) A.count
+        (course_of script.now (run_allotments script.now) object) (who_of caller) result }
 {
     let who = caller.who();
     let operations = script.operations(who);
@@ -88,19 +87,14 @@ pub fn start_all<'a, P: Program, T, E: Ending, A: Asks<Program = P, Pass = T>>(
     mut endings: Vec<E>,
     workers: &mut Vec<Worker<'a, P, T, E>>,
 )
-    ghost course: { Course }
-    requires course { course ≡ course_of script.now
-        (allotments_of script.now.operations script.now.stops) course.object }
-    requires rows { HaveRoomFor script.now shared.now.rows.now }
-    requires bench { IsBenchOf P.meaning shared.now.rows.now bench.old }
-    requires unused { (i : ℕ) → i < length script.now.operations → IsUnused bench.old i }
-    requires all_passes { vec_len passes.old ≡ length script.now.operations }
-    requires passes { AreInOrder (IsFreshPass shared.now.rows.now (A.fits shared.now.asks.now) A.count
-        script.now.operations) passes.old.items }
+    ghost object: { Sequential }
+    requires starts { MayStart P.meaning script.now shared.now.rows.now bench.old }
+    requires passes { AreFreshPasses shared.now.rows.now (A.fits shared.now.asks.now) A.count
+        script.now.operations passes.old.items }
     requires all_rooms { vec_len room ≡ length script.now.operations }
     requires rooms { AreInOrder (IsRoomFor script.now.operations) room.items }
     requires all_endings { vec_len endings ≡ length script.now.operations }
-    requires endings { All (λ e. E.object e ≡ course.object) endings.items }
+    requires endings { All (λ e. E.object e ≡ object) endings.items }
     requires none_yet { workers.old.items ≡ [] }
     requires capacity { length script.now.operations ≤ vec_capacity workers.old }
     ensures bench { IsBenchOf P.meaning shared.now.rows.now bench.new }
@@ -110,7 +104,8 @@ pub fn start_all<'a, P: Program, T, E: Ending, A: Asks<Program = P, Pass = T>>(
     ensures capacity { vec_capacity passes.new ≡ vec_capacity passes.old }
     ensures all { vec_len workers.new ≡ length script.now.operations }
     ensures workers { AreDownFrom (length script.now.operations)
-        (IsStart P.meaning shared.now.rows.now E.says E.object (A.fits shared.now.asks.now) A.count course) workers.new.items }
+        (IsStart P.meaning shared.now.rows.now E.says E.object (A.fits shared.now.asks.now) A.count
+        (course_of script.now (run_allotments script.now) object)) workers.new.items }
 {
     let mut left = script.callers();
     while left > 0 {

@@ -1,10 +1,10 @@
 ghost use Rattle.std.specs.Prelude.{◌≡◌, ℕ, ◌<◌, ◌≤◌, false, length, vec_len, vec_capacity, IfOk};
 ghost use Rattle.std.specs.List.{All};
-ghost use Rattle.call_lines.specs.Allotments.{allotments_of, allotments_by_turns};
+ghost use Rattle.call_phases.specs.Ends.{Sequential};
 ghost use Rattle.row_table.specs.Callers.{IsBenchOf};
 ghost use Rattle.reports.specs.ReportLayout.{lines_in};
-ghost use Rattle.bench_clients.specs.Places.{AreDownFrom, AreInOrder};
-ghost use Rattle.bench_clients.specs.Starts.{Course, course_of, HaveRoomFor, AreAlikeFrom, IsUnused, IsFreshPass, IsStart};
+ghost use Rattle.bench_clients.specs.Places.{AreDownFrom};
+ghost use Rattle.bench_clients.specs.Starts.{run_allotments, replay_allotments, course_of, MayStart, AreAlikeFrom, AreFreshPasses, IsStart};
 ghost use Rattle.bench_clients.specs.Returns.{IsSpent, IsBackOn, AreBack};
 ghost use Rattle.bench_clients.specs.Turns.{IsTurning, HasTurned};
 
@@ -52,78 +52,31 @@ impl<'a, P: Program, T, E: Ending> Worker<'a, P, T, E> {
     }
 }
 
-/// At each turn of a script the worker of the caller that it names makes its next phase, where one
-/// is left and it isn't halted.
-pub(crate) fn take_turns<'a, P: Program, T, E: Ending, A: Asks<Program = P, Pass = T>, L: Ledger>(
-    shared: &Shared<A, P>,
-    script: &Script,
-    workers: &mut Vec<Worker<'a, P, T, E>>,
-    steps: &mut Steps<L>,
-)
-    ghost course: { Course }
-    requires course { course ≡ course_of script.now
-        (allotments_of script.now.operations script.now.stops) course.object }
-    requires serves { A.serves shared.now.asks.now shared.now.rows.now }
-    requires all { length workers.old.items ≡ length script.now.operations }
-    requires workers { AreDownFrom (length script.now.operations)
-        (IsStart P.meaning shared.now.rows.now E.says E.object (A.fits shared.now.asks.now) A.count course) workers.old.items }
-    ensures all { length workers.new.items ≡ length script.now.operations }
-    ensures workers { AreDownFrom (length script.now.operations)
-        (IsSpent P.meaning shared.now.rows.now E.says E.object (A.fits shared.now.asks.now) A.count (course_of script.now
-        (allotments_by_turns script.now.operations script.now.stops script.now.turns)
-        course.object)) workers.new.items }
-{
-    let last = script.callers() as usize - 1;
-    for turn in script.turns() {
-        workers[last - *turn as usize].take_turn(shared, steps);
-    }
-}
-
-// The same, with the steps counted by themselves.
-fn take_turns_counted<'a, P: Program, T, E: Ending, A: Asks<Program = P, Pass = T>, L: Ledger>(
+// At each turn of a script the worker of the caller that it names makes its next phase, where one
+// is left and it isn't halted. Steps are counted by themselves.
+fn take_turns<'a, P: Program, T, E: Ending, A: Asks<Program = P, Pass = T>, L: Ledger>(
     shared: &Shared<A, P>,
     script: &Script,
     workers: &mut Vec<Worker<'a, P, T, E>>,
     blank: Blank,
 )
-    ghost course: { Course }
+    ghost object: { Sequential }
     requires blank { (blank.name ≡ L.name) × (blank.parts ≡ L.parts) × (0 < blank.parts) }
-    requires course { course ≡ course_of script.now
-        (allotments_of script.now.operations script.now.stops) course.object }
     requires serves { A.serves shared.now.asks.now shared.now.rows.now }
     requires all { length workers.old.items ≡ length script.now.operations }
     requires workers { AreDownFrom (length script.now.operations)
-        (IsStart P.meaning shared.now.rows.now E.says E.object (A.fits shared.now.asks.now) A.count course) workers.old.items }
+        (IsStart P.meaning shared.now.rows.now E.says E.object (A.fits shared.now.asks.now) A.count
+        (course_of script.now (run_allotments script.now) object)) workers.old.items }
     ensures all { length workers.new.items ≡ length script.now.operations }
     ensures workers { AreDownFrom (length script.now.operations)
-        (IsSpent P.meaning shared.now.rows.now E.says E.object (A.fits shared.now.asks.now) A.count (course_of script.now
-        (allotments_by_turns script.now.operations script.now.stops script.now.turns)
-        course.object)) workers.new.items }
+        (IsSpent P.meaning shared.now.rows.now E.says E.object (A.fits shared.now.asks.now) A.count
+        (course_of script.now (replay_allotments script.now) object)) workers.new.items }
 {
     let mut steps = Steps::<L>::new(blank);
-    take_turns(shared, script, workers, &mut steps);
-}
-
-// The same, by a ledger of its own.
-fn take_turns_alone<'a, P: Program, T, E: Ending, A: Asks<Program = P, Pass = T>>(
-    shared: &Shared<A, P>,
-    script: &Script,
-    workers: &mut Vec<Worker<'a, P, T, E>>,
-)
-    ghost course: { Course }
-    requires course { course ≡ course_of script.now
-        (allotments_of script.now.operations script.now.stops) course.object }
-    requires serves { A.serves shared.now.asks.now shared.now.rows.now }
-    requires all { length workers.old.items ≡ length script.now.operations }
-    requires workers { AreDownFrom (length script.now.operations)
-        (IsStart P.meaning shared.now.rows.now E.says E.object (A.fits shared.now.asks.now) A.count course) workers.old.items }
-    ensures all { length workers.new.items ≡ length script.now.operations }
-    ensures workers { AreDownFrom (length script.now.operations)
-        (IsSpent P.meaning shared.now.rows.now E.says E.object (A.fits shared.now.asks.now) A.count (course_of script.now
-        (allotments_by_turns script.now.operations script.now.stops script.now.turns)
-        course.object)) workers.new.items }
-{
-    take_turns_counted::<P, T, E, A, Brand>(shared, script, workers, Blank::new(1));
+    let last = script.callers() as usize - 1;
+    for turn in script.turns() {
+        workers[last - *turn as usize].take_turn(shared, &mut steps);
+    }
 }
 
 /// Lets the callers make their phases in the order of a script's turns: at each turn the caller
@@ -140,32 +93,24 @@ pub fn replay_all<'a, P: Program, T, E: Ending + Drop, A: Asks<Program = P, Pass
     script: &'a Script,
     endings: Vec<E>,
 ) -> Result<Vec<Own>, NoMemory>
-    ghost course: { Course }
-    requires course { course ≡ course_of script.now
-        (allotments_of script.now.operations script.now.stops) course.object }
+    ghost object: { Sequential }
     requires serves { A.serves shared.now.asks.now shared.now.rows.now }
-    requires rows { HaveRoomFor script.now shared.now.rows.now }
-    requires bench { IsBenchOf P.meaning shared.now.rows.now bench.old }
-    requires unused { (i : ℕ) → i < length script.now.operations → IsUnused bench.old i }
-    requires all_passes { vec_len passes.old ≡ length script.now.operations }
-    requires passes { AreInOrder (IsFreshPass shared.now.rows.now (A.fits shared.now.asks.now) A.count
-        script.now.operations) passes.old.items }
+    requires starts { MayStart P.meaning script.now shared.now.rows.now bench.old }
+    requires passes { AreFreshPasses shared.now.rows.now (A.fits shared.now.asks.now) A.count
+        script.now.operations passes.old.items }
     requires all_endings { vec_len endings ≡ length script.now.operations }
-    requires endings { All (λ e. E.object e ≡ course.object) endings.items }
+    requires endings { All (λ e. E.object e ≡ object) endings.items }
     ensures bench { IsBenchOf P.meaning shared.now.rows.now bench.new }
     ensures others { AreAlikeFrom (length script.now.operations) bench.old bench.new }
     ensures all_passes { vec_len passes.new ≡ length script.now.operations }
     ensures capacity { vec_capacity passes.old ≤ vec_capacity passes.new }
     ensures back { (i : ℕ) → i < length script.now.operations
-        → IsBackOn P.meaning shared.now.rows.now
-        (A.fits shared.now.asks.now) A.count (course_of script.now
-        (allotments_by_turns script.now.operations script.now.stops script.now.turns) course.object)
-        bench.new passes.new.items i }
+        → IsBackOn P.meaning shared.now.rows.now (A.fits shared.now.asks.now) A.count
+        script.now.operations (replay_allotments script.now) bench.new passes.new.items i }
     ensures all_lines { IfOk result (λ lines. vec_len lines ≡ length script.now.operations) }
     ensures lines { IfOk result (λ lines. AreBack P.meaning shared.now.rows.now E.says
-        (A.fits shared.now.asks.now) A.count
-        (length script.now.operations) (length script.now.operations) (course_of script.now
-        (allotments_by_turns script.now.operations script.now.stops script.now.turns) course.object)
+        (A.fits shared.now.asks.now) A.count (length script.now.operations) (length script.now.operations)
+        (course_of script.now (replay_allotments script.now) object)
         bench.new passes.new.items (lines_in lines.items) false) }
 {
     let callers = script.callers() as usize;
@@ -173,7 +118,7 @@ pub fn replay_all<'a, P: Program, T, E: Ending + Drop, A: Asks<Program = P, Pass
     let mut lines = Vec::with_capacity(alloc, callers)?;
     let mut workers = Vec::with_capacity(alloc, callers)?;
     start_all(shared, bench, passes, script, room, endings, &mut workers);
-    take_turns_alone(shared, script, &mut workers);
+    take_turns::<P, T, E, A, Brand>(shared, script, &mut workers, Blank::new(1));
     if end_all(shared, script, workers, bench, passes, &mut lines) {
         return Err(NoMemory);
     }

@@ -40,26 +40,6 @@ fn run_counted<'a, P: Program, T, E: Ending, A: Asks<Program = P, Pass = T>, L: 
     client.run(shared, count, &mut steps)
 }
 
-// The same, by a ledger of its own.
-fn run_alone<'a, P: Program, T, E: Ending, A: Asks<Program = P, Pass = T>>(
-    client: Client<'a, P, T, E>,
-    shared: &Shared<A, P>,
-    count: u64,
-) -> Client<'a, P, T, E>
-    requires serves { A.serves shared.now.asks.now shared.now.rows.now }
-    requires work { IsAtWork P.meaning shared.now.rows.now E.says E.object
-        (A.fits shared.now.asks.now) A.count client }
-    requires goes { GoesOnFrom client.stand }
-    requires left { phases_by client + count ≤ 5 * length client.sheet.operations.now }
-    ensures work { IsAtWork P.meaning shared.now.rows.now E.says E.object
-        (A.fits shared.now.asks.now) A.count result }
-    ensures same { IsSameClient client.entry result }
-    ensures object { E.object result.sheet.ending ≡ E.object client.entry.sheet.ending }
-    ensures spent { HasSpent (phases_by client.entry + count) result }
-{
-    run_counted::<P, T, E, A, Brand>(client, shared, count, Blank::new(1))
-}
-
 impl<
     'a,
     's,
@@ -78,7 +58,12 @@ impl<
         let Some(client) = self.client.take() else {
             unreachable!()
         };
-        let client = run_alone(client, shared, self.allotment);
+        let client = run_counted::<P, T, E, A, Brand>(
+            client,
+            shared,
+            self.allotment,
+            Blank::new(1),
+        );
         match self.client.replace(client) {
             None => {}
             Some(_) => unreachable!(),

@@ -1,5 +1,4 @@
 pub mod Passes
 pub mod Errors
 pub mod Opened
-pub mod FreshRuns
 pub mod LoggedReports

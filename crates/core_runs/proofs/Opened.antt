@@ -3,7 +3,8 @@ use Rattle.std.proofs.Common.{◌≡◌, ◌∙◌, sym, subst, ap, ℕ, List}
 use Rattle.world_core.specs.Shape.{Meaning}
 use Rattle.world_core.specs.Local.{Object_step}
 use Rattle.row_table.specs.declared.rows.Rows.{Rows}
-use Rattle.core_objects.specs.CoreObjects.{AreOpenedWith, ArePassesFor}
+use Rattle.row_table.specs.Callers.{shape_of}
+use Rattle.core_objects.specs.CoreObjects.{shape_with, AreOpenedWith, ArePassesFor}
 
 module _ {P : Type 0} (r : Rows P) (n cap : ℕ) (callers : r.callers ≡ n) (most : r.cap ≡ cap) where
   -- rows that were opened with a program were opened with the object's, where it is the same
@@ -17,3 +18,7 @@ module _ {P : Type 0} (r : Rows P) (n cap : ℕ) (callers : r.callers ≡ n) (mo
   pub passes_for_rows : {T : Type 0} (fits : T → ℕ → ℕ → ℕ → List Object_step → Type 0) (passes : List T) → ArePassesFor fits n cap passes → ArePassesFor fits r.callers r.cap passes
   passes_for_rows fits passes h =
       subst (λ (k : ℕ). ArePassesFor fits k r.cap passes) (sym callers) (subst (λ (k : ℕ). ArePassesFor fits n k passes) (sym most) h)
+
+  -- the shape of their world, by the program that they were opened with
+  pub shape_opened_with : (meaning : P → ℕ → ℕ → Meaning) (program : P) → r.program ≡ program → shape_of meaning r ≡ shape_with (meaning program) n cap
+  shape_opened_with meaning program own = λ i. record { callers = callers i; cap = most i; program = meaning (own i) (callers i) (most i) }

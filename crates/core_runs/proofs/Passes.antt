@@ -1,5 +1,5 @@
 -- The passes of the callers of an object inside the world: whom they fit, on the rows and as clients ask.
-use Rattle.std.proofs.Common.{◌≡◌, ◌∙◌, sym, subst, ap, ℕ, List}
+use Rattle.std.proofs.Common.{◌≡◌, ◌∙◌, sym, subst, ap, ℕ, List, length}
 use Rattle.std.specs.Prelude.{None}
 use Rattle.world_core.specs.Shape.{Meaning}
 use Rattle.world_core.specs.Local.{Local, Object_step}
@@ -11,8 +11,7 @@ use Rattle.row_table.specs.Callers.{who_of, local_with, IsCallerOf}
 use Rattle.drv_wrapper.specs.Growth.{Grows}
 use Rattle.core_objects.specs.CoreObjects.{with_steps, after_steps, ArePassesFor}
 use Rattle.call_phases.specs.Asking.{FitsCaller, ComesNoFurther}
-use Rattle.bench_clients.specs.Places.{AreInOrder}
-use Rattle.bench_clients.specs.Starts.{IsFreshPass}
+use Rattle.bench_clients.specs.Starts.{AreFreshPasses}
 use Rattle.core_runs.specs.Inside.{fits_inside}
 
 module _ {P T : Type 0} (meaning : P → ℕ → ℕ → Meaning) (r : Rows P) (fits : T → ℕ → ℕ → ℕ → List Object_step → Type 0) (pass : T) (c : Caller P) (here : IsCallerOf meaning r c) where
@@ -41,6 +40,7 @@ grows_by_steps l m steps made =
     subst (λ (x : Local). Grows l x) (sym made) (record { looked = λ x h. h; peeked = λ x h. h; cuts = λ place given h. h })
 
 -- passes for the callers of these rows are fresh
-pub core_passes_are_fresh : {P T : Type 0} (r : Rows P) (fits : T → ℕ → ℕ → ℕ → List Object_step → Type 0) (operations : List (List ℕ)) (passes : List T)
-    → ArePassesFor fits r.callers r.cap passes → AreInOrder (IsFreshPass r (fits_inside fits) (λ pass. None) operations) passes
-core_passes_are_fresh r fits operations passes all i pass there = record { fits_caller = all.fit i pass there; counts = tt }
+pub core_passes_are_fresh : {P T : Type 0} (r : Rows P) (fits : T → ℕ → ℕ → ℕ → List Object_step → Type 0) (operations : List (List ℕ)) (passes : List T) → r.callers ≡ length operations
+    → ArePassesFor fits r.callers r.cap passes → AreFreshPasses r (fits_inside fits) (λ pass. None) operations passes
+core_passes_are_fresh r fits operations passes callers all =
+    record { as_many = all.count ∙ callers; each = λ i pass there. record { fits_caller = all.fit i pass there; counts = tt } }

@@ -5,7 +5,7 @@ ghost use Rattle.std.specs.List.{list_any};
 ghost use Rattle.book_base.specs.declared.TheConstants.{MAX_CALLS};
 ghost use Rattle.text_fields.specs.Counts.{AreAtMost};
 ghost use Rattle.client_scripts.specs.Plans.{sizes};
-ghost use Rattle.call_lines.specs.Allotments.{allotments_of};
+ghost use Rattle.bench_clients.specs.Starts.{run_allotments};
 ghost use Rattle.call_lines.specs.Lawful.{IsLawful};
 ghost use Rattle.call_lines.specs.Lines.{any_error};
 ghost use Rattle.core_objects.specs.CoreObjects.{shape_with, ArePassesFor};
@@ -45,7 +45,7 @@ where
     ensures lawful { IfOk result (λ report. IsLawful (O.S.init (O.sequential_of object.now))
         (O.S.next (O.sequential_of object.now))
         (shape_with (O.P.meaning (O.program_of object.now)) (length script.now.operations) cap)
-        script.now.operations (allotments_of script.now.operations script.now.stops) report.lines) }
+        script.now.operations (run_allotments script.now) report.lines) }
     ensures no_error { IfOk result (λ report. list_any any_error report.lines ≡ false) }
 {
     let (rows, mut bench) = Rows::open(alloc, object.program(), script.callers(), cap)?;

@@ -1,10 +1,9 @@
 ghost use Rattle.std.specs.Prelude.{◌≡◌, ℕ, ◌<◌, false, None, length, vec_len, IfOk};
 ghost use Rattle.std.specs.List.{list_any};
-ghost use Rattle.call_lines.specs.Allotments.{allotments_of};
 ghost use Rattle.call_lines.specs.Lines.{any_error};
 ghost use Rattle.row_table.specs.Callers.{shape_of, locals_on, IsBenchOf, HoldsAll};
 ghost use Rattle.core_objects.specs.CoreObjects.{AreOpenedWith, ArePassesFor};
-ghost use Rattle.bench_clients.specs.Starts.{course_of, AreRowsFor, IsUnused};
+ghost use Rattle.bench_clients.specs.Starts.{run_allotments, MayBegin};
 ghost use Rattle.bench_clients.specs.Returns.{IsBackOn};
 ghost use Rattle.run_report.specs.Reporting.{IsReportOf, IsFreeAgain};
 ghost use Rattle.core_runs.specs.Inside.{fits_inside};
@@ -43,24 +42,20 @@ where
     O::P: Send + Sync,
     O::Pass: Send,
     requires program { AreOpenedWith O.P.meaning (O.program_of object.now) rows.now }
-    requires rows { AreRowsFor script.now rows.now }
-    requires bench { IsBenchOf O.P.meaning rows.now bench.old }
-    requires unused { (i : ℕ) → i < length script.now.operations → IsUnused bench.old i }
+    requires begins { MayBegin O.P.meaning script.now 0 rows.now bench.old }
     requires passes { ArePassesFor (O.fits object.now) rows.now.callers rows.now.cap passes.old.items }
     // For every answer.
     ensures bench { IsBenchOf O.P.meaning rows.now bench.new × HoldsAll bench.new }
     ensures all_passes { vec_len passes.new ≡ length script.now.operations }
     ensures back { (i : ℕ) → i < length script.now.operations → IsBackOn O.P.meaning rows.now
-        (fits_inside (O.fits object.now)) (λ pass. None)
-        (course_of script.now (allotments_of script.now.operations script.now.stops)
-        (record { init = O.S.init (O.sequential_of object.now); next = O.S.next (O.sequential_of object.now) }))
+        (fits_inside (O.fits object.now)) (λ pass. None) script.now.operations (run_allotments script.now)
         bench.new passes.new.items i }
     // Where a report is answered.
     ensures report { IfOk result (λ report. IsReportOf (O.S.init (O.sequential_of object.now))
         (O.S.next (O.sequential_of object.now)) (shape_of O.P.meaning rows.now) (locals_on bench.new) script.now
-        (allotments_of script.now.operations script.now.stops) report) }
+        (run_allotments script.now) report) }
     ensures free { IfOk result (λ report. (i : ℕ) → i < length script.now.operations
-        → IsFreeAgain bench.new (allotments_of script.now.operations script.now.stops) report i) }
+        → IsFreeAgain bench.new (run_allotments script.now) report i) }
     ensures no_error { IfOk result (λ report. list_any any_error report.lines ≡ false) }
 {
     runs_of(object);

@@ -1,34 +1,27 @@
 -- What a hunt says of the runs that it made.
 use Rattle.std.specs.Prelude.{◌≡◌, ℕ, ◌+◌, ◌<◌, ◌≤◌, ◌%◌, ◌^◌, List, length, Option, IfSome, IfNone}
-use Rattle.book_base.specs.declared.TheConstants.{MAX_CALLS}
 use Rattle.book_base.specs.Book.{Page}
 use Rattle.book_base.specs.Order.{HasLegalOrder}
 use Rattle.seq_objects.specs.Objects.{kind_init, kind_next}
-use Rattle.world_core.specs.Shape.{Shape}
-use Rattle.world_core.specs.Programs.{outside}
-use Rattle.call_lines.specs.Allotments.{allotments_of}
 use Rattle.call_lines.specs.Lawful.{IsLawful}
 use Rattle.client_scripts.specs.Plans.{Plan}
 use Rattle.random_scripts.specs.declared.workload.Workload.{Workload}
 use Rattle.random_scripts.specs.Drawn.{drawn_plan}
 use Rattle.reports.specs.Findings.{Findings, IsWitness, HasNoError}
 use Rattle.bench_clients.specs.Places.{AreInOrder}
-use Rattle.run_report.specs.Reporting.{IsToldIn}
+use Rattle.bench_clients.specs.Starts.{run_allotments}
+use Rattle.run_report.specs.Reporting.{outside_shape, IsToldIn}
 use Rattle.hunts.specs.declared.trial.Catch.{Catch}
 use Rattle.hunts.specs.declared.runs.Settings.{Settings}
 use Rattle.hunts.specs.declared.runs.Hunted.{Hunted}
-
--- The shape of the world of n callers with the greatest cap, whose object is outside.
-abbrev pub outside_shape : ℕ → Shape
-outside_shape n = record { callers = n; cap = MAX_CALLS; program = outside }
 
 module _ {T : Type 0} (made : T → ℕ) (told : T → Option (List (ℕ × ℕ))) where
   -- A run was made of this plan over an object outside the world, and reports these findings: they are of the plan's kind, and lawful by
   -- the object of that kind, and these passes, in order, were asked for just the calls of their lines.
   pub record IsRun (plan : Plan) (passes : List T) (findings : Findings) : Type 0 where
     pub kind : findings.kind ≡ plan.kind
-    pub lawful : IsLawful (kind_init plan.kind) (kind_next plan.kind) (outside_shape (length plan.operations)) plan.operations (allotments_of plan.operations plan.stops) findings.lines
-    pub told_in : AreInOrder (IsToldIn made told (allotments_of plan.operations plan.stops) findings) passes
+    pub lawful : IsLawful (kind_init plan.kind) (kind_next plan.kind) (outside_shape (length plan.operations)) plan.operations (run_allotments plan) findings.lines
+    pub told_in : AreInOrder (IsToldIn made told (run_allotments plan) findings) passes
 
   -- So it was by some passes.
   abbrev pub IsMade : Plan → Findings → Type 0

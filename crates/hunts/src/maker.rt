@@ -1,6 +1,5 @@
-ghost use Rattle.std.specs.Prelude.{◌≡◌, length, vec_len, IfOk};
-ghost use Rattle.bench_clients.specs.Places.{AreInOrder};
-ghost use Rattle.run_report.specs.Passes.{IsUnusedPass};
+ghost use Rattle.std.specs.Prelude.{IfOk};
+ghost use Rattle.run_report.specs.Passes.{AreUnusedPasses};
 
 use crate::noise::Noise;
 use book_base::NoMemory;
@@ -18,7 +17,6 @@ pub trait Maker<B: BlackBox> {
         script: &Script,
         noise: Noise,
     ) -> Result<(B, Vec<B::Pass>), NoMemory>
-        ensures all { IfOk result (λ r. vec_len r.1 ≡ length script.now.operations) }
-        ensures unused { IfOk result (λ r. AreInOrder (IsUnusedPass (B.is_own r.0) B.Pass.caller
-            B.Pass.made B.Pass.cap script.now.operations) r.1.items) };
+        ensures unused { IfOk result (λ r. AreUnusedPasses (B.is_own r.0) B.Pass.caller B.Pass.made
+            B.Pass.cap script.now.operations r.1.items) };
 }

@@ -1,10 +1,7 @@
 //! A run of a script with noise.
 
-ghost use Rattle.std.specs.Prelude.{◌≡◌, length, vec_len, IfOk};
-ghost use Rattle.bench_clients.specs.Places.{AreInOrder};
-ghost use Rattle.bench_clients.specs.Starts.{IsFreshPass};
-ghost use Rattle.call_phases.specs.Asking.{fits_own, own_count};
-ghost use Rattle.run_report.specs.Passes.{IsUnusedPass};
+ghost use Rattle.std.specs.Prelude.{IfOk};
+ghost use Rattle.run_report.specs.Passes.{AreUnusedPasses};
 ghost use Rattle.hunts.specs.Hunting.{IsRun};
 
 use crate::noise::Noise;
@@ -15,23 +12,10 @@ use client_scripts::Script;
 use drv_wrapper::{BlackBox, ObjectPass};
 use reports::Report;
 use row_table::Rows;
-use run_report::run_asked;
+use run_report::{passes_are_fresh, run_asked};
 use std::alloc::Global;
 use std::thread::Threads;
 use world_core::Outside;
-
-// Unused passes are fresh ones of the object outside the world, for rows of any size.
-fn passes_are_fresh<B: BlackBox>(
-    _rows: &Rows,
-    _object: &B,
-    _passes: &Vec<B::Pass>,
-    _script: &Script,
-)
-    requires { AreInOrder (IsUnusedPass (B.is_own _object.now) B.Pass.caller B.Pass.made B.Pass.cap
-        _script.now.operations) _passes.now.items }
-    ensures { AreInOrder (IsFreshPass _rows.now (fits_own (B.is_own _object.now) B.Pass.caller)
-        (own_count B.Pass.made B.Pass.cap B.Pass.told) _script.now.operations) _passes.now.items }
-{}
 
 /// Runs all callers of a script over an object, each in a thread of its own where one can be had, with noise between
 /// their phases. The table of rows is opened for the run, and closed behind it.
@@ -45,9 +29,8 @@ pub(crate) fn run_once<R: Threads + Sync, B: BlackBox + Sync>(
 ) -> Result<Report, NoMemory>
 where
     B::Pass: Send,
-    requires all_passes { vec_len passes.old ≡ length script.now.operations }
-    requires passes { AreInOrder (IsUnusedPass (B.is_own object.now) B.Pass.caller B.Pass.made
-        B.Pass.cap script.now.operations) passes.old.items }
+    requires passes { AreUnusedPasses (B.is_own object.now) B.Pass.caller B.Pass.made B.Pass.cap
+        script.now.operations passes.old.items }
     ensures { IfOk result (IsRun B.Pass.made B.Pass.told script.now passes.new.items) }
 {
     let (rows, mut bench) = Rows::open(alloc, Outside, script.callers(), MAX_CALLS)?;

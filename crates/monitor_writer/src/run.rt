@@ -5,14 +5,13 @@ ghost use Rattle.seq_objects.specs.Objects.{kind_init, kind_next};
 ghost use Rattle.world_core.specs.Local.{Local};
 ghost use Rattle.row_table.specs.Callers.{locals_on, on_bench, IsBenchOf, HoldsAll};
 ghost use Rattle.call_phases.specs.Asking.{fits_own, own_count};
-ghost use Rattle.call_phases.specs.Ends.{silent};
 ghost use Rattle.bench_clients.specs.Places.{AreInOrder};
-ghost use Rattle.bench_clients.specs.Starts.{course_of, IsUnused};
+ghost use Rattle.bench_clients.specs.Starts.{run_allotments, IsUnused, MayBegin};
 ghost use Rattle.bench_clients.specs.Returns.{IsBackOn};
-ghost use Rattle.run_report.specs.Passes.{IsOwnPass, IsUnusedPass};
+ghost use Rattle.run_report.specs.Passes.{IsOwnPass, AreUnusedPasses};
 ghost use Rattle.byte_streams.specs.Fault.{LeavesSink};
 ghost use Rattle.byte_streams.specs.Writing.{EndsWriting};
-ghost use Rattle.monitored_runs.specs.Monitoring.{allotments_in, IsMonitor, AreRowsBeside, HaveMadeAll, AreFreeAgain, IsToldAll, HasMonitored};
+ghost use Rattle.monitored_runs.specs.Monitoring.{IsMonitor, HaveMadeAll, AreFreeAgain, IsToldAll, HasMonitored};
 ghost use Rattle.monitor_writer.specs.MonitorTexts.{IsLegalRun, IsMonitorText};
 
 use crate::answer_output::write_answer;
@@ -46,12 +45,9 @@ pub fn monitor_and_write<R: Threads + Sync, B: BlackBox + Sync, K: Sink>(
 ) -> Status
 where
     B::Pass: Send,
-    requires rows { AreRowsBeside script.now rows.now }
-    requires bench { IsBenchOf ⟦<Outside as Program>⟧.meaning rows.now bench.old }
-    requires unused { (i : ℕ) → i < length script.now.operations + 2 → IsUnused bench.old i }
-    requires all_passes { vec_len passes.old ≡ length script.now.operations }
-    requires passes { AreInOrder (IsUnusedPass (B.is_own object.now) B.Pass.caller B.Pass.made
-        B.Pass.cap script.now.operations) passes.old.items }
+    requires begins { MayBegin ⟦<Outside as Program>⟧.meaning script.now 2 rows.now bench.old }
+    requires passes { AreUnusedPasses (B.is_own object.now) B.Pass.caller B.Pass.made B.Pass.cap
+        script.now.operations passes.old.items }
 
     // What stands afterwards, whatever the answer.
     ensures bench { IsBenchOf ⟦<Outside as Program>⟧.meaning rows.now bench.new × HoldsAll bench.new }
@@ -60,7 +56,7 @@ where
     ensures passes { AreInOrder (IsOwnPass (B.is_own object.now) B.Pass.caller) passes.new.items }
     ensures back { (i : ℕ) → i < length script.now.operations → IsBackOn
         ⟦<Outside as Program>⟧.meaning rows.now (fits_own (B.is_own object.now) B.Pass.caller)
-        (own_count B.Pass.made B.Pass.cap B.Pass.told) (course_of script.now (allotments_in script.now) silent)
+        (own_count B.Pass.made B.Pass.cap B.Pass.told) script.now.operations (run_allotments script.now)
         bench.new passes.new.items i }
     ensures monitors { (i : ℕ) → IsMonitor script.now i → IsUnused bench.new i }
 

@@ -1,5 +1,5 @@
 -- What the callers of a plan leave whose calls nobody judged, and the two monitors beside them.
-use Rattle.std.proofs.Common.{◌≡◌, ◌∙◌, refl, sym, ap, ap₂, subst, inl, inr, ℕ, zero, suc, ◌+◌, ◌<◌, ◌≤◌, ◌%◌, ◌/◌, false, List, [], ◌∷◌, ◌++◌, length, map, take, drop, replicate, slice_get, slice_index, sum_by, ◌*◌, Some, arith}
+use Rattle.std.proofs.Common.{◌≡◌, ◌∙◌, refl, sym, ap, ap₂, subst, inl, inr, ℕ, zero, suc, ◌+◌, ◌<◌, ◌≤◌, ◌⊎◌, ◌%◌, ◌/◌, false, List, [], ◌∷◌, ◌++◌, length, map, take, drop, replicate, slice_get, slice_index, sum_by, ◌*◌, Some, arith}
 use Rattle.std.specs.Prelude.{Option, IfSome, IsSome}
 use Rattle.std.specs.List.{range_with_len}
 use Rattle.std.proofs.lemmas.List.FromFn.{length-range_with_len}
@@ -28,12 +28,14 @@ use Rattle.row_table.proofs.Parting.{whole_is_together}
 use Rattle.client_scripts.specs.Plans.{Plan, IsPlan, sizes}
 use Rattle.text_fields.specs.Counts.{AreAtMost}
 use Rattle.text_fields.specs.declared.version.Version.TheVariants.{Second}
+use Rattle.reports.specs.declared.report.Own.{Own}
+use Rattle.reports.specs.ReportLayout.{lines_in}
 use Rattle.reports.specs.Filling.{answer_in, AreOfABook}
 use Rattle.reports.proofs.Filling.{length-book}
 use Rattle.call_phases.specs.Asking.{Fits, PassCount, own_count}
 use Rattle.call_phases.specs.Ends.{Sequential, silent, SaysDeferred, EndsAs, AreLinesOfCalls}
 use Rattle.bench_clients.specs.Places.{AreInOrder}
-use Rattle.bench_clients.specs.Starts.{Course, course_of, IsUnused}
+use Rattle.bench_clients.specs.Starts.{run_allotments, course_of, IsUnused, MayBegin}
 use Rattle.bench_clients.specs.Returns.{IsCountOf, AreBack, IsBackOn}
 use Rattle.bench_clients.proofs.Places.{as_long}
 use Rattle.run_report.proofs.Workers.{the_local, lines_here}
@@ -44,8 +46,9 @@ use Rattle.monitor.specs.Worlds.{published_of}
 use Rattle.monitor.proofs.Judged.{rounds_are_judged, own_is_a_witness}
 use Rattle.monitored_runs.specs.Deferred.{HavePage, HasDeferred, HavePages}
 use Rattle.monitored_runs.specs.Published.{IsJudgedAt, IsExactAnswer}
-use Rattle.monitored_runs.specs.Monitoring.{allotments_in, published_for, with_monitors, most_rounds, IsMonitor, AreRowsBeside, HaveMadeAll, AreFreeAgain, IsCountedAll, IsToldAll, HasMonitored, HasWatched}
+use Rattle.monitored_runs.specs.Monitoring.{published_for, with_monitors, most_rounds, IsMonitor, HaveMadeAll, AreFreeAgain, IsCountedAll, IsToldAll, HasMonitored, HasWatched}
 use Rattle.monitored_runs.proofs.Deferred.{no_errors, deferring_clients_make_all, lines_are_the_book}
+use Rattle.monitored_runs.proofs.Returning.{each_monitor, begins_unused}
 use Rattle.monitored_runs.proofs.AllPublished.{published_records_are_in_the_book, answers_are_exact}
 
 -- a caller without lines more is no caller more
@@ -104,12 +107,12 @@ same_counts (x ∷ counts) (a ∷ allotments) long made none =
     (same_counts counts allotments (omega (arith, long)) (λ i low. made (suc i) (omega (arith, low))) (λ i high low. none (suc i) (omega (arith, high)) (omega (arith, low))))
 
 -- there is an allotment for each caller of a plan
-pub allotments_long : (plan : Plan) → length (allotments_in plan) ≡ length plan.operations
+pub allotments_long : (plan : Plan) → length (run_allotments plan) ≡ length plan.operations
 allotments_long plan =
     length-map (range_with_len 0 (length plan.operations)) (λ i. phases_for (stop_at plan.stops i) (length (operations_at plan.operations i))) ∙ length-range_with_len 0 (length plan.operations)
 
 pub published_long : (plan : Plan) → length (published_for plan) ≡ length plan.operations + 2
-published_long plan = omega (arith, length-append (map published_by (allotments_in plan)) (0 ∷ 0 ∷ []), length-map (allotments_in plan) published_by, allotments_long plan)
+published_long plan = omega (arith, length-append (map published_by (run_allotments plan)) (0 ∷ 0 ∷ []), length-map (run_allotments plan) published_by, allotments_long plan)
 
 -- the book of all callers' lines has two pages more
 pub book_with_monitors : (lines : List (List Line)) → length (book_of_lines (with_monitors lines)) ≡ length lines + 2
@@ -117,10 +120,10 @@ book_with_monitors lines = omega (arith, length-book (with_monitors lines), leng
 
 -- counts that were set for each caller of a plan
 pub counts_are : (plan : Plan) (counts : List ℕ) → length counts ≡ length plan.operations + 2
-    → ((i : ℕ) → i < length plan.operations → slice_index counts i ≡ published_by (slice_index (allotments_in plan) i))
+    → ((i : ℕ) → i < length plan.operations → slice_index counts i ≡ published_by (slice_index (run_allotments plan) i))
     → ((i : ℕ) → length plan.operations ≤ i → slice_index counts i ≡ 0) → counts ≡ published_for plan
 counts_are plan counts long made none =
-    same_counts counts (allotments_in plan) (omega (arith, long, allotments_long plan)) (λ i low. made i (omega (arith, low, allotments_long plan)))
+    same_counts counts (run_allotments plan) (omega (arith, long, allotments_long plan)) (λ i low. made i (omega (arith, low, allotments_long plan)))
     (λ i high low. none i (omega (arith, high, allotments_long plan)))
 
 -- no plan has more calls than there may be
@@ -132,12 +135,13 @@ pub calls_fit : (plan : Plan) (i calls : ℕ) → IsPlan Second plan → calls �
 calls_fit plan i calls valid so_far = omega (arith, so_far, sum_by-take-le length plan.operations i, few_calls plan.operations valid.calls, valid.callers)
 
 -- the bench of a run with monitors holds all callers
-pub holds_beside : {P T : Type 0} (meaning : P → ℕ → ℕ → Meaning) (r : Rows P) (fit : Fits T) (count : T → Option PassCount) (course : Course) (b : Bench P) (passes : List T) (plan : Plan)
-    → AreRowsBeside plan r → IsBenchOf meaning r b → ((i : ℕ) → i < length plan.operations → IsBackOn meaning r fit count course b passes i) → ((i : ℕ) → IsMonitor plan i → IsUnused b i) → HoldsAll b
-holds_beside meaning r fit count course b passes plan rows bench back unused i low =
+pub holds_beside : {P T : Type 0} (meaning : P → ℕ → ℕ → Meaning) (r : Rows P) (fit : Fits T) (count : T → Option PassCount) (plan : Plan) (first b : Bench P) (passes : List T)
+    → MayBegin meaning plan 2 r first → IsBenchOf meaning r b → ((i : ℕ) → i < length plan.operations → IsBackOn meaning r fit count plan.operations (run_allotments plan) b passes i)
+    → ((i : ℕ) → IsMonitor plan i → IsUnused b i) → HoldsAll b
+holds_beside meaning r fit count plan first b passes begins bench back unused i low =
     elim (cases_lt i (length plan.operations)) [
       | inl within ↦ let h = back i within in (h.local, h.here)
-      | inr after ↦ let h = unused i (record { after = after; before = omega (arith, low, bench.callers, rows.callers) }) in (h.local, h.here)
+      | inr after ↦ let h = unused i (record { after = after; before = omega (arith, low, bench.callers, begins.callers) }) in (h.local, h.here)
     ]
 
 -- what the passes of an object outside the world count is what they tell
@@ -147,10 +151,16 @@ counted_told_all made cap told plan locals passes all i pass there =
     let h = all i pass there in
     record { asked_for = h.asked_for; told_is = h.told_is }
 
-module _ {P T : Type 0} (meaning : P → ℕ → ℕ → Meaning) (r : Rows P) (b : Bench P) (plan : Plan) (fit : Fits T) (count : T → Option PassCount) (passes : List T) (lines : List (List Line))
-    (rows : AreRowsBeside plan r) (bench : IsBenchOf meaning r b)
-    (back : AreBack meaning r SaysDeferred fit count (length plan.operations) (length plan.operations) (course_of plan (allotments_in plan) silent) b passes lines false)
-    (long : length lines ≡ length plan.operations) (unused : (i : ℕ) → IsMonitor plan i → IsUnused b i) where
+module _ {P T : Type 0} (meaning : P → ℕ → ℕ → Meaning) (r : Rows P) (first b : Bench P) (plan : Plan) (fit : Fits T) (count : T → Option PassCount) (passes : List T) (items : List Own)
+    (begins : MayBegin meaning plan 2 r first) (bench : IsBenchOf meaning r b)
+    (back : AreBack meaning r SaysDeferred fit count (length plan.operations) (length plan.operations) (course_of plan (run_allotments plan) silent) b passes (lines_in items) false)
+    (all_lines : length items ≡ length plan.operations) (unused : (i : ℕ) → IsMonitor plan i → IsUnused b i) where
+  abbrev lines : List (List Line)
+  lines = lines_in items
+
+  long : length lines ≡ length plan.operations
+  long = omega (arith, all_lines, length-map items (λ (o : Own). o.lines.items))
+
   abbrev n : ℕ
   n = length plan.operations
 
@@ -160,15 +170,15 @@ module _ {P T : Type 0} (meaning : P → ℕ → ℕ → Meaning) (r : Rows P) (
   holds : (i : ℕ) → i < r.callers → Holds b i
   holds i low =
       elim (cases_lt i n) [
-        | inl within ↦ let h = back.back i within in (h.local, h.here)
-        | inr after ↦ let h = unused i (record { after = after; before = omega (arith, low, rows.callers) }) in (h.local, h.here)
+        | inl within ↦ let h = back.back i within in (h.on.local, h.on.here)
+        | inr after ↦ let h = unused i (record { after = after; before = omega (arith, low, begins.callers) }) in (h.local, h.here)
       ]
 
   together : AreTogether (shape_of meaning r) locals
   together = whole_is_together (shape_of meaning r) b.seat.me.0 bench.wide holds bench.together
 
   as_many : length locals ≡ n + 2
-  as_many = length-map b.seat.me.0 _ ∙ bench.wide ∙ rows.callers
+  as_many = length-map b.seat.me.0 _ ∙ bench.wide ∙ begins.callers
 
   local_is : (i : ℕ) (l : Local) → on_bench b i ≡ Some l → local_at locals i ≡ l
   local_is i l here = the_local b.seat.me.0 i l here
@@ -178,35 +188,35 @@ module _ {P T : Type 0} (meaning : P → ℕ → ℕ → Meaning) (r : Rows P) (
 
   -- what a caller of the plan has left
   deferred : (i : ℕ) (low : i < n)
-      → HasDeferred (operations_at plan.operations i) (slice_index (allotments_in plan) i) (back.back i low).phases (back.back i low).local (back.back i low).own
+      → HasDeferred (operations_at plan.operations i) (slice_index (run_allotments plan) i) (back.back i low).on.phases (back.back i low).on.local (back.back i low).own
   deferred i low =
       let h = back.back i low in
-      deferring_clients_make_all silent r.callers (operations_at plan.operations i) (slice_index (allotments_in plan) i) h.phases h.local h.own (h.left refl)
+      deferring_clients_make_all silent r.callers (operations_at plan.operations i) (slice_index (run_allotments plan) i) h.on.phases h.on.local h.own (h.left refl)
 
   pub made_all : HaveMadeAll plan locals
   made_all = record {
     callers = as_many;
     made = λ i low.
         let h = back.back i low in
-        subst (λ (l : Local). HasMade (operations_at plan.operations i) (slice_index (allotments_in plan) i) l) (sym (local_is i h.local h.here)) (deferred i low).made;
+        subst (λ (l : Local). HasMade (operations_at plan.operations i) (slice_index (run_allotments plan) i) l) (sym (local_is i h.on.local h.on.here)) (deferred i low).made;
     none = λ i one. let h = unused i one in ap progress_of (local_is i h.local h.here) ∙ h.none;
   }
 
   pub free_again : AreFreeAgain plan b
   free_again i low between =
       let h = back.back i low in
-      let fine : any_error h.own ≡ false = no_errors silent r.callers h.local (calls_in h.local) h.own (h.left refl).left.lines in
-      let whole : h.phases % 5 ≡ 0 = ap (λ (p : ℕ). p % 5) (deferred i low).all ∙ between in
-      h.stands.here ∙ ap (λ (s : Stance). Some s) (h.free refl fine whole)
+      let fine : any_error h.own ≡ false = no_errors silent r.callers h.on.local (calls_in h.on.local) h.own (h.left refl).left.lines in
+      let whole : h.on.phases % 5 ≡ 0 = ap (λ (p : ℕ). p % 5) (deferred i low).all ∙ between in
+      h.on.stands.here ∙ ap (λ (s : Stance). Some s) (h.free refl fine whole)
 
   pub counted_all : length passes ≡ n → AreInOrder (IsCountedAll count plan locals) passes
   counted_all all i pass there =
       let low : i < n = omega (arith, all, slice_get_within passes i pass there) in
       let h = back.back i low in
-      let mine : h.pass ≡ pass = same_Some h.pass pass (sym h.pass_here ∙ there) in
-      subst (λ (l : Local). IfSome (count pass) (IsCountOf (slice_index (allotments_in plan) i) l)) (sym (local_is i h.local h.here))
-      (subst (λ (p : ℕ). IfSome (count pass) (IsCountOf p h.local)) (deferred i low).all
-      (subst (λ (x : T). IfSome (count x) (IsCountOf h.phases h.local)) mine h.back.counts))
+      let mine : h.on.pass ≡ pass = same_Some h.on.pass pass (sym h.on.pass_here ∙ there) in
+      subst (λ (l : Local). IfSome (count pass) (IsCountOf (slice_index (run_allotments plan) i) l)) (sym (local_is i h.on.local h.on.here))
+      (subst (λ (p : ℕ). IfSome (count pass) (IsCountOf p h.on.local)) (deferred i low).all
+      (subst (λ (x : T). IfSome (count x) (IsCountOf h.on.phases h.on.local)) mine h.on.back.counts))
 
   pages : HavePages locals (with_monitors lines)
   pages = record {
@@ -217,7 +227,7 @@ module _ {P T : Type 0} (meaning : P → ℕ → ℕ → Meaning) (r : Rows P) (
           | inl low ↦
               let h = back.back i low in
               subst (λ (own : List Line). HavePage own (local_at locals i)) (sym (own_is i low))
-              (subst (λ (l : Local). HavePage h.own l) (sym (local_is i h.local h.here)) (deferred i low).page)
+              (subst (λ (l : Local). HavePage h.own l) (sym (local_is i h.on.local h.on.here)) (deferred i low).page)
           | inr after ↦
               let before : i < n + 2 = omega (arith, within, length-append (lines ++ [] ∷ []) ([] ∷ []), length-append lines ([] ∷ []), long) in
               let h = unused i (record { after = after; before = before }) in
@@ -234,15 +244,15 @@ module _ {P T : Type 0} (meaning : P → ℕ → ℕ → Meaning) (r : Rows P) (
       elim (cases_lt i n) [
         | inl low ↦
             let h = back.back i low in
-            let no_more = no_more_lines silent r.callers (operations_at plan.operations i) (slice_index (allotments_in plan) i) h.local h.own (h.left refl).left.lines (deferred i low).made in
-            omega (arith, ap (λ (own : List Line). length own) (two_more lines i ∙ own_is i low), no_more, rows.cap i, r.few.3)
+            let no_more = no_more_lines silent r.callers (operations_at plan.operations i) (slice_index (run_allotments plan) i) h.on.local h.own (h.left refl).left.lines (deferred i low).made in
+            omega (arith, ap (λ (own : List Line). length own) (two_more lines i ∙ own_is i low), no_more, begins.starts.rows_for.cap i, r.few.3)
         | inr after ↦ omega (arith, ap (λ (own : List Line). length own) (two_more lines i ∙ none_behind lines i (omega (arith, after, long))))
       ]
 
   pub of_a_book : AreOfABook (with_monitors lines)
   of_a_book = record {
     some = omega (arith, pages.as_many, as_many);
-    callers = omega (arith, pages.as_many, as_many, rows.callers, r.few.1);
+    callers = omega (arith, pages.as_many, as_many, begins.callers, r.few.1);
     calls = at_most MAX_CALLS (with_monitors lines) few_lines;
     answered = λ call line there low.
         let own_there : slice_get (lines_at lines call.caller) call.number ≡ Some line = ap (λ (own : List Line). slice_get own call.number) (sym (two_more lines call.caller)) ∙ there in
@@ -250,7 +260,7 @@ module _ {P T : Type 0} (meaning : P → ℕ → ℕ → Meaning) (r : Rows P) (
         elim (cases_lt call.caller n) [
           | inl within ↦
               let h = back.back call.caller within in
-              all_but_last silent r.callers (operations_at plan.operations call.caller) (slice_index (allotments_in plan) call.caller) h.local h.own (h.left refl).left.lines (deferred call.caller within).made
+              all_but_last silent r.callers (operations_at plan.operations call.caller) (slice_index (run_allotments plan) call.caller) h.on.local h.own (h.left refl).left.lines (deferred call.caller within).made
               call.number line (ap (λ (own : List Line). slice_get own call.number) (sym (own_is call.caller within)) ∙ own_there)
               (omega (arith, own_low, ap (λ (own : List Line). length own) (own_is call.caller within)))
           | inr after ↦ absurd (omega (arith, own_low, ap (λ (own : List Line). length own) (none_behind lines call.caller (omega (arith, after, long)))))
@@ -263,7 +273,7 @@ module _ {P T : Type 0} (meaning : P → ℕ → ℕ → Meaning) (r : Rows P) (
       let counts : List ℕ = published_of locals in
       let long : length counts ≡ length plan.operations + 2 = length-map locals (λ (l : Local). l.published) ∙ as_many in
       let count_is : (i : ℕ) → i < length locals → slice_index counts i ≡ (local_at locals i).published = λ i low. get_or-map (λ (l : Local). l.published) locals i fresh 0 low in
-      same_counts counts (allotments_in plan) (omega (arith, long, allotments_long plan))
+      same_counts counts (run_allotments plan) (omega (arith, long, allotments_long plan))
       (λ i low. count_is i (omega (arith, low, as_many, allotments_long plan)) ∙ (made_all.made i (omega (arith, low, allotments_long plan))).published)
       (λ i high low.
       count_is i (omega (arith, low, as_many, allotments_long plan))
@@ -286,11 +296,34 @@ module _ {P T : Type 0} (meaning : P → ℕ → ℕ → Meaning) (r : Rows P) (
         → HasMadeRounds init next r.callers most before (local_at locals i) own
     rounds_on i most before own h = subst (λ (l : Local). HasMadeRounds init next r.callers most before l own) (sym (local_is i h.local h.here)) h.rounds
 
-    pub monitored : (i : ℕ) (before : Local) (own : Option Witness) → IsMonitor plan i → HasWatched init next r.callers b i before (most_rounds plan) own → HasMonitored init next plan locals i before
+    monitored : (i : ℕ) (before : Local) (own : Option Witness) → IsMonitor plan i → HasWatched init next r.callers b i before (most_rounds plan) own → HasMonitored init next plan locals i before
     monitored i before own one h =
-        rounds_are_judged init next (shape_of meaning r) locals i (most_rounds plan) before own together (omega (arith, one.before, rows.callers)) (rounds_on i (most_rounds plan) before own h)
+        rounds_are_judged init next (shape_of meaning r) locals i (most_rounds plan) before own together (omega (arith, one.before, begins.callers)) (rounds_on i (most_rounds plan) before own h)
 
-    pub found : (i most : ℕ) (before : Local) (w : Witness) → IsMonitor plan i → HasWatched init next r.callers b i before most (Some w) → IsExactAnswer init next locals (Some w)
+    found : (i most : ℕ) (before : Local) (w : Witness) → IsMonitor plan i → HasWatched init next r.callers b i before most (Some w) → IsExactAnswer init next locals (Some w)
     found i most before w one h =
         (answers_are_exact init next (shape_of meaning r) locals (Some w) together).0
-        (own_is_a_witness init next (shape_of meaning r) locals i most before w together (omega (arith, one.before, rows.callers)) (rounds_on i most before (Some w) h))
+        (own_is_a_witness init next (shape_of meaning r) locals i most before w together (omega (arith, one.before, begins.callers)) (rounds_on i most before (Some w) h))
+
+    -- what both monitors have left, who were on the first bench
+    module _ (most : ℕ) (one other : Option Witness) (watched : (l : Local) → on_bench first n ≡ Some l → HasWatched init next r.callers b n l most one)
+        (watched_too : (l : Local) → on_bench first (n + 1) ≡ Some l → HasWatched init next r.callers b (n + 1) l most other) where
+      pub all_monitored : most ≡ most_rounds plan → (i : ℕ) (l : Local) → IsMonitor plan i → on_bench first i ≡ Some l → HasMonitored init next plan locals i l
+      all_monitored same i before monitor there =
+          each_monitor (λ k. (l : Local) → on_bench first k ≡ Some l → HasMonitored init next plan locals k l) plan
+          (λ l here. monitored n l one (record { after = omega arith; before = omega arith }) (subst (λ (m : ℕ). HasWatched init next r.callers b n l m one) same (watched l here)))
+          (λ l here. monitored (n + 1) l other (record { after = omega arith; before = omega arith }) (subst (λ (m : ℕ). HasWatched init next r.callers b (n + 1) l m other) same (watched_too l here)))
+          i monitor before there
+
+      pub found_by : (w : Witness) → (one ≡ Some w) ⊎ (other ≡ Some w) → IsExactAnswer init next locals (Some w)
+      found_by w by =
+          elim by [
+            | inl is ↦
+                let me : IsMonitor plan n = record { after = omega arith; before = omega arith } in
+                let was = begins_unused meaning plan r first begins n me in
+                found n most was.local w me (subst (λ (own : Option Witness). HasWatched init next r.callers b n was.local most own) is (watched was.local was.here))
+            | inr is ↦
+                let me : IsMonitor plan (n + 1) = record { after = omega arith; before = omega arith } in
+                let was = begins_unused meaning plan r first begins (n + 1) me in
+                found (n + 1) most was.local w me (subst (λ (own : Option Witness). HasWatched init next r.callers b (n + 1) was.local most own) is (watched_too was.local was.here))
+          ]

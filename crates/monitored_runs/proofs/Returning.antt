@@ -1,11 +1,13 @@
 -- The two monitors of a bench, from before the run to after it.
 use Rattle.std.proofs.Common.{◌≡◌, ◌∙◌, refl, sym, subst, inl, inr, ℕ, ◌+◌, ◌≤◌, Bool, true, false, ◌||◌, List, Some, length, arith}
 use Rattle.std.proofs.lemmas.Bool.{cases_lt, false≢true}
+use Rattle.world_core.specs.Shape.{Meaning}
 use Rattle.world_core.specs.Local.{Local}
+use Rattle.row_table.specs.declared.rows.Rows.{Rows}
 use Rattle.row_table.specs.declared.bench.Bench.{Bench}
 use Rattle.row_table.specs.Callers.{on_bench, HoldsFree}
 use Rattle.client_scripts.specs.Plans.{Plan}
-use Rattle.bench_clients.specs.Starts.{AreAlikeFrom, IsUnused}
+use Rattle.bench_clients.specs.Starts.{AreAlikeFrom, IsUnused, MayBegin}
 use Rattle.monitor.specs.declared.beside.Left.{Left}
 use Rattle.monitor.specs.Beside.{IsBackFrom}
 use Rattle.monitored_runs.specs.Monitoring.{IsMonitor, HasWatched}
@@ -17,6 +19,10 @@ each_monitor Is plan one other i monitor =
       | inl low ↦ let same : length plan.operations ≡ i = omega (arith, low, monitor.after) in subst Is same one
       | inr high ↦ let same : length plan.operations + 1 ≡ i = omega (arith, high, monitor.before) in subst Is same other
     ]
+
+-- where a run with two monitors may begin, they are unused
+pub begins_unused : {P : Type 0} (meaning : P → ℕ → ℕ → Meaning) (plan : Plan) (r : Rows P) (b : Bench P) → MayBegin meaning plan 2 r b → (i : ℕ) → IsMonitor plan i → IsUnused b i
+begins_unused meaning plan r b begins i monitor = begins.others i monitor.after (omega (arith, monitor.before, begins.callers))
 
 -- no one wanted memory
 pub none_wanted : (a b c : Bool) → (a || (b || c)) ≡ false → (a ≡ false) × ((b ≡ false) × (c ≡ false))
@@ -55,3 +61,15 @@ module _ {P : Type 0} (init : List ℕ) (next : List ℕ → ℕ → List ℕ ×
   back_watched none l here =
       let h = here_back l ((started i high).0 ∙ here) in
       record { local = h.local; here = (ended i high).0 ∙ h.here.here; rounds = h.rounds none }
+
+-- both monitors come back as they were, without calls
+pub monitors_back : {P : Type 0} (init : List ℕ) (next : List ℕ → ℕ → List ℕ × ℕ) (callers most : ℕ) (plan : Plan) (meaning : P → ℕ → ℕ → Meaning) (r : Rows P) (b s w e : Bench P) → MayBegin meaning plan 2 r b
+    → AreAlikeFrom (length plan.operations) b s → AreAlikeFrom (length plan.operations) w e → (one other : Left) (k : ℕ) → k ≡ length plan.operations
+    → ((l : Local) → on_bench s k ≡ Some l → IsBackFrom init next callers w k l most one) → ((l : Local) → on_bench s (k + 1) ≡ Some l → IsBackFrom init next callers w (k + 1) l most other)
+    → (i : ℕ) → IsMonitor plan i → IsUnused e i
+monitors_back init next callers most plan meaning r b s w e begins started ended one other k count back back_too =
+    let n : ℕ = length plan.operations in
+    each_monitor (λ i. IsUnused e i) plan
+    (back_unused init next callers n most b s w e started ended one n k count (omega arith) back (begins_unused meaning plan r b begins n (record { after = omega arith; before = omega arith })))
+    (back_unused init next callers n most b s w e started ended other (n + 1) (k + 1) (omega (arith, count)) (omega arith) back_too
+    (begins_unused meaning plan r b begins (n + 1) (record { after = omega arith; before = omega arith })))

@@ -4,21 +4,17 @@ use Rattle.world_core.specs.Local.{Local, Given}
 use Rattle.world_core.specs.Calls.{calls_in, book_in, local_at}
 use Rattle.call_lines.specs.declared.line.Line.{Line}
 use Rattle.call_lines.specs.Phases.{HasMade, IsTold, asked, published_by, progress_of, no_progress}
-use Rattle.call_lines.specs.Allotments.{operations_at, allotments_of}
-use Rattle.row_table.specs.declared.rows.Rows.{Rows}
+use Rattle.call_lines.specs.Allotments.{operations_at}
 use Rattle.row_table.specs.declared.bench.Bench.{Bench}
 use Rattle.row_table.specs.Benches.{fresh_stance}
 use Rattle.row_table.specs.Callers.{on_bench, stance_on}
 use Rattle.client_scripts.specs.Plans.{Plan}
 use Rattle.call_phases.specs.Asking.{PassCount}
+use Rattle.bench_clients.specs.Starts.{run_allotments}
 use Rattle.bench_clients.specs.Returns.{IsCountOf}
 use Rattle.monitor.specs.declared.witness.Witness.{Witness}
 use Rattle.monitor.specs.Rounds.{HasMadeRounds}
 use Rattle.monitor.specs.Worlds.{AreJudgedRounds}
-
--- How many phases each of a plan's callers makes.
-abbrev pub allotments_in : Plan → List ℕ
-allotments_in plan = allotments_of plan.operations plan.stops
 
 -- How many rounds a monitor makes at the most: one for each call of a plan, and one more.
 abbrev pub most_rounds : Plan → ℕ
@@ -26,7 +22,7 @@ most_rounds plan = sum_by length plan.operations + 1
 
 -- How many records each caller publishes, where each of a plan's callers makes its whole allotment. The two monitors publish none.
 abbrev pub published_for : Plan → List ℕ
-published_for plan = map published_by (allotments_in plan) ++ 0 ∷ 0 ∷ []
+published_for plan = map published_by (run_allotments plan) ++ 0 ∷ 0 ∷ []
 
 -- The lines of a plan's callers, with those of the two monitors behind them, who have none.
 abbrev pub with_monitors : List (List Line) → List (List Line)
@@ -40,19 +36,19 @@ pub record IsMonitor (plan : Plan) (i : ℕ) : Type 0 where
 -- Each of a plan's callers has made exactly the phases of its allotment, and the two monitors have made no call.
 pub record HaveMadeAll (plan : Plan) (locals : List Local) : Type 0 where
   pub callers : length locals ≡ length plan.operations + 2
-  pub made : (i : ℕ) → i < length plan.operations → HasMade (operations_at plan.operations i) (slice_index (allotments_in plan) i) (local_at locals i)
+  pub made : (i : ℕ) → i < length plan.operations → HasMade (operations_at plan.operations i) (slice_index (run_allotments plan) i) (local_at locals i)
   pub none : (i : ℕ) → IsMonitor plan i → progress_of (local_at locals i) ≡ no_progress
 
 -- What the pass of caller i counts, where it counts: it was asked for exactly the calls of the caller's allotment, and tells, where it
 -- tells anything, an operation and a reply for each of them.
 abbrev pub IsCountedAll : {T : Type 0} → (T → Option PassCount) → Plan → List Local → ℕ → T → Type 0
-IsCountedAll count plan locals i pass = IfSome (count pass) (IsCountOf (slice_index (allotments_in plan) i) (local_at locals i))
+IsCountedAll count plan locals i pass = IfSome (count pass) (IsCountOf (slice_index (run_allotments plan) i) (local_at locals i))
 
 -- The pass of caller i was asked for exactly the calls of the caller's allotment. What it tells, where it tells anything, begins with the
 -- operations and the replies of the caller's records, and is at most one pair longer.
 pub record IsToldAll {T : Type 0} (made : T → ℕ) (told : T → Option (List (ℕ × ℕ))) (plan : Plan) (locals : List Local) (i : ℕ) (pass : T) : Type 0 where
-  pub asked_for : made pass ≡ asked (slice_index (allotments_in plan) i)
-  pub told_is : IfSome (told pass) (IsTold (slice_index (allotments_in plan) i) (calls_in (local_at locals i)))
+  pub asked_for : made pass ≡ asked (slice_index (run_allotments plan) i)
+  pub told_is : IfSome (told pass) (IsTold (slice_index (run_allotments plan) i) (calls_in (local_at locals i)))
 
 module _ (init : List ℕ) (next : List ℕ → ℕ → List ℕ × ℕ) where
   -- The cuts that monitor i was given, after those that it had in this local, are those of its rounds over the calls of all callers.
@@ -61,15 +57,10 @@ module _ (init : List ℕ) (next : List ℕ → ℕ → List ℕ × ℕ) where
       (rounds : List Given) × ((local_at locals i).cuts ≡ before.cuts ++ rounds) × AreJudgedRounds init next (book_in locals) (most_rounds plan) rounds
 
 module _ {P : Type 0} where
-  -- These rows have two callers more than a plan, its monitors, and room for the calls of each of the plan's.
-  pub record AreRowsBeside (plan : Plan) (r : Rows P) : Type 0 where
-    pub callers : r.callers ≡ length plan.operations + 2
-    pub cap : (i : ℕ) → length (operations_at plan.operations i) ≤ r.cap
-
   -- Each of a plan's callers whose allotment ends between two calls, or behind all of them, stands on the bench free for its next call.
   abbrev pub AreFreeAgain : Plan → Bench P → Type 0
   AreFreeAgain plan b =
-      (i : ℕ) → i < length plan.operations → slice_index (allotments_in plan) i % 5 ≡ 0 → stance_on b i ≡ Some fresh_stance
+      (i : ℕ) → i < length plan.operations → slice_index (run_allotments plan) i % 5 ≡ 0 → stance_on b i ≡ Some fresh_stance
 
   -- Caller i, which had this local, is on the bench after its rounds, which found this own witness or none.
   pub record HasWatched (init : List ℕ) (next : List ℕ → ℕ → List ℕ × ℕ) (n : ℕ) (b : Bench P) (i : ℕ) (before : Local) (most : ℕ) (own : Option Witness) : Type 0 where

@@ -6,15 +6,14 @@ ghost use Rattle.world_core.specs.Local.{Local};
 ghost use Rattle.call_lines.specs.Lines.{book_of_lines};
 ghost use Rattle.row_table.specs.Callers.{locals_on, on_bench, IsBenchOf, HoldsAll};
 ghost use Rattle.call_phases.specs.Asking.{fits_own, own_count};
-ghost use Rattle.call_phases.specs.Ends.{silent};
 ghost use Rattle.reports.specs.Filling.{AreOfABook};
 ghost use Rattle.reports.specs.ReportLayout.{lines_in};
 ghost use Rattle.bench_clients.specs.Places.{AreInOrder};
-ghost use Rattle.bench_clients.specs.Starts.{course_of, IsUnused, IsFreshPass};
+ghost use Rattle.bench_clients.specs.Starts.{run_allotments, IsUnused, MayBegin, AreFreshPasses};
 ghost use Rattle.bench_clients.specs.Returns.{IsBackOn};
-ghost use Rattle.run_report.specs.Passes.{IsOwnPass, IsUnusedPass};
+ghost use Rattle.run_report.specs.Passes.{IsOwnPass, AreUnusedPasses};
 ghost use Rattle.monitored_runs.specs.Published.{IsJudgedAt, IsExactAnswer};
-ghost use Rattle.monitored_runs.specs.Monitoring.{allotments_in, published_for, with_monitors, IsMonitor, AreRowsBeside, HaveMadeAll, AreFreeAgain, IsCountedAll, IsToldAll, HasMonitored};
+ghost use Rattle.monitored_runs.specs.Monitoring.{published_for, with_monitors, IsMonitor, HaveMadeAll, AreFreeAgain, IsCountedAll, IsToldAll, HasMonitored};
 
 use crate::counts::{most_rounds, published_counts};
 use crate::published::judge_at;
@@ -80,13 +79,12 @@ fn judge_lines<S: SeqObject>(
 
 /// Runs all callers of a script, each in a thread of its own where one can be had, whatever object they ask and
 /// wherever it is: none judges a call. Beside them two monitors, the two callers after the script's, make rounds
-/// over what is published, each until one is illegal, and at most one more than the script has calls. Where no
-/// round was illegal, the book of all published records is judged once, after all have ended.
+/// over what is published, each until one is illegal, and at most one more than the script has calls.
 ///
-/// The answer is a witness exactly where that book has no legal order, and each caller whose allotment ends between
-/// two calls, or behind all of them, then stands free for its next call. Whatever the answer, the bench holds all
-/// callers again, and the passes are in their order. Want of memory is answered before the first call, or where a
-/// judgement wanted it.
+/// The answer is a witness exactly where the book of all published records has no legal order, whoever found it, and
+/// each caller whose allotment ends between two calls, or behind all of them, then stands free for its next call.
+/// Whatever the answer, the bench holds all callers again, and the passes are in their order. Want of memory is
+/// answered before the first call, or where a judgement wanted it.
 pub fn monitor_asked<
     R: Threads + Sync,
     P: Program + Send + Sync,
@@ -103,18 +101,15 @@ pub fn monitor_asked<
     script: &Script,
 ) -> Result<Option<Witness>, NoMemory>
     requires serves { A.serves shared.now.asks.now shared.now.rows.now }
-    requires rows { AreRowsBeside script.now shared.now.rows.now }
-    requires bench { IsBenchOf P.meaning shared.now.rows.now bench.old }
-    requires unused { (i : ℕ) → i < length script.now.operations + 2 → IsUnused bench.old i }
-    requires all_passes { vec_len passes.old ≡ length script.now.operations }
-    requires passes { AreInOrder (IsFreshPass shared.now.rows.now (A.fits shared.now.asks.now) A.count
-        script.now.operations) passes.old.items }
+    requires begins { MayBegin P.meaning script.now 2 shared.now.rows.now bench.old }
+    requires passes { AreFreshPasses shared.now.rows.now (A.fits shared.now.asks.now) A.count
+        script.now.operations passes.old.items }
     // For every answer.
     ensures bench { IsBenchOf P.meaning shared.now.rows.now bench.new × HoldsAll bench.new }
     ensures all_passes { vec_len passes.new ≡ length script.now.operations }
     ensures capacity { vec_capacity passes.old ≤ vec_capacity passes.new }
     ensures back { (i : ℕ) → i < length script.now.operations → IsBackOn P.meaning shared.now.rows.now
-        (A.fits shared.now.asks.now) A.count (course_of script.now (allotments_in script.now) silent)
+        (A.fits shared.now.asks.now) A.count script.now.operations (run_allotments script.now)
         bench.new passes.new.items i }
     ensures monitors { (i : ℕ) → IsMonitor script.now i → IsUnused bench.new i }
     // Where the run is judged.
@@ -138,12 +133,9 @@ pub fn monitor_asked<
 /// Runs all callers of a script over an object under test, each in a thread of its own where one can be had:
 /// none judges a call. Beside them two monitors, the two callers after the script's, make rounds over what is
 /// published (Castañeda and Rodríguez 2023), each until one is illegal, and at most one more than the script has
-/// calls. Where no round was illegal, the book of all published records is judged once, after all have ended.
+/// calls. The rows have two callers more than the script, and there is a pass for each of the script's.
 ///
-/// The answer is a witness exactly where that book has no legal order: the one that the monitors' board took,
-/// where it took one. The rows have two callers more than the script, and there is a pass for each of the
-/// script's.
-///
+/// The answer is a witness exactly where the book of all published records has no legal order, whoever found it.
 /// Whatever the answer, the bench holds all callers again, and the passes are in their order. Want of memory is
 /// answered before the first call, or where a judgement wanted it.
 pub fn monitor_over<R: Threads + Sync, S: SeqObject + Sync, B: BlackBox + Sync>(
@@ -158,19 +150,16 @@ pub fn monitor_over<R: Threads + Sync, S: SeqObject + Sync, B: BlackBox + Sync>(
 ) -> Result<Option<Witness>, NoMemory>
 where
     B::Pass: Send,
-    requires rows { AreRowsBeside script.now rows.now }
-    requires bench { IsBenchOf ⟦<Outside as Program>⟧.meaning rows.now bench.old }
-    requires unused { (i : ℕ) → i < length script.now.operations + 2 → IsUnused bench.old i }
-    requires all_passes { vec_len passes.old ≡ length script.now.operations }
-    requires passes { AreInOrder (IsUnusedPass (B.is_own object.now) B.Pass.caller B.Pass.made
-        B.Pass.cap script.now.operations) passes.old.items }
+    requires begins { MayBegin ⟦<Outside as Program>⟧.meaning script.now 2 rows.now bench.old }
+    requires passes { AreUnusedPasses (B.is_own object.now) B.Pass.caller B.Pass.made B.Pass.cap
+        script.now.operations passes.old.items }
     // For every answer.
     ensures bench { IsBenchOf ⟦<Outside as Program>⟧.meaning rows.now bench.new × HoldsAll bench.new }
     ensures all_passes { vec_len passes.new ≡ length script.now.operations }
     ensures capacity { vec_capacity passes.old ≤ vec_capacity passes.new }
     ensures back { (i : ℕ) → i < length script.now.operations → IsBackOn
         ⟦<Outside as Program>⟧.meaning rows.now (fits_own (B.is_own object.now) B.Pass.caller)
-        (own_count B.Pass.made B.Pass.cap B.Pass.told) (course_of script.now (allotments_in script.now) silent)
+        (own_count B.Pass.made B.Pass.cap B.Pass.told) script.now.operations (run_allotments script.now)
         bench.new passes.new.items i }
     ensures passes { AreInOrder (IsOwnPass (B.is_own object.now) B.Pass.caller) passes.new.items }
     ensures monitors { (i : ℕ) → IsMonitor script.now i → IsUnused bench.new i }

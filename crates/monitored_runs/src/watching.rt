@@ -3,16 +3,14 @@
 ghost use Rattle.std.specs.Prelude.{◌≡◌, ◌≢◌, ℕ, ◌+◌, ◌<◌, ◌≤◌, false, Some, length, vec_len, vec_capacity, IfOk};
 ghost use Rattle.std.specs.List.{All, AllZip};
 ghost use Rattle.world_core.specs.Local.{Local};
-ghost use Rattle.call_lines.specs.Allotments.{allotments_of};
 ghost use Rattle.row_table.specs.Callers.{on_bench, IsBenchOf, HoldsFree};
 ghost use Rattle.call_phases.specs.Ends.{silent, SaysDeferred};
 ghost use Rattle.reports.specs.ReportLayout.{lines_in};
 ghost use Rattle.monitor.specs.Beside.{IsUnmoved, IsBackFrom};
-ghost use Rattle.bench_clients.specs.Places.{AreInOrder};
 ghost use Rattle.bench_clients.specs.Work.{IsReady, HasRun};
-ghost use Rattle.bench_clients.specs.Starts.{course_of, IsUnused, IsFreshPass};
+ghost use Rattle.bench_clients.specs.Starts.{run_allotments, course_of, IsUnused, MayBegin, AreFreshPasses};
 ghost use Rattle.bench_clients.specs.Returns.{IsBackOn, AreBack};
-ghost use Rattle.monitored_runs.specs.Monitoring.{allotments_in, IsMonitor, AreRowsBeside, HasWatched};
+ghost use Rattle.monitored_runs.specs.Monitoring.{IsMonitor, HasWatched};
 
 use bench_clients::{Worker, end_all, make_room, start_all};
 use book_base::{NoMemory, SeqObject};
@@ -109,24 +107,21 @@ pub(crate) fn watch_all<
     rounds: u64,
 ) -> Result<(Vec<Own>, Left, Left), NoMemory>
     requires serves { A.serves shared.now.asks.now shared.now.rows.now }
-    requires rows { AreRowsBeside script.now shared.now.rows.now }
-    requires bench { IsBenchOf P.meaning shared.now.rows.now bench.old }
-    requires unused { (i : ℕ) → i < length script.now.operations + 2 → IsUnused bench.old i }
-    requires all_passes { vec_len passes.old ≡ length script.now.operations }
-    requires passes { AreInOrder (IsFreshPass shared.now.rows.now (A.fits shared.now.asks.now) A.count
-        script.now.operations) passes.old.items }
+    requires begins { MayBegin P.meaning script.now 2 shared.now.rows.now bench.old }
+    requires passes { AreFreshPasses shared.now.rows.now (A.fits shared.now.asks.now) A.count
+        script.now.operations passes.old.items }
     ensures bench { IsBenchOf P.meaning shared.now.rows.now bench.new }
     ensures all_passes { vec_len passes.new ≡ length script.now.operations }
     ensures capacity { vec_capacity passes.old ≤ vec_capacity passes.new }
     ensures back { (i : ℕ) → i < length script.now.operations → IsBackOn P.meaning shared.now.rows.now
-        (A.fits shared.now.asks.now) A.count (course_of script.now (allotments_in script.now) silent)
+        (A.fits shared.now.asks.now) A.count script.now.operations (run_allotments script.now)
         bench.new passes.new.items i }
     ensures monitors { (i : ℕ) → IsMonitor script.now i → IsUnused bench.new i }
     ensures all_lines { IfOk result (λ left. vec_len left.0 ≡ length script.now.operations) }
     ensures lines { IfOk result (λ left. AreBack P.meaning shared.now.rows.now SaysDeferred
         (A.fits shared.now.asks.now) A.count
         (length script.now.operations) (length script.now.operations)
-        (course_of script.now (allotments_in script.now) silent)
+        (course_of script.now (run_allotments script.now) silent)
         bench.new passes.new.items (lines_in left.0.items) false) }
     ensures one { IfOk result (λ left. (l : Local) → on_bench bench.old (length script.now.operations) ≡ Some l
         → HasWatched (S.init sequential.now) (S.next sequential.now) shared.now.rows.now.callers

@@ -1,50 +1,24 @@
 -- Runs that open the table of rows themselves.
-use Rattle.std.proofs.Common.{◌≡◌, ◌∙◌, ℕ, ◌<◌, List, Option, Some, length, subst, arith}
+use Rattle.std.proofs.Common.{◌≡◌, ℕ, List, Option, length, subst}
 use Rattle.world_core.specs.Shape.{Shape, Meaning}
-use Rattle.world_core.specs.Programs.{outside}
-use Rattle.world_core.specs.Local.{fresh}
 use Rattle.call_lines.specs.Lawful.{IsLawful}
-use Rattle.text_fields.specs.declared.version.Version.TheVariants.{Second}
-use Rattle.client_scripts.specs.Plans.{Plan, IsPlan}
+use Rattle.client_scripts.specs.Plans.{Plan}
+use Rattle.bench_clients.specs.Starts.{run_allotments}
 use Rattle.seq_objects.specs.Objects.{kind_init, kind_next}
-use Rattle.row_table.specs.Benches.{fresh_stance}
-use Rattle.row_table.specs.Callers.{shape_of, locals_on, on_bench, stance_on, IsBenchOf}
+use Rattle.row_table.specs.Callers.{shape_of, locals_on}
 use Rattle.row_table.specs.declared.rows.Rows.{Rows}
 use Rattle.row_table.specs.declared.bench.Bench.{Bench}
-use Rattle.bench_clients.specs.Places.{AreInOrder}
 use Rattle.reports.specs.Findings.{Findings}
-use Rattle.run_report.specs.Passes.{IsOwnPass, IsUnusedPass}
 use Rattle.run_writer.specs.declared.form.Form.{Form}
 use Rattle.byte_streams.specs.declared.status.Status.{Status}
 use Rattle.core_objects.specs.CoreObjects.{shape_with}
-use Rattle.core_runs.proofs.FreshRuns.{rows_for, shape_opened_with, unused_when_opened}
-use Rattle.run_report.specs.Reporting.{IsReportOf}
-use Rattle.run_writer.specs.Running.{run_allotments, MayBegin, IsToldBenchReport, IsCoreReport}
+use Rattle.core_runs.proofs.Opened.{shape_opened_with}
+use Rattle.run_report.specs.Reporting.{outside_shape, IsReportOf}
+use Rattle.run_writer.specs.Running.{IsToldBenchReport, IsCoreReport}
 use Rattle.call_phases.specs.Ends.{Sequential}
 use Rattle.run_writer.specs.Runs.{RunEnds, IsRunOutput, object_of_kind}
-use Rattle.named_runs.specs.Worlds.{outside_shape}
 use Rattle.named_runs.specs.BehaviourRuns.{IsToldReport, IsInsideReport}
 use Rattle.byte_streams.proofs.WritingLemmas.{EndsWriting-weaker}
-
--- a run may begin on rows that were opened for a plan with the greatest cap, with their bench
-pub may_begin : {P : Type 0} (meaning : P → ℕ → ℕ → Meaning) (plan : Plan) (n : ℕ) (r : Rows P) (b : Bench P) → n ≡ length plan.operations → IsPlan Second plan → r.callers ≡ n → r.cap ≡ 256 → IsBenchOf meaning r b
-    → ((i : ℕ) → i < n → (on_bench b i ≡ Some fresh) × (stance_on b i ≡ Some fresh_stance)) → MayBegin meaning plan r b
-may_begin meaning plan n r b all is callers cap of opened = record {
-  rows_for = rows_for r plan 256 (callers ∙ all) cap is.calls;
-  bench_of = of;
-  unused = λ i low. unused_when_opened b i (opened i (omega (arith, low, all)));
-}
-
--- unused passes are own
-pub unused_own : {T : Type 0} (is_own : T → Type 0) (caller made cap : T → ℕ) (operations : List (List ℕ)) (passes : List T)
-    → AreInOrder (IsUnusedPass is_own caller made cap operations) passes → AreInOrder (IsOwnPass is_own caller) passes
-unused_own is_own caller made cap operations passes h i pass there =
-    let one = h i pass there in
-    record { own = one.own; of = one.of }
-
--- the shape of the world of rows with the greatest cap
-pub outside_shapes : (callers cap n : ℕ) → callers ≡ n → cap ≡ 256 → ◌≡◌ {A = Shape} (record { callers = callers; cap = cap; program = outside }) (outside_shape n)
-outside_shapes callers cap n all most = λ i. record { callers = all i; cap = most i; program = outside }
 
 -- a run with one of some reports is a run with one of any reports that have them among them
 pub RunEnds-weaker : (object : Sequential) (A B : Findings → Type 0) (form : Form) (result : Status) (taken taken' : Option (List ℕ)) → ((report : Findings) → A report → B report)
@@ -75,7 +49,7 @@ pub inside_fresh_ends : {P : Type 0} (object : Sequential) (meaning : P → ℕ 
     → RunEnds object (IsCoreReport object meaning rows bench plan (run_allotments plan)) form result taken taken'
     → RunEnds object (IsInsideReport object (shape_with (meaning program) (length plan.operations) 256) plan (run_allotments plan)) form result taken taken'
 inside_fresh_ends object meaning program rows bench plan form result taken taken' same all most ends =
-    let shape = shape_opened_with rows meaning program (length plan.operations) 256 same all most in
+    let shape = shape_opened_with rows (length plan.operations) 256 all most meaning program same in
     RunEnds-weaker _ _ _ form result taken taken'
     (λ findings is. record {
       locals = locals_on bench;

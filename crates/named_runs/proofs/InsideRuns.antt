@@ -18,7 +18,7 @@ use Rattle.faulty_objects.specs.declared.behaviour.Behaviour.{Behaviour}
 use Rattle.faulty_objects.specs.declared.behaviour.Behaviour.TheVariants as behaviours
 use Rattle.byte_streams.specs.declared.status.Status.{Status}
 use Rattle.run_writer.specs.declared.form.Form.{Form}
-use Rattle.run_writer.specs.Running.{run_allotments}
+use Rattle.bench_clients.specs.Starts.{run_allotments}
 use Rattle.run_writer.specs.Runs.{RunEnds, object_of_kind}
 use Rattle.named_runs.specs.declared.inside.Inside.{Inside}
 use Rattle.named_runs.specs.declared.inside.Inside.TheVariants.{Log, Tally, Cell}

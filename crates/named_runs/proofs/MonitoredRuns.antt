@@ -1,7 +1,7 @@
 -- What is written of runs that two monitors watch, over rows that were opened for them.
-use Rattle.std.proofs.Common.{◌≡◌, ◌∙◌, refl, sym, ap, subst, inl, inr, ℕ, ◌+◌, ◌≤◌, List, [], ◌∷◌, ◌++◌, length, map, Option, Some, None, slice_get, slice_index, arith}
+use Rattle.std.proofs.Common.{◌≡◌, ◌∙◌, refl, sym, ap, subst, inl, inr, ℕ, ◌+◌, ◌≤◌, List, [], ◌∷◌, ◌++◌, length, Option, Some, None, slice_get, arith}
 use Rattle.std.specs.Prelude.{IfSome}
-use Rattle.std.specs.List.{All, range_with_len}
+use Rattle.std.specs.List.{range_with_len}
 use Rattle.std.proofs.lemmas.List.{length-map, length_push, get_or_past}
 use Rattle.std.proofs.lemmas.List.FromFn.{length-range_with_len}
 use Rattle.list_laws.proofs.Places.{slice_get-push_old, slice_get-push_last, slice_get-push_cases}
@@ -11,30 +11,24 @@ use Rattle.world_core.specs.Calls.{Made, AreTogether}
 use Rattle.call_lines.specs.Phases.{Progress, IsTold}
 use Rattle.call_lines.specs.Allotments.{operations_at, stop_at, phases_for}
 use Rattle.seq_objects.specs.declared.kind.Kind.{Kind}
-use Rattle.text_fields.specs.declared.version.Version.TheVariants.{Second}
-use Rattle.client_scripts.specs.Plans.{Plan, IsPlan}
+use Rattle.client_scripts.specs.Plans.{Plan}
 use Rattle.row_table.specs.declared.rows.Rows.{Rows}
 use Rattle.row_table.specs.declared.bench.Bench.{Bench}
 use Rattle.row_table.specs.Callers.{shape_of, locals_on, IsBenchOf, HoldsAll}
 use Rattle.row_table.proofs.Parting.{whole_is_together}
 use Rattle.bench_clients.specs.Places.{AreInOrder}
+use Rattle.bench_clients.specs.Starts.{run_allotments}
 use Rattle.run_report.specs.Passes.{IsOwnPass}
 use Rattle.faulty_objects.specs.declared.behaviour.Behaviour.{Behaviour}
 use Rattle.byte_streams.specs.declared.status.Status.{Status}
 use Rattle.byte_streams.specs.declared.status.Status.TheVariants.{Fine, Found, Usage, Refused, ReadFault, WriteFault, NoMemory}
 use Rattle.byte_streams.specs.Writing.{EndsWriting}
 use Rattle.byte_streams.proofs.WritingLemmas.{EndsWriting-weaker}
-use Rattle.monitored_runs.specs.Monitoring.{allotments_in, AreRowsBeside, IsMonitor, HaveMadeAll, IsToldAll}
+use Rattle.monitored_runs.specs.Monitoring.{IsMonitor, HaveMadeAll, IsToldAll}
 use Rattle.monitor_writer.specs.MonitorTexts.{IsMonitorText}
-use Rattle.named_runs.specs.Worlds.{outside_shape}
+use Rattle.run_report.specs.Reporting.{outside_shape}
 use Rattle.named_runs.specs.NamedObjects.{AreTold}
 use Rattle.named_runs.specs.Monitored.{phases_in, calls_at, AreToldMonitored, AreExplainedMonitored, AreNamedMonitored, IsMonitorOutput}
-use Rattle.core_runs.proofs.FreshRuns.{calls_within}
-
--- rows with two callers more and the greatest cap are wide enough
-pub rows_beside : {P : Type 0} (plan : Plan) (r : Rows P) → r.callers ≡ length plan.operations + 2 → r.cap ≡ 256 → IsPlan Second plan → AreRowsBeside plan r
-rows_beside plan r callers cap h =
-    record { callers = callers; cap = λ i. subst (λ (n : ℕ). length (operations_at plan.operations i) ≤ n) (sym cap) (calls_within 256 plan.operations i h.calls) }
 
 -- what holds but where memory was wanted holds of what is written
 ends_where : (A B : Status → List ℕ → Type 0) (result : Status) (taken taken' : Option (List ℕ)) → (¬ (result ≡ NoMemory) → (status : Status) (text : List ℕ) → A status text → B status text)
@@ -117,7 +111,7 @@ module _ {T : Type 0} (told : T → Option (List (ℕ × ℕ))) (passes : List T
     (no_a : (pairs : List (ℕ × ℕ)) → told a ≡ Some pairs → length pairs ≡ 0) (no_b : (pairs : List (ℕ × ℕ)) → told b ≡ Some pairs → length pairs ≡ 0) where
   no_phases : (i : ℕ) → length plan.operations ≤ i → phases_in plan i ≡ 0
   no_phases i high =
-      get_or_past (allotments_in plan) i 0
+      get_or_past (run_allotments plan) i 0
       (omega (arith, high, length-map (range_with_len 0 (length plan.operations)) (λ j. phases_for (stop_at plan.stops j) (length (operations_at plan.operations j))), length-range_with_len 0 (length plan.operations)))
 
   monitor_told : (locals : List Local) → HaveMadeAll plan locals → (i : ℕ) (list : Option (List (ℕ × ℕ))) → IsMonitor plan i → ((pairs : List (ℕ × ℕ)) → list ≡ Some pairs → length pairs ≡ 0)

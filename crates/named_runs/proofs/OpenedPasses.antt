@@ -8,9 +8,9 @@ use Rattle.std.proofs.lemmas.Option.{slice_get-map, slice_get_within, slice_get-
 use Rattle.text_fields.specs.declared.version.Version.TheVariants.{Second}
 use Rattle.client_scripts.specs.Plans.{Plan, IsPlan}
 use Rattle.bench_clients.specs.Places.{AreInOrder}
-use Rattle.run_report.specs.Passes.{IsOwnPass, IsUnusedPass}
+use Rattle.run_report.specs.Passes.{IsOwnPass, IsUnusedPass, AreUnusedPasses}
 use Rattle.named_runs.specs.NamedObjects.{AreOwnPasses}
-use Rattle.core_runs.proofs.FreshRuns.{calls_within}
+use Rattle.bench_clients.proofs.Starts.{operations_within}
 
 module _ {T : Type 0} (caller : T → ℕ) (passes : List T) (n : ℕ) where
   -- there is a pass for each caller
@@ -27,9 +27,9 @@ module _ {T : Type 0} (caller : T → ℕ) (passes : List T) (n : ℕ) where
       omega (arith, at, ap (λ (l : List ℕ). get_or l i 0) callers, own)
 
   -- new passes are unused
-  pub opened_passes : (is_own : T → Type 0) (made cap : T → ℕ) (plan : Plan) → map caller passes ≡ range_with_len 0 n → All is_own passes → All (λ pass. (made pass ≡ 0) × (cap pass ≡ 256)) passes
+  pub opened_unused : (is_own : T → Type 0) (made cap : T → ℕ) (plan : Plan) → map caller passes ≡ range_with_len 0 n → All is_own passes → All (λ pass. (made pass ≡ 0) × (cap pass ≡ 256)) passes
       → IsPlan Second plan → AreInOrder (IsUnusedPass is_own caller made cap plan.operations) passes
-  opened_passes is_own made cap plan callers own new h i pass there =
+  opened_unused is_own made cap plan callers own new h i pass there =
       let low : i < length passes = slice_get_within passes i pass there in
       let at : get_or passes i pass ≡ pass = get_or_from_slice_get passes i pass pass there in
       let fresh = subst (λ (p : T). (made p ≡ 0) × (cap p ≡ 256)) at (new i pass low) in
@@ -37,8 +37,13 @@ module _ {T : Type 0} (caller : T → ℕ) (passes : List T) (n : ℕ) where
         own = subst is_own at (own i pass low);
         of = pass_at callers i pass there;
         none = fresh.0;
-        enough = omega (arith, calls_within 256 plan.operations i h.calls, fresh.1);
+        enough = omega (arith, operations_within 256 plan.operations i h.calls, fresh.1);
       }
+
+  -- so a run asks for them, where there is one for each caller
+  pub opened_passes : (is_own : T → Type 0) (made cap : T → ℕ) (plan : Plan) → n ≡ length plan.operations → map caller passes ≡ range_with_len 0 n → All is_own passes
+      → All (λ pass. (made pass ≡ 0) × (cap pass ≡ 256)) passes → IsPlan Second plan → AreUnusedPasses is_own caller made cap plan.operations passes
+  opened_passes is_own made cap plan count callers own new h = record { as_many = passes_count callers ∙ count; each = opened_unused is_own made cap plan callers own new h }
 
 -- passes in order are all the object's own
 own_passes : {T : Type 0} (is_own : T → Type 0) (caller : T → ℕ) (passes : List T) → AreInOrder (IsOwnPass is_own caller) passes → All is_own passes

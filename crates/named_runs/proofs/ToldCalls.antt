@@ -21,7 +21,7 @@ use Rattle.run_writer.specs.Runs.{RunEnds}
 use Rattle.logged_calls.specs.Logged.{IsLoggedBy, AreFormed}
 use Rattle.core_runs.specs.LoggedReports.{phases_in, calls_of_lines}
 use Rattle.named_runs.specs.NamedObjects.{AreTold, TellsFormed}
-use Rattle.named_runs.specs.Worlds.{outside_shape}
+use Rattle.run_report.specs.Reporting.{outside_shape}
 use Rattle.named_runs.specs.BehaviourRuns.{IsToldReport, IsExplainedReport, IsNamedReport}
 use Rattle.named_runs.proofs.FreshRuns.{RunEnds-weaker}
 use Rattle.named_runs.proofs.OpenedPasses.{passes_count, pass_at}

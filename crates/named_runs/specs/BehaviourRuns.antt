@@ -11,13 +11,13 @@ use Rattle.call_lines.specs.Lines.{any_error}
 use Rattle.client_scripts.specs.Plans.{Plan}
 use Rattle.call_phases.specs.Ends.{Sequential}
 use Rattle.bench_clients.specs.Places.{AreInOrder}
+use Rattle.bench_clients.specs.Starts.{run_allotments, replay_allotments}
 use Rattle.reports.specs.Findings.{Findings}
-use Rattle.run_report.specs.Reporting.{IsReportOf, IsToldIn}
+use Rattle.run_report.specs.Reporting.{outside_shape, IsReportOf, IsToldIn}
 use Rattle.faulty_objects.specs.declared.behaviour.Behaviour.{Behaviour}
-use Rattle.run_writer.specs.Running.{run_allotments, replay_allotments}
 use Rattle.core_runs.specs.LoggedReports.{phases_in, calls_of_lines}
 use Rattle.named_runs.specs.NamedObjects.{IsOfBehaviour}
-use Rattle.named_runs.specs.Worlds.{inside_of, outside_shape, world_of}
+use Rattle.named_runs.specs.Worlds.{inside_of, world_of}
 
 -- A report of a plan's callers in a world of this shape that had these allotments: of the plan's kind, and lawful by the object of that
 -- kind.

@@ -6,14 +6,15 @@ use Rattle.world_core.specs.Calls.{Made, AreTogether, calls_in, local_at}
 use Rattle.client_scripts.specs.Plans.{Plan}
 use Rattle.faulty_objects.specs.declared.behaviour.Behaviour.{Behaviour}
 use Rattle.byte_streams.specs.declared.status.Status.{Status}
-use Rattle.monitored_runs.specs.Monitoring.{allotments_in, HaveMadeAll}
+use Rattle.bench_clients.specs.Starts.{run_allotments}
+use Rattle.monitored_runs.specs.Monitoring.{HaveMadeAll}
 use Rattle.monitor_writer.specs.MonitorTexts.{IsMonitorText}
-use Rattle.named_runs.specs.Worlds.{outside_shape}
+use Rattle.run_report.specs.Reporting.{outside_shape}
 use Rattle.named_runs.specs.NamedObjects.{AreTold, IsOfBehaviour}
 
 -- How many phases a caller of a plan makes; the monitors, which come after them, make none. And the calls of a caller.
 abbrev pub phases_in : Plan → ℕ → ℕ
-phases_in plan i = slice_index (allotments_in plan) i
+phases_in plan i = slice_index (run_allotments plan) i
 
 abbrev pub calls_at : List Local → ℕ → List Made
 calls_at locals i = calls_in (local_at locals i)

@@ -5,10 +5,10 @@ use Rattle.seq_objects.specs.declared.kind.Kind.{Kind}
 use Rattle.seq_objects.specs.declared.kind.Kind.TheVariants.{Counter, Register}
 use Rattle.seq_objects.specs.Objects.{kind_init, kind_next}
 use Rattle.world_core.specs.Shape.{Shape}
-use Rattle.world_core.specs.Programs.{outside}
 use Rattle.object_orders.specs.OneWord.{one_word_shape}
 use Rattle.object_orders.specs.TallyAndCell.{tally, cell}
 use Rattle.log_program.specs.LogProgram.{log_shape}
+use Rattle.run_report.specs.Reporting.{outside_shape}
 use Rattle.faulty_objects.specs.declared.behaviour.Behaviour.{Behaviour}
 use Rattle.faulty_objects.specs.declared.behaviour.Behaviour.TheVariants as behaviours
 use Rattle.named_runs.specs.declared.inside.Inside.{Inside}
@@ -20,10 +20,6 @@ inside_of behaviours.Lawful kind = Some Log
 inside_of behaviours.Tally Counter = Some Tally
 inside_of behaviours.Cell Register = Some Cell
 inside_of behaviour kind = None
-
--- The shape of the world of n callers with the greatest cap, whose object is outside.
-abbrev pub outside_shape : ℕ → Shape
-outside_shape n = record { callers = n; cap = MAX_CALLS; program = outside }
 
 -- The shape of the world of n callers with the greatest cap, in which an object answers the calls of a script of a kind.
 abbrev pub shape_in : Option Inside → Kind → ℕ → Shape

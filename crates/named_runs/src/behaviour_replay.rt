@@ -3,8 +3,8 @@
 ghost use Rattle.std.specs.Prelude.{length};
 ghost use Rattle.byte_streams.specs.Fault.{LeavesSink};
 ghost use Rattle.run_writer.specs.Runs.{RunEnds, object_of_kind};
-ghost use Rattle.run_writer.specs.Running.{replay_allotments};
-ghost use Rattle.named_runs.specs.Worlds.{outside_shape};
+ghost use Rattle.bench_clients.specs.Starts.{replay_allotments};
+ghost use Rattle.run_report.specs.Reporting.{outside_shape};
 ghost use Rattle.named_runs.specs.BehaviourRuns.{IsExplainedReport, IsNamedReplayReport};
 
 use crate::fresh_replay::replay_fresh;

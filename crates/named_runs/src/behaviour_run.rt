@@ -3,8 +3,9 @@
 ghost use Rattle.std.specs.Prelude.{◌≡◌, ◌⊎◌, IsSome, None, length};
 ghost use Rattle.byte_streams.specs.Fault.{LeavesSink};
 ghost use Rattle.run_writer.specs.Runs.{RunEnds, object_of_kind};
-ghost use Rattle.run_writer.specs.Running.{run_allotments};
-ghost use Rattle.named_runs.specs.Worlds.{inside_of, outside_shape};
+ghost use Rattle.bench_clients.specs.Starts.{run_allotments};
+ghost use Rattle.run_report.specs.Reporting.{outside_shape};
+ghost use Rattle.named_runs.specs.Worlds.{inside_of};
 ghost use Rattle.named_runs.specs.BehaviourRuns.{IsExplainedReport, IsNamedReport, IsNamedRunReport};
 
 use crate::fresh_run::run_fresh;

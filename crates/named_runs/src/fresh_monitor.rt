@@ -3,7 +3,7 @@
 ghost use Rattle.std.specs.Prelude.{◌≡◌, ◌≤◌, ◌+◌, length, vec_len, vec_capacity};
 ghost use Rattle.book_base.specs.declared.TheConstants.{MAX_CALLERS};
 ghost use Rattle.bench_clients.specs.Places.{AreInOrder};
-ghost use Rattle.run_report.specs.Passes.{IsOwnPass, IsUnusedPass};
+ghost use Rattle.run_report.specs.Passes.{IsOwnPass, AreUnusedPasses};
 ghost use Rattle.byte_streams.specs.Fault.{LeavesSink};
 ghost use Rattle.byte_streams.specs.Writing.{EndsWriting};
 ghost use Rattle.named_runs.specs.Monitored.{AreToldMonitored, IsMonitorOutput};
@@ -35,9 +35,8 @@ pub fn monitor_fresh<R: Threads + Sync, B: BlackBox + Sync, K: Sink>(
 where
     B::Pass: Send,
     requires few { length script.now.operations + 2 ≤ MAX_CALLERS }
-    requires all_passes { vec_len passes.old ≡ length script.now.operations }
-    requires passes { AreInOrder (IsUnusedPass (B.is_own object.now) B.Pass.caller B.Pass.made
-        B.Pass.cap script.now.operations) passes.old.items }
+    requires passes { AreUnusedPasses (B.is_own object.now) B.Pass.caller B.Pass.made B.Pass.cap
+        script.now.operations passes.old.items }
 
     // What stands afterwards, whatever the answer.
     ensures all_passes { vec_len passes.new ≡ length script.now.operations }

@@ -1,11 +1,11 @@
 //! Whole replays of a script that open the table of rows themselves.
 
-ghost use Rattle.std.specs.Prelude.{◌≡◌, ◌≤◌, length, vec_len};
+ghost use Rattle.std.specs.Prelude.{◌≡◌, length, vec_len};
 ghost use Rattle.bench_clients.specs.Places.{AreInOrder};
-ghost use Rattle.run_report.specs.Passes.{IsOwnPass, IsUnusedPass};
+ghost use Rattle.run_report.specs.Passes.{IsOwnPass, AreUnusedPasses};
 ghost use Rattle.byte_streams.specs.Fault.{LeavesSink};
 ghost use Rattle.run_writer.specs.Runs.{RunEnds, object_of_kind};
-ghost use Rattle.run_writer.specs.Running.{replay_allotments};
+ghost use Rattle.bench_clients.specs.Starts.{replay_allotments};
 ghost use Rattle.named_runs.specs.BehaviourRuns.{IsToldReport};
 
 use book_base::{MAX_CALLS, NoMemory};
@@ -29,9 +29,8 @@ pub fn replay_fresh<B: BlackBox, K: Sink>(
     form: Form,
     sink: &mut K,
 ) -> Status
-    requires all_passes { vec_len passes.old ≡ length script.now.operations }
-    requires passes { AreInOrder (IsUnusedPass (B.is_own object.now) B.Pass.caller B.Pass.made
-        B.Pass.cap script.now.operations) passes.old.items }
+    requires passes { AreUnusedPasses (B.is_own object.now) B.Pass.caller B.Pass.made B.Pass.cap
+        script.now.operations passes.old.items }
 
     // What stands afterwards, whatever the answer.
     ensures all_passes { vec_len passes.new ≡ length script.now.operations }

@@ -4,8 +4,8 @@ ghost use Rattle.std.specs.Prelude.{◌≡◌, ◌⊎◌, length};
 ghost use Rattle.book_base.specs.declared.TheConstants.{MAX_CALLS};
 ghost use Rattle.core_objects.specs.CoreObjects.{ArePassesFor, shape_with};
 ghost use Rattle.byte_streams.specs.Fault.{LeavesSink};
-ghost use Rattle.run_writer.specs.Runs.{RunEnds, object_by};
-ghost use Rattle.run_writer.specs.Running.{run_allotments};
+ghost use Rattle.run_writer.specs.Runs.{RunEnds};
+ghost use Rattle.bench_clients.specs.Starts.{object_by, run_allotments};
 ghost use Rattle.named_runs.specs.BehaviourRuns.{IsInsideReport};
 
 use book_base::{MAX_CALLS, NoMemory};

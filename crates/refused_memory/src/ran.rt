@@ -1,6 +1,6 @@
 ghost use Rattle.std.specs.Prelude.{◌≡◌, length, vec_len};
 ghost use Rattle.bench_clients.specs.Places.{AreInOrder};
-ghost use Rattle.run_report.specs.Passes.{IsOwnPass, IsUnusedPass};
+ghost use Rattle.run_report.specs.Passes.{IsOwnPass, AreUnusedPasses};
 
 use crate::came::Came;
 use crate::command::{SCRIPT, is_two_delivered};
@@ -64,9 +64,8 @@ fn run_beside<R: Threads + Sync, B: BlackBox + Sync>(
 ) -> Result<Came, NoMemory>
 where
     B::Pass: Send,
-    requires all_passes { vec_len passes.old ≡ length script.now.operations }
-    requires passes { AreInOrder (IsUnusedPass (B.is_own object.now) B.Pass.caller B.Pass.made
-        B.Pass.cap script.now.operations) passes.old.items }
+    requires passes { AreUnusedPasses (B.is_own object.now) B.Pass.caller B.Pass.made B.Pass.cap
+        script.now.operations passes.old.items }
     ensures all_passes { vec_len passes.new ≡ length script.now.operations }
     ensures passes { AreInOrder (IsOwnPass (B.is_own object.now) B.Pass.caller) passes.new.items }
 {

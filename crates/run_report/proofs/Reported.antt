@@ -1,9 +1,11 @@
 -- What the callers of a plan that are back have left is their report.
 use Rattle.std.proofs.Common.{◌≡◌, sym, subst, refl, ℕ, ◌<◌, false, List, length, arith}
 use Rattle.std.specs.Prelude.{Option}
-use Rattle.std.specs.List.{AllByRecursion}
+use Rattle.std.specs.List.{All}
+use Rattle.std.proofs.lemmas.List.{length-map}
 use Rattle.std.proofs.lemmas.Option.{slice_get_within}
-use Rattle.world_core.specs.Shape.{Meaning}
+use Rattle.world_core.specs.Shape.{Shape, Meaning}
+use Rattle.world_core.specs.Programs.{outside}
 use Rattle.world_core.specs.Calls.{AreTogether}
 use Rattle.text_fields.specs.declared.version.Version.TheVariants.{Second}
 use Rattle.call_lines.specs.declared.line.Line.{Line}
@@ -19,21 +21,30 @@ use Rattle.client_scripts.specs.Plans.{Plan, IsPlan}
 use Rattle.call_phases.specs.Asking.{Fits, PassCount}
 use Rattle.call_phases.specs.Ends.{Sequential, SaysJudged}
 use Rattle.bench_clients.specs.Places.{AreInOrder}
-use Rattle.bench_clients.specs.Starts.{course_of, AreRowsFor}
+use Rattle.bench_clients.specs.Starts.{course_of}
 use Rattle.bench_clients.specs.Returns.{AreBack}
+use Rattle.reports.specs.declared.report.Own.{Own}
+use Rattle.reports.specs.ReportLayout.{lines_in, findings_in}
 use Rattle.reports.specs.Findings.{Findings, IsReport}
 use Rattle.run_report.specs.Replies.{HasWord}
-use Rattle.run_report.specs.Reporting.{IsReportOf, IsFreeAgain, IsCountedIn}
+use Rattle.run_report.specs.Reporting.{outside_shape, IsReportOf, IsFreeAgain, IsCountedIn}
 use Rattle.run_report.proofs.Workers.{have_worked, keeps_asked, free_again, told_in}
-use Rattle.run_report.proofs.Reports.{is_report}
+use Rattle.run_report.proofs.Reports.{words_of_all, is_report}
 
-module _ {P T : Type 0} (meaning : P → ℕ → ℕ → Meaning) (r : Rows P) (b : Bench P) (plan : Plan) (allotments : List ℕ) (object : Sequential) (fit : Fits T) (count : T → Option PassCount) (passes : List T) (lines : List (List Line))
-    (valid : IsPlan Second plan) (rows : AreRowsFor plan r) (bench : IsBenchOf meaning r b) (back : AreBack meaning r SaysJudged fit count (length plan.operations) (length plan.operations) (course_of plan allotments object) b passes lines false) (long : length lines ≡ length plan.operations) where
+module _ {P T : Type 0} (meaning : P → ℕ → ℕ → Meaning) (r : Rows P) (b : Bench P) (plan : Plan) (allotments : List ℕ) (object : Sequential) (fit : Fits T) (count : T → Option PassCount) (passes : List T) (items : List Own)
+    (valid : IsPlan Second plan) (callers : r.callers ≡ length plan.operations) (bench : IsBenchOf meaning r b)
+    (back : AreBack meaning r SaysJudged fit count (length plan.operations) (length plan.operations) (course_of plan allotments object) b passes (lines_in items) false) (all_lines : length items ≡ length plan.operations) where
+  abbrev lines : List (List Line)
+  lines = lines_in items
+
+  long : length lines ≡ length plan.operations
+  long = omega (arith, all_lines, length-map items (λ (o : Own). o.lines.items))
+
   together : AreTogether (shape_of meaning r) (locals_on b)
-  together = whole_is_together (shape_of meaning r) b.seat.me.0 bench.wide (λ i low. let h = back.back i (omega (arith, low, rows.callers)) in (h.local, h.here)) bench.together
+  together = whole_is_together (shape_of meaning r) b.seat.me.0 bench.wide (λ i low. let h = back.back i (omega (arith, low, callers)) in (h.on.local, h.on.here)) bench.together
 
   have : HaveWorked object.init object.next (shape_of meaning r) plan.operations allotments (locals_on b) lines
-  have = have_worked object meaning r fit count (course_of plan allotments object) b passes lines refl (length plan.operations) rows.callers long back
+  have = have_worked meaning r fit count (course_of plan allotments object) b passes lines (length plan.operations) callers long back
 
   of : AreLinesOf object.init object.next (locals_on b) lines
   of = workers_leave_the_lines object.init object.next (shape_of meaning r) plan.operations allotments (locals_on b) lines together have
@@ -41,24 +52,29 @@ module _ {P T : Type 0} (meaning : P → ℕ → ℕ → Meaning) (r : Rows P) (
   lawful : IsLawful object.init object.next (shape_of meaning r) plan.operations allotments lines
   lawful = workers_are_lawful object.init object.next (shape_of meaning r) plan.operations allotments (locals_on b) lines together have
 
-  pub reported : (f : Findings) → f ≡ record { kind = plan.kind; lines = lines } → IsReportOf object.init object.next (shape_of meaning r) (locals_on b) plan allotments f
+  pub reported : (f : Findings) → f ≡ findings_in plan.kind items → IsReportOf object.init object.next (shape_of meaning r) (locals_on b) plan allotments f
   reported f same = subst (λ (h : Findings). IsReportOf object.init object.next (shape_of meaning r) (locals_on b) plan allotments h) (sym same) (record {
     kind = refl;
     together = together;
     lines = of;
     made = λ i low. (have.worked i low).made;
-    asked = λ i low. keeps_asked object meaning r fit count (course_of plan allotments object) b passes lines refl i (back.back i (omega (arith, low, rows.callers)));
+    asked = λ i low. keeps_asked meaning r fit count (course_of plan allotments object) b passes lines i (back.back i (omega (arith, low, callers)));
     lawful = lawful;
   })
 
-  pub free_of : (f : Findings) → f ≡ record { kind = plan.kind; lines = lines } → (i : ℕ) → i < length plan.operations → IsFreeAgain b allotments f i
+  pub free_of : (f : Findings) → f ≡ findings_in plan.kind items → (i : ℕ) → i < length plan.operations → IsFreeAgain b allotments f i
   free_of f same i low =
       subst (λ (h : Findings). IsFreeAgain b allotments h i) (sym same)
-      (free_again object meaning r fit count (course_of plan allotments object) b passes lines refl plan.kind i (back.back i low))
+      (free_again meaning r fit count (course_of plan allotments object) b passes lines plan.kind i (back.back i low))
 
-  pub fits : AllByRecursion (AllByRecursion (λ (line : Line). HasWord line.end)) lines → IsReport (record { kind = plan.kind; lines = lines })
-  fits words = is_report object.init object.next (shape_of meaning r) (locals_on b) plan allotments lines valid rows.callers together of lawful words
+  pub fits : All (λ (own : Own). All (λ (line : Line). HasWord line.end) own.lines.items) items → IsReport (findings_in plan.kind items)
+  fits words = is_report object.init object.next (shape_of meaning r) (locals_on b) plan allotments lines valid callers together of lawful (words_of_all items words)
 
-  pub told_of : length passes ≡ length plan.operations → AreInOrder (IsCountedIn count allotments (record { kind = plan.kind; lines = lines })) passes
-  told_of all i pass there =
-      told_in object meaning r fit count (course_of plan allotments object) b passes lines refl plan.kind i pass there (back.back i (omega (arith, all, slice_get_within passes i pass there)))
+  pub told_of : (f : Findings) → f ≡ findings_in plan.kind items → length passes ≡ length plan.operations → AreInOrder (IsCountedIn count allotments f) passes
+  told_of f same all i pass there =
+      subst (λ (h : Findings). IsCountedIn count allotments h i pass) (sym same)
+      (told_in meaning r fit count (course_of plan allotments object) b passes lines plan.kind i pass there (back.back i (omega (arith, all, slice_get_within passes i pass there))))
+
+-- the shape of the world of rows with the greatest cap
+pub outside_shapes : (callers cap n : ℕ) → callers ≡ n → cap ≡ 256 → ◌≡◌ {A = Shape} (record { callers = callers; cap = cap; program = outside }) (outside_shape n)
+outside_shapes callers cap n all most = λ i. record { callers = all i; cap = most i; program = outside }

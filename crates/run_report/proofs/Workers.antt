@@ -16,7 +16,7 @@ use Rattle.row_table.specs.Seats.{View, has, the}
 use Rattle.row_table.specs.declared.rows.Rows.{Rows}
 use Rattle.row_table.specs.declared.bench.Bench.{Bench}
 use Rattle.row_table.specs.declared.stance.Stance.{Stance}
-use Rattle.row_table.specs.Callers.{shape_of, locals_on, Holds}
+use Rattle.row_table.specs.Callers.{shape_of, locals_on, IsBenchOf, HoldsAll}
 use Rattle.reports.specs.Findings.{Findings}
 use Rattle.call_phases.specs.Asking.{Fits, PassCount, fits_own, own_count}
 use Rattle.call_phases.specs.Ends.{Sequential, silent, SaysJudged}
@@ -27,9 +27,9 @@ use Rattle.std.specs.List.{All}
 use Rattle.std.proofs.lemmas.List.Elements.{All-nil, All-head}
 use Rattle.run_report.specs.Reporting.{first_object, IsFreeAgain, IsToldIn, IsCountIn, IsCountedIn}
 use Rattle.bench_clients.specs.Places.{AreInOrder}
-use Rattle.bench_clients.specs.Starts.{Course, course_of, IsFreshPass}
+use Rattle.bench_clients.specs.Starts.{Course, course_of, MayBegin, AreFreshPasses}
 use Rattle.client_scripts.specs.Plans.{Plan}
-use Rattle.run_report.specs.Passes.{IsOwnPass, IsUnusedPass}
+use Rattle.run_report.specs.Passes.{IsOwnPass, IsUnusedPass, AreUnusedPasses}
 use Rattle.bench_clients.specs.Returns.{IsCountOf, IsBack, AreBack, IsBackOn}
 
 -- the local of a view at a caller that it has
@@ -44,35 +44,34 @@ lines_here [] i own here = absurd (none-some own here)
 lines_here (x ∷ lines) zero own here = same_Some x own here
 lines_here (x ∷ lines) (suc i) own here = lines_here lines i own here
 
-module _ {P T : Type 0} (object : Sequential) (meaning : P → ℕ → ℕ → Meaning) (r : Rows P) (fit : Fits T) (count : T → Option PassCount) (course : Course) (b : Bench P) (passes : List T) (lines : List (List Line)) (same : course.object ≡ object) where
+module _ {P T : Type 0} (meaning : P → ℕ → ℕ → Meaning) (r : Rows P) (fit : Fits T) (count : T → Option PassCount) (course : Course) (b : Bench P) (passes : List T) (lines : List (List Line)) where
   -- each caller has worked
   has_worked : (i : ℕ) → IsBack meaning r SaysJudged fit count course b passes lines false i
-      → HasWorked object.init object.next r.callers (operations_at course.operations i) (slice_index course.allotments i) (local_at (locals_on b) i) (lines_at lines i)
+      → HasWorked course.object.init course.object.next r.callers (operations_at course.operations i) (slice_index course.allotments i) (local_at (locals_on b) i) (lines_at lines i)
   has_worked i h =
       let n : ℕ = r.callers in
-      subst (λ (o : Sequential). HasWorked o.init o.next n (operations_at course.operations i) (slice_index course.allotments i) (local_at (locals_on b) i) (lines_at lines i)) same
-      (subst (λ (l : Local). HasWorked course.object.init course.object.next n (operations_at course.operations i) (slice_index course.allotments i) l (lines_at lines i)) (sym (the_local b.seat.me.0 i h.local h.here))
-      (subst (λ (own : List Line). HasWorked course.object.init course.object.next n (operations_at course.operations i) (slice_index course.allotments i) h.local own) (sym (lines_here lines i h.own h.lines_here))
-      (judging_clients_have_worked course.object n (operations_at course.operations i) (slice_index course.allotments i) h.local h.own (h.left refl).left)))
+      subst (λ (l : Local). HasWorked course.object.init course.object.next n (operations_at course.operations i) (slice_index course.allotments i) l (lines_at lines i)) (sym (the_local b.seat.me.0 i h.on.local h.on.here))
+      (subst (λ (own : List Line). HasWorked course.object.init course.object.next n (operations_at course.operations i) (slice_index course.allotments i) h.on.local own) (sym (lines_here lines i h.own h.lines_here))
+      (judging_clients_have_worked course.object n (operations_at course.operations i) (slice_index course.allotments i) h.on.local h.own (h.left refl).left))
 
   -- so all have
   pub have_worked : (n : ℕ) → r.callers ≡ n → length lines ≡ n → AreBack meaning r SaysJudged fit count n n course b passes lines false
-      → HaveWorked object.init object.next (shape_of meaning r) course.operations course.allotments (locals_on b) lines
+      → HaveWorked course.object.init course.object.next (shape_of meaning r) course.operations course.allotments (locals_on b) lines
   have_worked n callers long h = record {
     callers = long ∙ sym callers;
     worked = λ i low. has_worked i (h.back i (omega (arith, low, callers)));
   }
 
   -- it made the phases that its lines tell of
-  phases_are : (i : ℕ) (h : IsBack meaning r SaysJudged fit count course b passes lines false i) → h.phases ≡ phases_of (slice_index course.allotments i) (lines_at lines i)
+  phases_are : (i : ℕ) (h : IsBack meaning r SaysJudged fit count course b passes lines false i) → h.on.phases ≡ phases_of (slice_index course.allotments i) (lines_at lines i)
   phases_are i h = (h.left refl).is ∙ ap (λ (own : List Line). phases_of (slice_index course.allotments i) own) (sym (lines_here lines i h.own h.lines_here))
 
   -- and its call under way is as its last phase left it
   pub keeps_asked : (i : ℕ) → IsBack meaning r SaysJudged fit count course b passes lines false i
       → KeepsAsked (shape_of meaning r).program i (phases_of (slice_index course.allotments i) (lines_at lines i)) (local_at (locals_on b) i)
   keeps_asked i h =
-      subst (λ (l : Local). KeepsAsked (shape_of meaning r).program i (phases_of (slice_index course.allotments i) (lines_at lines i)) l) (sym (the_local b.seat.me.0 i h.local h.here))
-      (subst (λ (p : ℕ). KeepsAsked (shape_of meaning r).program i p h.local) (phases_are i h) h.back.asked)
+      subst (λ (l : Local). KeepsAsked (shape_of meaning r).program i (phases_of (slice_index course.allotments i) (lines_at lines i)) l) (sym (the_local b.seat.me.0 i h.on.local h.on.here))
+      (subst (λ (p : ℕ). KeepsAsked (shape_of meaning r).program i p h.on.local) (phases_are i h) h.on.back.asked)
 
   -- without an error, and between two calls, it is free for its next call
   pub free_again : (kind : Kind) (i : ℕ) → IsBack meaning r SaysJudged fit count course b passes lines false i
@@ -80,32 +79,33 @@ module _ {P T : Type 0} (object : Sequential) (meaning : P → ℕ → ℕ → M
   free_again kind i h none between =
       let own : lines_at lines i ≡ h.own = lines_here lines i h.own h.lines_here in
       let fine : any_error h.own ≡ false = ap (λ (o : List Line). any_error o) (sym own) ∙ none in
-      let whole : h.phases % 5 ≡ 0 = ap (λ (p : ℕ). p % 5) (phases_are i h) ∙ between in
-      h.stands.here ∙ ap (λ (s : Stance). Some s) (h.free refl fine whole)
+      let whole : h.on.phases % 5 ≡ 0 = ap (λ (p : ℕ). p % 5) (phases_are i h) ∙ between in
+      h.on.stands.here ∙ ap (λ (s : Stance). Some s) (h.free refl fine whole)
 
   -- the object was asked for the calls that the lines tell of
   pub told_in : (kind : Kind) (i : ℕ) (pass : T) → slice_get passes i ≡ Some pass → IsBack meaning r SaysJudged fit count course b passes lines false i
       → IsCountedIn count course.allotments (record { kind = kind; lines = lines }) i pass
   told_in kind i pass there h =
       let findings : Findings = record { kind = kind; lines = lines } in
-      let mine : h.pass ≡ pass = same_Some h.pass pass (sym h.pass_here ∙ there) in
+      let mine : h.on.pass ≡ pass = same_Some h.on.pass pass (sym h.on.pass_here ∙ there) in
       let own : lines_at lines i ≡ h.own = lines_here lines i h.own h.lines_here in
       let left = h.left refl in
       let phases = phases_are i h in
-      let calls : calls_in h.local ≡ map made_of (lines_at lines i) =
-      sym (judging_clients_have_worked course.object r.callers (operations_at course.operations i) (slice_index course.allotments i) h.local h.own left.left).calls ∙ ap (λ (o : List Line). map made_of o) (sym own) in
+      let calls : calls_in h.on.local ≡ map made_of (lines_at lines i) =
+      sym (judging_clients_have_worked course.object r.callers (operations_at course.operations i) (slice_index course.allotments i) h.on.local h.own left.left).calls ∙ ap (λ (o : List Line). map made_of o) (sym own) in
       subst (λ (p : T). IfSome (count p) (IsCountIn course.allotments findings i)) mine
-      (if_some_as (count h.pass) (IsCountOf h.phases h.local) (IsCountIn course.allotments findings i)
-      (λ (c : PassCount) (k : IsCountOf h.phases h.local c). record {
+      (if_some_as (count h.on.pass) (IsCountOf h.on.phases h.on.local) (IsCountIn course.allotments findings i)
+      (λ (c : PassCount) (k : IsCountOf h.on.phases h.on.local c). record {
         asked_for = k.asked_for ∙ ap asked phases;
         told_is = subst (λ (q : ℕ). IfSome c.told (IsTold q (map made_of (lines_at lines i)))) phases
-            (subst (λ (cs : List Made). IfSome c.told (IsTold h.phases cs)) calls k.told_is);
-      }) h.back.counts)
+            (subst (λ (cs : List Made). IfSome c.told (IsTold h.on.phases cs)) calls k.told_is);
+      }) h.on.back.counts)
 
--- a bench with all callers back holds them
-pub holds_back : {P T : Type 0} (meaning : P → ℕ → ℕ → Meaning) (r : Rows P) (fit : Fits T) (count : T → Option PassCount) (course : Course) (b : Bench P) (passes : List T) (i : ℕ)
-    → IsBackOn meaning r fit count course b passes i → Holds b i
-holds_back meaning r fit count course b passes i h = (h.local, h.here)
+-- a bench of rows that have just these callers holds all of them once they are back
+pub all_held : {P T : Type 0} (meaning : P → ℕ → ℕ → Meaning) (r : Rows P) (fit : Fits T) (count : T → Option PassCount) (plan : Plan) (allotments : List ℕ) (first b : Bench P) (passes : List T)
+    → MayBegin meaning plan 0 r first → IsBenchOf meaning r b → ((i : ℕ) → i < length plan.operations → IsBackOn meaning r fit count plan.operations allotments b passes i) → IsBenchOf meaning r b × HoldsAll b
+all_held meaning r fit count plan allotments first b passes begins of back =
+    (of, λ i low. let h = back i (omega (arith, low, of.callers, begins.callers)) in (h.local, h.here))
 
 -- where as many pairs are told as calls were made, and none was made, none are told
 none_told : (told : Option (List (ℕ × ℕ))) → ((pairs : List (ℕ × ℕ)) → told ≡ Some pairs → length pairs ≡ 0) → IfSome told (λ pairs. pairs ≡ [])
@@ -116,19 +116,29 @@ none_told (Some (pair ∷ pairs)) as_many = absurd (omega (arith, as_many (pair 
 -- unused passes are fresh
 pub fresh_passes : {P T : Type 0} (r : Rows P) (is_own : T → Type 0) (caller made cap : T → ℕ) (told : T → Option (List (ℕ × ℕ))) (operations : List (List ℕ)) (passes : List T)
     → ((pass : T) (pairs : List (ℕ × ℕ)) → is_own pass → told pass ≡ Some pairs → length pairs ≡ made pass)
-    → AreInOrder (IsUnusedPass is_own caller made cap operations) passes
-    → AreInOrder (IsFreshPass r (fits_own is_own caller) (own_count made cap told) operations) passes
-fresh_passes r is_own caller made cap told operations passes tells unused i pass there =
+    → AreUnusedPasses is_own caller made cap operations passes
+    → AreFreshPasses r (fits_own is_own caller) (own_count made cap told) operations passes
+fresh_passes r is_own caller made cap told operations passes tells unused = record {
+  as_many = unused.as_many;
+  each = λ i pass there.
+      let h = unused.each i pass there in
+      record {
+        fits_caller = (h.own, h.of);
+        counts = record { none = h.none; has_room = h.enough; silent = none_told (told pass) (λ pairs is. tells pass pairs h.own is ∙ h.none) };
+      };
+}
+
+-- unused passes are the object's own
+pub unused_own : {T : Type 0} (is_own : T → Type 0) (caller made cap : T → ℕ) (operations : List (List ℕ)) (passes : List T)
+    → AreInOrder (IsUnusedPass is_own caller made cap operations) passes → AreInOrder (IsOwnPass is_own caller) passes
+unused_own is_own caller made cap operations passes unused i pass there =
     let h = unused i pass there in
-    record {
-      fits_caller = (h.own, h.of);
-      counts = record { none = h.none; has_room = h.enough; silent = none_told (told pass) (λ pairs is. tells pass pairs h.own is ∙ h.none) };
-    }
+    record { own = h.own; of = h.of }
 
 -- each pass that is back is the object's own
-pub own_passes : {P T : Type 0} (meaning : P → ℕ → ℕ → Meaning) (r : Rows P) (is_own : T → Type 0) (caller made cap : T → ℕ) (told : T → Option (List (ℕ × ℕ))) (course : Course) (b : Bench P) (n : ℕ) (passes : List T)
-    → length passes ≡ n → ((i : ℕ) → i < n → IsBackOn meaning r (fits_own is_own caller) (own_count made cap told) course b passes i) → AreInOrder (IsOwnPass is_own caller) passes
-own_passes meaning r is_own caller made cap told course b n passes long back i pass there =
+pub own_passes : {P T : Type 0} (meaning : P → ℕ → ℕ → Meaning) (r : Rows P) (is_own : T → Type 0) (caller made cap : T → ℕ) (told : T → Option (List (ℕ × ℕ))) (operations : List (List ℕ)) (allotments : List ℕ) (b : Bench P) (n : ℕ) (passes : List T)
+    → length passes ≡ n → ((i : ℕ) → i < n → IsBackOn meaning r (fits_own is_own caller) (own_count made cap told) operations allotments b passes i) → AreInOrder (IsOwnPass is_own caller) passes
+own_passes meaning r is_own caller made cap told operations allotments b n passes long back i pass there =
     let h = back i (omega (arith, long, slice_get_within passes i pass there)) in
     let mine : h.pass ≡ pass = same_Some h.pass pass (sym h.pass_here ∙ there) in
     record {
@@ -156,19 +166,6 @@ all_by_first object o (e ∷ endings) h =
 pub first_is : {E : Type 0} (object : E → Sequential) (o : Sequential) (endings : List E) → 1 ≤ length endings → All (λ e. object e ≡ o) endings → first_object object endings ≡ o
 first_is object o [] some h = absurd (omega (arith, some))
 first_is object o (e ∷ endings) some h = All-head (λ e. object e ≡ o) e endings h
-
--- how far a caller is back doesn't depend on the sequential object
-pub other_object : {P T : Type 0} (meaning : P → ℕ → ℕ → Meaning) (r : Rows P) (fit : Fits T) (count : T → Option PassCount) (plan : Plan) (allotments : List ℕ) (a o : Sequential) (b : Bench P) (passes : List T) (i : ℕ)
-    → IsBackOn meaning r fit count (course_of plan allotments a) b passes i → IsBackOn meaning r fit count (course_of plan allotments o) b passes i
-other_object meaning r fit count plan allotments a o b passes i h = record {
-  local = h.local;
-  pass = h.pass;
-  phases = h.phases;
-  here = h.here;
-  pass_here = h.pass_here;
-  back = record { fits_caller = h.back.fits_caller; within = h.back.within; phases = h.back.phases; asked = h.back.asked; counts = h.back.counts };
-  stands = h.stands;
-}
 
 -- all are back, by the same object under another name
 pub back_by : {P T : Type 0} (meaning : P → ℕ → ℕ → Meaning) (r : Rows P) (fit : Fits T) (count : T → Option PassCount) (n : ℕ) (plan : Plan) (allotments : List ℕ) (a o : Sequential) (b : Bench P) (passes : List T) (lines : List (List Line)) → a ≡ o

@@ -1,6 +1,8 @@
 -- The report of the callers of a plan, by the locals that they leave.
 use Rattle.std.specs.Prelude.{◌≡◌, ℕ, ◌%◌, ◌<◌, false, List, [], ◌∷◌, Option, Some, IfSome, map, slice_index}
+use Rattle.book_base.specs.declared.TheConstants.{MAX_CALLS}
 use Rattle.world_core.specs.Shape.{Shape}
+use Rattle.world_core.specs.Programs.{outside}
 use Rattle.world_core.specs.Local.{Local}
 use Rattle.world_core.specs.Calls.{AreTogether, local_at}
 use Rattle.call_lines.specs.Lines.{made_of, lines_at, any_error, AreLinesOf}
@@ -15,6 +17,10 @@ use Rattle.call_phases.specs.Asking.{PassCount}
 use Rattle.call_phases.specs.Ends.{Sequential, silent}
 use Rattle.call_phases.specs.Finishing.{KeepsAsked}
 use Rattle.reports.specs.Findings.{Findings}
+
+-- The shape of the world of n callers with the greatest cap, whose object is outside.
+abbrev pub outside_shape : ℕ → Shape
+outside_shape n = record { callers = n; cap = MAX_CALLS; program = outside }
 
 -- Findings are those of a plan's callers that were given these phases and left these locals: of its kind, with the lines of just these
 -- locals, which are those of one reachable world, and lawful; and each caller has made just the phases that its lines tell of, so that
@@ -47,11 +53,9 @@ pub record IsToldIn {T : Type 0} (made : T → ℕ) (told : T → Option (List (
   pub asked_for : made pass ≡ asked (phases_of (slice_index allotments i) (lines_at findings.lines i))
   pub told_is : IfSome (told pass) (IsTold (phases_of (slice_index allotments i) (lines_at findings.lines i)) (map made_of (lines_at findings.lines i)))
 
--- What the pass of caller i counts, where it counts: it was asked for exactly the calls that the caller's lines tell of, and tells,
--- where it tells anything, an operation and a reply for each of them.
-pub record IsCountIn (allotments : List ℕ) (findings : Findings) (i : ℕ) (count : PassCount) : Type 0 where
-  pub asked_for : count.made ≡ asked (phases_of (slice_index allotments i) (lines_at findings.lines i))
-  pub told_is : IfSome count.told (IsTold (phases_of (slice_index allotments i) (lines_at findings.lines i)) (map made_of (lines_at findings.lines i)))
+-- So is what the pass of caller i counts, where it counts.
+abbrev pub IsCountIn : List ℕ → Findings → ℕ → PassCount → Type 0
+IsCountIn = IsToldIn (λ (count : PassCount). count.made) (λ (count : PassCount). count.told)
 
 abbrev pub IsCountedIn : {T : Type 0} → (T → Option PassCount) → List ℕ → Findings → ℕ → T → Type 0
 IsCountedIn count allotments findings i pass = IfSome (count pass) (IsCountIn allotments findings i)

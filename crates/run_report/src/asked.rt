@@ -1,13 +1,12 @@
 ghost use Rattle.std.specs.Prelude.{◌≡◌, ℕ, ◌<◌, length, vec_len, IfOk};
-ghost use Rattle.call_lines.specs.Allotments.{allotments_of};
 ghost use Rattle.row_table.specs.Callers.{shape_of, locals_on, IsBenchOf, HoldsAll};
 ghost use Rattle.bench_clients.specs.Places.{AreInOrder};
-ghost use Rattle.bench_clients.specs.Starts.{course_of, AreRowsFor, IsUnused, IsFreshPass};
+ghost use Rattle.bench_clients.specs.Starts.{run_allotments, MayBegin, AreFreshPasses};
 ghost use Rattle.bench_clients.specs.Returns.{IsBackOn};
 ghost use Rattle.run_report.specs.Reporting.{IsReportOf, IsFreeAgain, IsCountedIn};
 
 use crate::judgements::make_judgements;
-use crate::report::read_replies;
+use crate::report::report_of;
 use bench_clients::run_all;
 use book_base::{NoMemory, SeqObject};
 use call_phases::{Asks, Shared};
@@ -42,31 +41,25 @@ pub fn run_asked<
     script: &Script,
 ) -> Result<Report, NoMemory>
     requires serves { A.serves shared.now.asks.now shared.now.rows.now }
-    requires rows { AreRowsFor script.now shared.now.rows.now }
-    requires bench { IsBenchOf P.meaning shared.now.rows.now bench.old }
-    requires unused { (i : ℕ) → i < length script.now.operations → IsUnused bench.old i }
-    requires all_passes { vec_len passes.old ≡ length script.now.operations }
-    requires passes { AreInOrder (IsFreshPass shared.now.rows.now (A.fits shared.now.asks.now) A.count
-        script.now.operations) passes.old.items }
+    requires begins { MayBegin P.meaning script.now 0 shared.now.rows.now bench.old }
+    requires passes { AreFreshPasses shared.now.rows.now (A.fits shared.now.asks.now) A.count
+        script.now.operations passes.old.items }
     // For every answer.
     ensures bench { IsBenchOf P.meaning shared.now.rows.now bench.new × HoldsAll bench.new }
     ensures all_passes { vec_len passes.new ≡ length script.now.operations }
     ensures back { (i : ℕ) → i < length script.now.operations → IsBackOn P.meaning shared.now.rows.now
-        (A.fits shared.now.asks.now) A.count
-        (course_of script.now (allotments_of script.now.operations script.now.stops)
-        (record { init = S.init sequential.now; next = S.next sequential.now }))
+        (A.fits shared.now.asks.now) A.count script.now.operations (run_allotments script.now)
         bench.new passes.new.items i }
     // Where a report is answered.
     ensures report { IfOk result (λ report. IsReportOf (S.init sequential.now) (S.next sequential.now)
         (shape_of P.meaning shared.now.rows.now) (locals_on bench.new) script.now
-        (allotments_of script.now.operations script.now.stops) report) }
+        (run_allotments script.now) report) }
     ensures free { IfOk result (λ report. (i : ℕ) → i < length script.now.operations
-        → IsFreeAgain bench.new (allotments_of script.now.operations script.now.stops) report i) }
-    ensures counted { IfOk result (λ report. AreInOrder (IsCountedIn A.count
-        (allotments_of script.now.operations script.now.stops) report) passes.new.items) }
+        → IsFreeAgain bench.new (run_allotments script.now) report i) }
+    ensures counted { IfOk result (λ report. AreInOrder
+        (IsCountedIn A.count (run_allotments script.now) report) passes.new.items) }
 {
     let endings = make_judgements(alloc, sequential, script.callers())?;
     let lines = run_all(rt, alloc, shared, bench, passes, script, endings)?;
-    read_replies(&lines);
-    Ok(Report::of_lines(script.kind(), lines))
+    Ok(report_of(shared, bench, sequential, passes, script, lines))
 }

@@ -1,10 +1,8 @@
 ghost use Rattle.std.specs.Prelude.{◌≡◌, vec_len, IfOk};
 ghost use Rattle.std.specs.List.{All};
 ghost use Rattle.call_phases.specs.Asking.{fits_own, own_count};
-ghost use Rattle.call_phases.specs.Ends.{Sequential};
-ghost use Rattle.bench_clients.specs.Places.{AreInOrder};
-ghost use Rattle.bench_clients.specs.Starts.{IsFreshPass};
-ghost use Rattle.run_report.specs.Passes.{IsUnusedPass};
+ghost use Rattle.bench_clients.specs.Starts.{object_by, AreFreshPasses};
+ghost use Rattle.run_report.specs.Passes.{AreUnusedPasses};
 
 use book_base::{NoMemory, SeqObject};
 use call_phases::Judging;
@@ -19,13 +17,9 @@ pub(crate) fn make_judgements<'a, S: SeqObject>(
     sequential: &'a S,
     callers: u32,
 ) -> Result<Vec<Judging<'a, S>>, NoMemory>
-    ghost object: { Sequential }
-    requires { object ≡ record { init = S.init sequential.now; next = S.next sequential.now } }
     ensures all { IfOk result (λ endings. vec_len endings ≡ callers) }
-    ensures each { IfOk result (λ endings. All (λ e. record {
-      init = S.init e.sequential.now;
-      next = S.next e.sequential.now;
-    } ≡ object) endings.items) }
+    ensures each { IfOk result (λ endings. All (λ e. object_by S.init S.next e.sequential.now
+        ≡ object_by S.init S.next sequential.now) endings.items) }
 {
     let mut endings = Vec::with_capacity(alloc, callers as usize)?;
     for _i in 0..callers {
@@ -41,8 +35,8 @@ pub fn passes_are_fresh<B: BlackBox>(
     _passes: &Vec<B::Pass>,
     _script: &Script,
 )
-    requires { AreInOrder (IsUnusedPass (B.is_own _object.now) B.Pass.caller B.Pass.made B.Pass.cap
-        _script.now.operations) _passes.now.items }
-    ensures { AreInOrder (IsFreshPass _rows.now (fits_own (B.is_own _object.now) B.Pass.caller)
-        (own_count B.Pass.made B.Pass.cap B.Pass.told) _script.now.operations) _passes.now.items }
+    requires { AreUnusedPasses (B.is_own _object.now) B.Pass.caller B.Pass.made B.Pass.cap
+        _script.now.operations _passes.now.items }
+    ensures { AreFreshPasses _rows.now (fits_own (B.is_own _object.now) B.Pass.caller)
+        (own_count B.Pass.made B.Pass.cap B.Pass.told) _script.now.operations _passes.now.items }
 {}

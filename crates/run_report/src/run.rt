@@ -1,11 +1,10 @@
 ghost use Rattle.std.specs.Prelude.{◌≡◌, ℕ, ◌<◌, length, vec_len, IfOk};
-ghost use Rattle.call_lines.specs.Allotments.{allotments_of};
 ghost use Rattle.row_table.specs.Callers.{shape_of, locals_on, IsBenchOf, HoldsAll};
 ghost use Rattle.call_phases.specs.Asking.{fits_own, own_count};
 ghost use Rattle.bench_clients.specs.Places.{AreInOrder};
-ghost use Rattle.bench_clients.specs.Starts.{course_of, AreRowsFor, IsUnused};
+ghost use Rattle.bench_clients.specs.Starts.{run_allotments, MayBegin};
 ghost use Rattle.bench_clients.specs.Returns.{IsBackOn};
-ghost use Rattle.run_report.specs.Passes.{IsOwnPass, IsUnusedPass};
+ghost use Rattle.run_report.specs.Passes.{IsOwnPass, AreUnusedPasses};
 ghost use Rattle.run_report.specs.Reporting.{IsReportOf, IsFreeAgain, IsToldIn};
 
 use crate::asked::run_asked;
@@ -41,29 +40,25 @@ pub fn run_over<R: Threads + Sync, S: SeqObject + Sync, B: BlackBox + Sync>(
 ) -> Result<Report, NoMemory>
 where
     B::Pass: Send,
-    requires rows { AreRowsFor script.now rows.now }
-    requires bench { IsBenchOf ⟦<Outside as Program>⟧.meaning rows.now bench.old }
-    requires unused { (i : ℕ) → i < length script.now.operations → IsUnused bench.old i }
-    requires all_passes { vec_len passes.old ≡ length script.now.operations }
-    requires passes { AreInOrder (IsUnusedPass (B.is_own object.now) B.Pass.caller B.Pass.made
-        B.Pass.cap script.now.operations) passes.old.items }
+    requires begins { MayBegin ⟦<Outside as Program>⟧.meaning script.now 0 rows.now bench.old }
+    requires passes { AreUnusedPasses (B.is_own object.now) B.Pass.caller B.Pass.made B.Pass.cap
+        script.now.operations passes.old.items }
     // For every answer.
     ensures bench { IsBenchOf ⟦<Outside as Program>⟧.meaning rows.now bench.new × HoldsAll bench.new }
     ensures all_passes { vec_len passes.new ≡ length script.now.operations }
     ensures back { (i : ℕ) → i < length script.now.operations → IsBackOn
         ⟦<Outside as Program>⟧.meaning rows.now (fits_own (B.is_own object.now) B.Pass.caller)
-        (own_count B.Pass.made B.Pass.cap B.Pass.told) (course_of script.now (allotments_of script.now.operations script.now.stops)
-        (record { init = S.init sequential.now; next = S.next sequential.now }))
+        (own_count B.Pass.made B.Pass.cap B.Pass.told) script.now.operations (run_allotments script.now)
         bench.new passes.new.items i }
     ensures passes { AreInOrder (IsOwnPass (B.is_own object.now) B.Pass.caller) passes.new.items }
     // Where a report is answered.
     ensures report { IfOk result (λ report. IsReportOf (S.init sequential.now) (S.next sequential.now)
         (shape_of ⟦<Outside as Program>⟧.meaning rows.now) (locals_on bench.new) script.now
-        (allotments_of script.now.operations script.now.stops) report) }
+        (run_allotments script.now) report) }
     ensures free { IfOk result (λ report. (i : ℕ) → i < length script.now.operations
-        → IsFreeAgain bench.new (allotments_of script.now.operations script.now.stops) report i) }
+        → IsFreeAgain bench.new (run_allotments script.now) report i) }
     ensures told { IfOk result (λ report. AreInOrder (IsToldIn B.Pass.made B.Pass.told
-        (allotments_of script.now.operations script.now.stops) report) passes.new.items) }
+        (run_allotments script.now) report) passes.new.items) }
 {
     passes_are_fresh(rows, object, passes, script);
     let asks = OutsideObject { object };

@@ -1,5 +1,5 @@
 -- A bench has one report, and that has each form.
-use Rattle.std.proofs.Common.{◌≡◌, sym, ap, subst, List, Option, ℕ, ◌<◌, length}
+use Rattle.std.proofs.Common.{◌≡◌, ◌∙◌, refl, ap, subst, inr, ◌⊎◌, List, Option, ℕ, ◌<◌, length, true, false}
 use Rattle.std.specs.List.{list_any}
 use Rattle.world_core.specs.Shape.{Meaning, Shape}
 use Rattle.world_core.specs.Local.{Local}
@@ -12,14 +12,17 @@ use Rattle.client_scripts.specs.Plans.{Plan}
 use Rattle.reports.specs.Findings.{Findings}
 use Rattle.row_table.specs.declared.rows.Rows.{Rows}
 use Rattle.row_table.specs.declared.bench.Bench.{Bench}
+use Rattle.row_table.specs.Callers.{shape_of, locals_on}
 use Rattle.call_phases.specs.Ends.{Sequential}
 use Rattle.run_report.specs.Reporting.{IsReportOf, IsFreeAgain}
 use Rattle.report_certificates.proofs.CertificateLaws.{lawful_reports_have_an_order}
 use Rattle.run_writer.specs.declared.form.Form.{Form}
 use Rattle.run_writer.specs.declared.form.Form.TheVariants.{Report, Counts, Certificate}
 use Rattle.byte_streams.specs.declared.status.Status.{Status}
-use Rattle.run_writer.specs.Running.{IsBackOf}
-use Rattle.run_writer.specs.Runs.{HasForm, RunEnds, object_by, object_of_kind}
+use Rattle.byte_streams.specs.declared.status.Status.TheVariants.{Fine, Found, WriteFault, NoMemory}
+use Rattle.bench_clients.specs.Starts.{object_by}
+use Rattle.run_writer.specs.Running.{IsBenchReport, EndsByReport}
+use Rattle.run_writer.specs.Runs.{HasForm, RunEnds}
 
 module _ (s : Shape) (locals : List Local) (plan : Plan) (allotments : List ℕ) where
   -- the report by the object of the script's kind
@@ -56,9 +59,22 @@ ends_by_object init next s t same IsOne form result taken taken' ends = subst (�
 pub form_by_object : {S : Type 0} (init : S → List ℕ) (next : S → List ℕ → ℕ → List ℕ × ℕ) (s t : S) → s ≡ t → (form : Form) (f : Findings) → HasForm (object_by init next s) form f → HasForm (object_by init next t) form f
 form_by_object init next s t same form f has = subst (λ (x : _). HasForm (object_by init next x) form f) same has
 
--- a caller is back by the object of a kind that is the script's
-pub back_by_kind : {P T : Type 0} (kind own : Kind) → kind ≡ own → (meaning : P → ℕ → ℕ → Meaning) (rows : Rows P) (is_own : T → Type 0) (caller made cap : T → ℕ) (told : T → Option (List (ℕ × ℕ))) (plan : Plan)
-    (allotments : List ℕ) (bench : Bench P) (passes : List T) (i : ℕ) → IsBackOf (object_of_kind kind) meaning rows is_own caller made cap told plan allotments bench passes i
-    → IsBackOf (object_of_kind own) meaning rows is_own caller made cap told plan allotments bench passes i
-back_by_kind kind own same meaning rows is_own caller made cap told plan allotments bench passes i back =
-    subst (λ (k : Kind). IsBackOf (object_of_kind k) meaning rows is_own caller made cap told plan allotments bench passes i) same back
+-- where memory was wanted, no report decides
+pub no_memory_ends : {P : Type 0} (object : Sequential) (meaning : P → ℕ → ℕ → Meaning) (rows : Rows P) (bench : Bench P) (plan : Plan) (allotments : List ℕ) → EndsByReport object meaning rows bench plan allotments NoMemory
+no_memory_ends object meaning rows bench plan allotments =
+    record { found = λ report is error. inr (inr refl); fine = λ report is none. inr (inr refl); free = λ some. absurd (some refl) }
+
+-- what is written of one report of a bench ends by it
+pub ends_by_one : {P : Type 0} (object : Sequential) (meaning : P → ℕ → ℕ → Meaning) (rows : Rows P) (bench : Bench P) (plan : Plan) (allotments : List ℕ) (status : Status) (one : Findings)
+    → IsBenchReport object meaning rows bench plan allotments one → ((i : ℕ) → i < length plan.operations → IsFreeAgain bench allotments one i)
+    → (list_any any_error one.lines ≡ true → (status ≡ Found) ⊎ (status ≡ WriteFault) ⊎ (status ≡ NoMemory))
+    → (list_any any_error one.lines ≡ false → (status ≡ Fine) ⊎ (status ≡ WriteFault) ⊎ (status ≡ NoMemory))
+    → EndsByReport object meaning rows bench plan allotments status
+ends_by_one object meaning rows bench plan allotments status one is free found fine =
+    let same = λ (report : Findings) (of : IsBenchReport object meaning rows bench plan allotments report).
+    one_report (shape_of meaning rows) (locals_on bench) plan allotments object.init object.next one report is of in
+    record {
+      found = λ report of error. found (same report of ∙ error);
+      fine = λ report of none. fine (same report of ∙ none);
+      free = λ some report of. one_standing (shape_of meaning rows) (locals_on bench) plan allotments bench object.init object.next one report is of free;
+    }

@@ -9,6 +9,7 @@ use Rattle.call_lines.specs.Lines.{any_error}
 use Rattle.seq_objects.specs.declared.kind.Kind.{Kind}
 use Rattle.seq_objects.specs.Objects.{kind_init, kind_next}
 use Rattle.call_phases.specs.Ends.{Sequential}
+use Rattle.bench_clients.specs.Starts.{object_by}
 use Rattle.reports.specs.declared.counts.Counts.{Counts}
 use Rattle.reports.specs.Findings.{Findings, IsWitness}
 use Rattle.reports.specs.Grammar as reports
@@ -33,10 +34,7 @@ abbrev pub counts_text : Counts → List ℕ
 counts_text counts =
     codes "calls " ++ decimal counts.calls ++ codes " delivered " ++ decimal counts.delivered ++ codes " errors " ++ decimal counts.errors ++ codes "\n"
 
--- A sequential object of some type, by how that begins and goes on; that of a kind is one of them.
-abbrev pub object_by : {S : Type 0} → (S → List ℕ) → (S → List ℕ → ℕ → List ℕ × ℕ) → S → Sequential
-object_by init next sequential = record { init = init sequential; next = next sequential }
-
+-- The sequential object of a kind.
 abbrev pub object_of_kind : Kind → Sequential
 object_of_kind kind = object_by kind_init kind_next kind
 

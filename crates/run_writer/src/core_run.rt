@@ -3,14 +3,14 @@
 ghost use Rattle.std.specs.Prelude.{◌≡◌, ◌⊎◌, ◌<◌, ℕ, None, length, vec_len};
 ghost use Rattle.row_table.specs.Callers.{IsBenchOf, HoldsAll};
 ghost use Rattle.core_objects.specs.CoreObjects.{AreOpenedWith, ArePassesFor};
-ghost use Rattle.bench_clients.specs.Starts.{course_of};
+ghost use Rattle.bench_clients.specs.Starts.{object_by, run_allotments, MayBegin};
 ghost use Rattle.bench_clients.specs.Returns.{IsBackOn};
 ghost use Rattle.core_runs.specs.Inside.{fits_inside};
 ghost use Rattle.run_report.specs.Reporting.{IsFreeAgain};
 ghost use Rattle.reports.specs.Findings.{Findings};
 ghost use Rattle.byte_streams.specs.Fault.{LeavesSink};
-ghost use Rattle.run_writer.specs.Runs.{RunEnds, object_by};
-ghost use Rattle.run_writer.specs.Running.{run_allotments, MayBegin, IsBenchReport, IsCoreReport};
+ghost use Rattle.run_writer.specs.Runs.{RunEnds};
+ghost use Rattle.run_writer.specs.Running.{IsBenchReport, IsCoreReport};
 
 use crate::form::Form;
 use crate::report_output::write_report;
@@ -48,7 +48,7 @@ where
     O::P: Send + Sync,
     O::Pass: Send,
     requires program { AreOpenedWith O.P.meaning (O.program_of object.now) rows.now }
-    requires begins { MayBegin O.P.meaning script.now rows.now bench.old }
+    requires begins { MayBegin O.P.meaning script.now 0 rows.now bench.old }
     requires passes { ArePassesFor (O.fits object.now) rows.now.callers rows.now.cap passes.old.items }
 
     // What stands afterwards, whatever the answer.
@@ -56,8 +56,7 @@ where
     ensures all_passes { vec_len passes.new ≡ length script.now.operations }
     ensures back { (i : ℕ) → i < length script.now.operations
         → IsBackOn O.P.meaning rows.now (fits_inside (O.fits object.now)) (λ pass. None)
-        (course_of script.now (run_allotments script.now)
-        (object_by O.S.init O.S.next (O.sequential_of object.now))) bench.new passes.new.items i }
+        script.now.operations (run_allotments script.now) bench.new passes.new.items i }
 
     // The headline: what was written, by the status, is of a lawful report of the locals on the
     // bench, which has no error line.

@@ -1,16 +1,15 @@
 //! Whole replays of a script by its turns, and what is written of them.
 
-ghost use Rattle.std.specs.Prelude.{◌≡◌, ◌⊎◌, ◌≤◌, ◌<◌, ℕ, true, false, length, vec_len};
-ghost use Rattle.std.specs.List.{list_any};
-ghost use Rattle.call_lines.specs.Lines.{any_error};
+ghost use Rattle.std.specs.Prelude.{◌≡◌, ◌<◌, ℕ, length, vec_len};
 ghost use Rattle.row_table.specs.Callers.{IsBenchOf, HoldsAll};
+ghost use Rattle.call_phases.specs.Asking.{fits_own, own_count};
 ghost use Rattle.bench_clients.specs.Places.{AreInOrder};
-ghost use Rattle.run_report.specs.Passes.{IsOwnPass, IsUnusedPass};
-ghost use Rattle.run_report.specs.Reporting.{IsFreeAgain};
-ghost use Rattle.reports.specs.Findings.{Findings};
+ghost use Rattle.bench_clients.specs.Starts.{replay_allotments, MayBegin};
+ghost use Rattle.bench_clients.specs.Returns.{IsBackOn};
+ghost use Rattle.run_report.specs.Passes.{IsOwnPass, AreUnusedPasses};
 ghost use Rattle.byte_streams.specs.Fault.{LeavesSink};
 ghost use Rattle.run_writer.specs.Runs.{RunEnds, object_of_kind};
-ghost use Rattle.run_writer.specs.Running.{replay_allotments, MayBegin, IsBackOf, IsBenchReport, IsToldBenchReport};
+ghost use Rattle.run_writer.specs.Running.{IsToldBenchReport, EndsByReport};
 
 use crate::form::Form;
 use crate::report_output::write_report;
@@ -38,19 +37,18 @@ pub fn replay_and_write<B: BlackBox, K: Sink>(
     form: Form,
     sink: &mut K,
 ) -> Status
-    requires begins { MayBegin ⟦<Outside as Program>⟧.meaning script.now rows.now bench.old }
-    requires all_passes { vec_len passes.old ≡ length script.now.operations }
-    requires passes { AreInOrder (IsUnusedPass (B.is_own object.now) B.Pass.caller B.Pass.made
-        B.Pass.cap script.now.operations) passes.old.items }
+    requires begins { MayBegin ⟦<Outside as Program>⟧.meaning script.now 0 rows.now bench.old }
+    requires passes { AreUnusedPasses (B.is_own object.now) B.Pass.caller B.Pass.made B.Pass.cap
+        script.now.operations passes.old.items }
 
     // What stands afterwards, whatever the answer.
     ensures bench { IsBenchOf ⟦<Outside as Program>⟧.meaning rows.now bench.new × HoldsAll bench.new }
     ensures all_passes { vec_len passes.new ≡ length script.now.operations }
     ensures passes { AreInOrder (IsOwnPass (B.is_own object.now) B.Pass.caller) passes.new.items }
-    ensures back { (i : ℕ) → i < length script.now.operations
-        → IsBackOf (object_of_kind script.now.kind) ⟦<Outside as Program>⟧.meaning rows.now
-        (B.is_own object.now) B.Pass.caller B.Pass.made B.Pass.cap B.Pass.told script.now
-        (replay_allotments script.now) bench.new passes.new.items i }
+    ensures back { (i : ℕ) → i < length script.now.operations → IsBackOn
+        ⟦<Outside as Program>⟧.meaning rows.now (fits_own (B.is_own object.now) B.Pass.caller)
+        (own_count B.Pass.made B.Pass.cap B.Pass.told) script.now.operations (replay_allotments script.now)
+        bench.new passes.new.items i }
 
     // The headline: what was written, by the status, is of a lawful report of the locals on the bench.
     ensures ends { RunEnds (object_of_kind script.now.kind)
@@ -58,25 +56,9 @@ pub fn replay_and_write<B: BlackBox, K: Sink>(
         B.Pass.made B.Pass.told passes.new.items script.now (replay_allotments script.now))
         form result (K.taken sink.old) (K.taken sink.new) }
 
-    // Whether a line of that report is an error decides the status, failed writes and want of memory aside.
-    ensures found { (report : Findings)
-        → IsBenchReport (object_of_kind script.now.kind) ⟦<Outside as Program>⟧.meaning rows.now
-        bench.new script.now (replay_allotments script.now) report
-        → list_any any_error report.lines ≡ true
-        → (result ≡ Status.Found) ⊎ (result ≡ Status.WriteFault) ⊎ (result ≡ Status.NoMemory) }
-    ensures fine { (report : Findings)
-        → IsBenchReport (object_of_kind script.now.kind) ⟦<Outside as Program>⟧.meaning rows.now
-        bench.new script.now (replay_allotments script.now) report
-        → list_any any_error report.lines ≡ false
-        → (result ≡ Status.Fine) ⊎ (result ≡ Status.WriteFault) ⊎ (result ≡ Status.NoMemory) }
-
-    // By that report, each caller without an error line that stopped between two calls, or made all of its calls, stands
-    // free for its next one, want of memory aside.
-    ensures free { ¬ (result ≡ Status.NoMemory) → (report : Findings)
-        → IsBenchReport (object_of_kind script.now.kind) ⟦<Outside as Program>⟧.meaning rows.now
-        bench.new script.now (replay_allotments script.now) report
-        → (i : ℕ) → i < length script.now.operations
-        → IsFreeAgain bench.new (replay_allotments script.now) report i }
+    // Whether a line of that report is an error decides the status, and who stands free for its next call.
+    ensures reported { EndsByReport (object_of_kind script.now.kind) ⟦<Outside as Program>⟧.meaning rows.now
+        bench.new script.now (replay_allotments script.now) result }
 
     // A fault has its cause in a count that rose in this call, and every other answer comes where none rose.
     ensures faults { LeavesSink K.faults result sink.old sink.new }

@@ -3,8 +3,9 @@
 ghost use Rattle.std.specs.Prelude.{◌≡◌, ◌⊎◌, ◌≤◌, ◌++◌, ℕ, List, true, false, IfOk, OnOk};
 ghost use Rattle.std.specs.List.{list_any};
 ghost use Rattle.call_lines.specs.Lines.{any_error};
+ghost use Rattle.bench_clients.specs.Starts.{object_by};
 ghost use Rattle.byte_streams.specs.Fault.{LeavesSink};
-ghost use Rattle.run_writer.specs.Runs.{IsWitnessText, IsWritten, HasForm, IsRunOutput, RunEnds, counts_text, object_by, status_of};
+ghost use Rattle.run_writer.specs.Runs.{IsWitnessText, IsWritten, HasForm, IsRunOutput, RunEnds, counts_text, status_of};
 
 use crate::form::Form;
 use book_base::{NoMemory, SeqObject};

@@ -14,7 +14,7 @@ use Rattle.call_lines.specs.Allotments.{phases_of}
 use Rattle.reports.specs.Findings.{Findings}
 use Rattle.reports.specs.Tally.{is_delivered, counts_of}
 use Rattle.faulty_objects.specs.declared.behaviour.Behaviour.TheVariants.{Lawful}
-use Rattle.run_writer.specs.Running.{run_allotments}
+use Rattle.bench_clients.specs.Starts.{run_allotments}
 use Rattle.run_writer.specs.Runs.{counts_text}
 use Rattle.run_writer.proofs.RunLemmas.{no_error_of}
 use Rattle.named_runs.specs.BehaviourRuns.{IsNamedRunReport}

@@ -1,7 +1,6 @@
 //! Runs and replays over a meeting of two callers.
-ghost use Rattle.std.specs.Prelude.{◌≡◌, length, vec_len};
-ghost use Rattle.bench_clients.specs.Places.{AreInOrder};
-ghost use Rattle.run_report.specs.Passes.{IsUnusedPass};
+ghost use Rattle.std.specs.Prelude.{◌≡◌, length};
+ghost use Rattle.run_report.specs.Passes.{AreUnusedPasses};
 
 use book_base::{MAX_CALLS, NoMemory};
 use byte_streams::{MemorySink, Status};
@@ -69,9 +68,8 @@ fn run_in_rows<R: Threads + Sync, B: BlackBox + Sync>(
 where
     B::Pass: Send,
     requires two { length script.now.operations ≡ 2 }
-    requires all_passes { vec_len passes.old ≡ length script.now.operations }
-    requires passes { AreInOrder (IsUnusedPass (B.is_own object.now) B.Pass.caller B.Pass.made
-        B.Pass.cap script.now.operations) passes.old.items }
+    requires passes { AreUnusedPasses (B.is_own object.now) B.Pass.caller B.Pass.made B.Pass.cap
+        script.now.operations passes.old.items }
 {
     let (rows, mut bench) = Rows::open(alloc, Outside, script.callers(), MAX_CALLS)?;
     let form = Form::Report;

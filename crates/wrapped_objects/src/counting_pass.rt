@@ -1,6 +1,5 @@
-ghost use Rattle.std.specs.Prelude.{◌≡◌, ◌+◌, ◌<◌, IfOk, length, vec_len};
-ghost use Rattle.bench_clients.specs.Places.{AreInOrder};
-ghost use Rattle.run_report.specs.Passes.{IsUnusedPass};
+ghost use Rattle.std.specs.Prelude.{◌≡◌, ◌+◌, ◌<◌, IfOk};
+ghost use Rattle.run_report.specs.Passes.{AreUnusedPasses};
 
 use book_base::NoMemory;
 use client_scripts::Script;
@@ -34,9 +33,8 @@ impl CountingPass {
 
     /// A pass for each caller of a script, in order, for as many calls as the script gives it.
     pub fn for_script(alloc: Global, script: &Script) -> Result<Vec<CountingPass>, NoMemory>
-        ensures all { IfOk result (λ passes. vec_len passes ≡ length script.now.operations) }
-        ensures unused { IfOk result (λ passes. AreInOrder (IsUnusedPass any_pass caller_of made_with
-            cap_of script.now.operations) passes.items) }
+        ensures unused { IfOk result (λ passes. AreUnusedPasses any_pass caller_of made_with cap_of
+            script.now.operations passes.items) }
     {
         let mut passes = Vec::new(alloc);
         for caller in 0..script.callers() {

@@ -20,34 +20,9 @@ bring_back-wants_memory-requires g c κs within =
     let k = vec_len c.loop-worker.passes in
     let inv = c.loop-worker.invariant in
     let spent = last_down _ _ _ _ k c.in-Some.worker c.in-Some.ensures.items (omega (arith, inv.count, c.in-Some.ensures.len)) inv.workers in
-    let h = spent_client _ _ _ _ _ _ _ k c.in-Some.worker c.unwrap-client.result spent c.unwrap-client.ensures in (
-      within.0,
-      (
-        within.1.0,
-        (
-          within.1.1.0,
-          (
-            within.1.1.1,
-            (
-              h.0,
-              (
-                h.1,
-                (
-                  inv.bench,
-                  (
-                    inv.back.gone c.unwrap-client.result.sheet.who (omega (arith, h.2)) (omega (arith, h.2, inv.count, c.in-Some.ensures.len)),
-                    (
-                      omega (arith, inv.count, c.in-Some.ensures.len, inv.passes_capacity, asked.1.1.1.1.1.0),
-                      omega (arith, inv.count, c.in-Some.ensures.len, inv.lines_count, inv.lines_capacity, asked.1.1.1.1.1.1.1),
-                    ),
-                  ),
-                ),
-              ),
-            ),
-          ),
-        ),
-      ),
-    )
+    let h = spent_client _ _ _ _ _ _ _ k c.in-Some.worker c.unwrap-client.result spent c.unwrap-client.ensures in
+    let gone = inv.back.gone c.unwrap-client.result.sheet.who (omega (arith, h.2)) (omega (arith, h.2, inv.count, c.in-Some.ensures.len)) in
+    (within.0, (within.1.0, (within.1.1.0, (within.1.1.1, (h.0, (h.1, (inv.bench, (gone, (omega (arith, inv.count, c.in-Some.ensures.len, inv.passes_capacity, asked.1.1.1.1.1.0), omega (arith, inv.count, c.in-Some.ensures.len, inv.lines_count, inv.lines_capacity, asked.1.1.1.1.1.1.1))))))))))
 
 pub loop-worker-init : goal.loop-worker-init
 loop-worker-init g c =

@@ -1,6 +1,7 @@
 use Rattle.std.proofs.Common.{◌≡◌, ◌∙◌, ap, subst, ℕ, ◌*◌, ◌≤◌, length, slice_index}
 use Rattle.row_table.specs.Callers.{who_of}
-use Rattle.call_lines.specs.Allotments.{operations_at, allotments_of}
+use Rattle.call_lines.specs.Allotments.{operations_at}
+use Rattle.bench_clients.specs.Starts.{run_allotments}
 use Rattle.bench_clients.proofs.Starts.{fresh_start}
 use Rattle.bench_clients.proofs.start.begin.Goals as goal
 
@@ -11,7 +12,7 @@ returns g c =
     let who = who_of c.args.caller in
     let given = c.allotment_of-allotment in
     let operations : c.operations-operations.result.now ≡ operations_at plan.operations who = c.operations-operations.ensures ∙ ap (λ (i : ℕ). operations_at plan.operations i) c.who-who.ensures in
-    let allotment : given.result ≡ slice_index (allotments_of plan.operations plan.stops) who = given.ensures.allotment ∙ ap (λ (i : ℕ). slice_index (allotments_of plan.operations plan.stops) i) c.who-who.ensures in
+    let allotment : given.result ≡ slice_index (run_allotments plan) who = given.ensures.allotment ∙ ap (λ (i : ℕ). slice_index (run_allotments plan) i) c.who-who.ensures in
     let within : given.result ≤ 5 * length (operations_at plan.operations who) = subst (λ (i : ℕ). given.result ≤ 5 * length (operations_at plan.operations i)) c.who-who.ensures given.ensures.within in
-    fresh_start _ _ _ _ _ _ _ plan c.args.caller c.args.pass _ _ tt given.result asked.0 asked.1.1.0 asked.1.1.1.0 asked.1.1.1.1.0 asked.1.1.1.1.1.0
-    c.who-who.ensures operations asked.1.1.1.1.1.1.0 asked.1.1.1.1.1.1.1.0 allotment within
+    fresh_start _ _ _ _ _ _ plan _ c.args.caller c.args.pass _ _ tt given.result asked.1.0 asked.1.1.0 asked.1.1.1.0 asked.1.1.1.1.0
+    c.who-who.ensures operations asked.1.1.1.1.1.0 asked.1.1.1.1.1.1.0 allotment within

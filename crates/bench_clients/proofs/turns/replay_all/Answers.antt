@@ -1,37 +1,37 @@
 use Rattle.std.proofs.Common.{◌∙◌, arith}
-use Rattle.bench_clients.proofs.Returns.{unused_back, back_on}
+use Rattle.bench_clients.proofs.Returns.{unused_back}
 use Rattle.bench_clients.proofs.turns.replay_all.Goals as goal
 
 pub returns-in_err-room-clause-back : goal.returns-in_err-room-clause-back
-returns-in_err-room-clause-back g c i low =
+returns-in_err-room-clause-back g c =
     let asked = c.requires.1.1.1.1 in
-    unused_back _ _ _ _ _ _ _ _ i (omega (arith, low, asked.1.1.1.1.1.0)) (asked.1.1.1.1.0 i low) asked.1.1.1.1.1.1.0
+    unused_back _ _ _ _ c.args.script.now _ _ _ asked.1.0 asked.1.1.0
 
 pub returns-in_err-lines-clause-back : goal.returns-in_err-lines-clause-back
-returns-in_err-lines-clause-back g c i low =
+returns-in_err-lines-clause-back g c =
     let asked = c.requires.1.1.1.1 in
-    unused_back _ _ _ _ _ _ _ _ i (omega (arith, low, asked.1.1.1.1.1.0)) (asked.1.1.1.1.0 i low) asked.1.1.1.1.1.1.0
+    unused_back _ _ _ _ c.args.script.now _ _ _ asked.1.0 asked.1.1.0
 
 pub returns-in_err-workers-clause-back : goal.returns-in_err-workers-clause-back
-returns-in_err-workers-clause-back g c i low =
+returns-in_err-workers-clause-back g c =
     let asked = c.requires.1.1.1.1 in
-    unused_back _ _ _ _ _ _ _ _ i (omega (arith, low, asked.1.1.1.1.1.0)) (asked.1.1.1.1.0 i low) asked.1.1.1.1.1.1.0
+    unused_back _ _ _ _ c.args.script.now _ _ _ asked.1.0 asked.1.1.0
 
 pub start_all-requires : goal.start_all-requires
 start_all-requires g c κs within =
     let asked = c.requires.1.1.1.1 in
-    (within.0, (within.1.0, (within.1.1.0, (within.1.1.1, (asked.0, (asked.1.1.0, (asked.1.1.1.0, (asked.1.1.1.1.0, (asked.1.1.1.1.1.0, (asked.1.1.1.1.1.1.0, (c.in_ok-room.ensures.all, (c.in_ok-room.ensures.room, (asked.1.1.1.1.1.1.1.0, (asked.1.1.1.1.1.1.1.1, (c.in_ok-workers.ensures.items, omega (arith, c.in_ok-workers.ensures.capacity, c.callers-callers.ensures.count))))))))))))))))
+    (within.0, (within.1.0, (within.1.1.0, (within.1.1.1, (asked.1.0, (asked.1.1.0, (c.in_ok-room.ensures.all, (c.in_ok-room.ensures.room, (asked.1.1.1.0, (asked.1.1.1.1, (c.in_ok-workers.ensures.items, omega (arith, c.in_ok-workers.ensures.capacity, c.callers-callers.ensures.count))))))))))))
 
 pub end_all-requires : goal.end_all-requires
 end_all-requires g c κs within =
     let asked = c.requires.1.1.1.1 in
-    (within.0, (within.1.0, (within.1.1.0, (within.1.1.1, (omega (arith, c.take_turns_alone.ensures.all), (c.take_turns_alone.ensures.workers, (c.start_all.ensures.bench, (c.start_all.ensures.gone, (c.start_all.ensures.no_passes, (omega (arith, c.start_all.ensures.capacity, asked.1.1.1.1.1.0), (c.in_ok-lines.ensures.items, omega (arith, c.in_ok-lines.ensures.capacity, c.callers-callers.ensures.count))))))))))))
+    (within.0, (within.1.0, (within.1.1.0, (within.1.1.1, (omega (arith, c.take_turns.ensures.all), (c.take_turns.ensures.workers, (c.start_all.ensures.bench, (c.start_all.ensures.gone, (c.start_all.ensures.no_passes, (omega (arith, c.start_all.ensures.capacity, asked.1.1.0.as_many), (c.in_ok-lines.ensures.items, omega (arith, c.in_ok-lines.ensures.capacity, c.callers-callers.ensures.count))))))))))))
 
 pub returns-then-end_all-clause-back : goal.returns-then-end_all-clause-back
-returns-then-end_all-clause-back g c i low = back_on _ _ _ _ _ _ _ _ _ _ i (c.end_all.ensures.back.back i low)
+returns-then-end_all-clause-back g c i low = (c.end_all.ensures.back.back i low).on
 
 pub returns-clause-back : goal.returns-clause-back
-returns-clause-back g c i low = back_on _ _ _ _ _ _ _ _ _ _ i (c.end_all.ensures.back.back i low)
+returns-clause-back g c i low = (c.end_all.ensures.back.back i low).on
 
 pub returns-then-end_all-clause-others : goal.returns-then-end_all-clause-others
 returns-then-end_all-clause-others g c i high =

@@ -1,12 +1,14 @@
-use Rattle.call_lines.specs.Allotments.{allotments_by_turns}
-use Rattle.bench_clients.specs.Starts.{course_of}
+use Rattle.bench_clients.specs.Starts.{replay_allotments, course_of}
 use Rattle.bench_clients.proofs.turns.replay_all.Given as goal
 
 abbrev pub ghost-start_all : goal.ghost-start_all
-ghost-start_all g a = g.course
+ghost-start_all g a = g.object
 
-abbrev pub ghost-take_turns_alone : goal.ghost-take_turns_alone
-ghost-take_turns_alone g a = g.course
+abbrev pub ghost-take_turns : goal.ghost-take_turns
+ghost-take_turns g a = g.object
+
+abbrev pub ghosts-take_turns : goal.ghosts-take_turns
+ghosts-take_turns g a = record { name = a.blank.name; parts = a.blank.parts }
 
 abbrev pub ghost-end_all : goal.ghost-end_all
-ghost-end_all g a = course_of a.script.now (allotments_by_turns a.script.now.operations a.script.now.stops a.script.now.turns) g.course.object
+ghost-end_all g a = course_of a.script.now (replay_allotments a.script.now) g.object

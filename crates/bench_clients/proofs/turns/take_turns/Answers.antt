@@ -4,6 +4,7 @@ use Rattle.std.proofs.lemmas.List.{length-set}
 use Rattle.std.proofs.lemmas.Option.{slice_get-get_or}
 use Rattle.std.proofs.Math.Seq.{take-length}
 use Rattle.call_lines.specs.Allotments.{turns_of}
+use Rattle.bench_clients.specs.Starts.{run_allotments, course_of}
 use Rattle.bench_clients.specs.Turns.{IsTurned}
 use Rattle.bench_clients.proofs.Turning.{turn_within, no_turn, turning, turned_set, turned_spent}
 use Rattle.bench_clients.proofs.turns.take_turns.Goals as goal
@@ -50,9 +51,9 @@ loop-turn-preserved g c =
 
 pub returns-clause-workers : goal.returns-clause-workers
 returns-clause-workers g c i j w at there =
-    let asked = c.requires.1.1.1.1.1 in
-    let all : take c.loop-turn.turn-index c.turns-turn-items.result.now ≡ c.args.script.now.turns =
+    let plan = c.args.script.now in
+    let all : take c.loop-turn.turn-index c.turns-turn-items.result.now ≡ plan.turns =
     ap (λ (k : ℕ). take k c.turns-turn-items.result.now) (omega (arith, c.loop-turn-test.false, c.loop-turn.auto.turn-index-end)) ∙ take-length c.turns-turn-items.result.now ∙ c.turns-turn-items.ensures in
-    turned_spent _ _ _ _ _ _ g.course c.args.script.now i w asked.0 (omega (arith, at))
-    (subst (λ (turns : List ℕ). IsTurned g.P.Program.meaning c.args.shared.now.rows.now g.E.Ending.says g.E.Ending.object (g.A.Asks.fits c.args.shared.now.asks.now) g.A.Asks.count g.course i (turns_of turns i) w) all
+    turned_spent _ _ _ _ _ _ plan g.object i w (omega (arith, at))
+    (subst (λ (turns : List ℕ). IsTurned g.P.Program.meaning c.args.shared.now.rows.now g.E.Ending.says g.E.Ending.object (g.A.Asks.fits c.args.shared.now.asks.now) g.A.Asks.count (course_of plan (run_allotments plan) g.object) i (turns_of turns i) w) all
     (c.loop-turn.invariant.workers i j w at there))

@@ -1,14 +1,14 @@
 use Rattle.std.proofs.Common.{◌≡◌, ◌∙◌, subst, arith, ℕ, List, length}
 use Rattle.world_core.specs.Shape.{Shape}
-use Rattle.call_lines.specs.Allotments.{allotments_of}
+use Rattle.bench_clients.specs.Starts.{run_allotments}
 use Rattle.call_lines.specs.Lawful.{IsLawful}
 use Rattle.core_objects.specs.CoreObjects.{shape_with}
 use Rattle.reports.specs.Findings.{Findings}
 use Rattle.row_table.specs.Callers.{shape_of, locals_on}
 use Rattle.run_report.specs.Reporting.{IsReportOf}
 use Rattle.run_report.proofs.Workers.{if_ok_as}
-use Rattle.core_runs.proofs.Opened.{opened_with, passes_for_rows}
-use Rattle.core_runs.proofs.FreshRuns.{rows_for, shape_opened_with, unused_when_opened}
+use Rattle.bench_clients.proofs.Starts.{may_begin}
+use Rattle.core_runs.proofs.Opened.{opened_with, passes_for_rows, shape_opened_with}
 use Rattle.core_runs.proofs.fresh_run.run_core_fresh.Goals as goal
 
 pub run_core-report-requires-clause-program : goal.run_core-report-requires-clause-program
@@ -16,14 +16,10 @@ run_core-report-requires-clause-program g c κs within =
     let opened = c.in_ok-rows.ensures.rows in
     opened_with c.in_ok-rows.rows _ _ opened.0 opened.1 g.O.P.Program.meaning _ _ opened.2 opened.3 c.program.ensures
 
-pub run_core-report-requires-clause-rows : goal.run_core-report-requires-clause-rows
-run_core-report-requires-clause-rows g c κs within =
-    let opened = c.in_ok-rows.ensures.rows in
-    rows_for c.in_ok-rows.rows c.args.script.now c.args.cap (opened.0 ∙ c.callers.ensures.count) opened.1 c.requires.calls
-
-pub run_core-report-requires-clause-unused : goal.run_core-report-requires-clause-unused
-run_core-report-requires-clause-unused g c κs within i low =
-    unused_when_opened c.in_ok-rows.bench i (c.in_ok-rows.ensures.fresh i (omega (arith, low, c.callers.ensures.count)))
+pub run_core-report-requires-clause-begins : goal.run_core-report-requires-clause-begins
+run_core-report-requires-clause-begins g c κs within =
+    let opened = c.in_ok-rows.ensures in
+    may_begin _ c.args.script.now 0 _ c.args.cap _ _ (omega (arith, c.callers.ensures.count)) c.requires.calls opened.rows.0 opened.rows.1 opened.bench opened.fresh
 
 pub run_core-report-requires-clause-passes : goal.run_core-report-requires-clause-passes
 run_core-report-requires-clause-passes g c κs within =
@@ -36,7 +32,7 @@ returns-clause-kind g c =
     let rows = c.in_ok-rows.rows in
     let sequential = g.O.CoreObject.sequential_of c.args.object.now in
     if_ok_as c.run_core-report.result
-    (λ (report : Findings). IsReportOf (g.O.S.SeqObject.init sequential) (g.O.S.SeqObject.next sequential) (shape_of g.O.P.Program.meaning rows) (locals_on c.run_core-report.new.bench) plan (allotments_of plan.operations plan.stops) report)
+    (λ (report : Findings). IsReportOf (g.O.S.SeqObject.init sequential) (g.O.S.SeqObject.next sequential) (shape_of g.O.P.Program.meaning rows) (locals_on c.run_core-report.new.bench) plan (run_allotments plan) report)
     (λ (report : Findings). report.kind ≡ plan.kind)
     (λ report is. is.kind) c.run_core-report.ensures.report
 
@@ -47,10 +43,10 @@ returns-clause-lawful g c =
     let opened = c.in_ok-rows.ensures.rows in
     let init = g.O.S.SeqObject.init (g.O.CoreObject.sequential_of c.args.object.now) in
     let next = g.O.S.SeqObject.next (g.O.CoreObject.sequential_of c.args.object.now) in
-    let allotments : List ℕ = allotments_of plan.operations plan.stops in
+    let allotments : List ℕ = run_allotments plan in
     let shape : Shape = shape_with (g.O.P.Program.meaning (g.O.CoreObject.program_of c.args.object.now)) (length plan.operations) c.args.cap in
     let same : shape_of g.O.P.Program.meaning rows ≡ shape =
-    shape_opened_with rows g.O.P.Program.meaning _ _ _ (opened.2 ∙ c.program.ensures) (opened.0 ∙ c.callers.ensures.count) opened.1 in
+    shape_opened_with rows _ _ (opened.0 ∙ c.callers.ensures.count) opened.1 g.O.P.Program.meaning _ (opened.2 ∙ c.program.ensures) in
     if_ok_as c.run_core-report.result
     (λ (report : Findings). IsReportOf init next (shape_of g.O.P.Program.meaning rows) (locals_on c.run_core-report.new.bench) plan allotments report)
     (λ (report : Findings). IsLawful init next shape plan.operations allotments report.lines)

@@ -1,7 +1,7 @@
 use Rattle.std.proofs.Common.{◌≡◌, subst, arith, false}
 use Rattle.std.specs.Prelude.{IfOk}
 use Rattle.std.specs.List.{list_any}
-use Rattle.call_lines.specs.Allotments.{allotments_of}
+use Rattle.bench_clients.specs.Starts.{run_allotments}
 use Rattle.call_lines.specs.Lines.{any_error}
 use Rattle.reports.specs.Findings.{Findings}
 use Rattle.row_table.specs.Callers.{shape_of, locals_on}
@@ -11,12 +11,9 @@ use Rattle.core_runs.proofs.Passes.{core_passes_are_fresh}
 use Rattle.core_runs.proofs.Errors.{no_line_is_an_error}
 use Rattle.core_runs.proofs.run.run_core.Goals as goal
 
-pub run_asked-requires-clause-all_passes : goal.run_asked-requires-clause-all_passes
-run_asked-requires-clause-all_passes g c κs within = omega (arith, c.requires.passes.count, c.requires.rows.callers)
-
 pub run_asked-requires-clause-passes : goal.run_asked-requires-clause-passes
 run_asked-requires-clause-passes g c κs within =
-    core_passes_are_fresh c.args.rows.now (g.O.CoreObject.fits c.args.object.now) c.args.script.now.operations _ c.requires.passes
+    core_passes_are_fresh c.args.rows.now (g.O.CoreObject.fits c.args.object.now) c.args.script.now.operations _ (omega (arith, c.requires.begins.callers)) c.requires.passes
 
 pub returns-clause-no_error : goal.returns-clause-no_error
 returns-clause-no_error g c =
@@ -24,7 +21,7 @@ returns-clause-no_error g c =
     let rows = c.args.rows.now in
     let object = c.args.object.now in
     let sequential = g.O.CoreObject.sequential_of object in
-    let allotments = allotments_of plan.operations plan.stops in
+    let allotments = run_allotments plan in
     if_ok_as c.run_asked.result
     (λ (report : Findings). IsReportOf (g.O.S.SeqObject.init sequential) (g.O.S.SeqObject.next sequential) (shape_of g.O.P.Program.meaning rows) (locals_on c.run_asked.new.bench) plan allotments report)
     (λ (report : Findings). list_any any_error report.lines ≡ false)

@@ -1,16 +1,15 @@
 use Rattle.std.proofs.Common.{◌∙◌, arith}
 use Rattle.reports.specs.Findings.{Findings}
 use Rattle.row_table.specs.Callers.{locals_on}
-use Rattle.hunts.proofs.Made.{wide_rows, opened_unused, outside_shapes, if_ok_both, told_report}
+use Rattle.bench_clients.proofs.Starts.{may_begin}
+use Rattle.run_report.proofs.Reported.{outside_shapes}
+use Rattle.hunts.proofs.Made.{if_ok_both, told_report}
 use Rattle.hunts.proofs.once.run_once.Goals as goal
 
-pub run_asked-report-requires-clause-rows : goal.run_asked-report-requires-clause-rows
-run_asked-report-requires-clause-rows g c κs within =
-    wide_rows c.args.script.now c.in_ok-rows.rows (c.in_ok-rows.ensures.rows.0 ∙ c.callers.ensures.count) c.in_ok-rows.ensures.rows.1 c.callers.ensures.plan
-
-pub run_asked-report-requires-clause-unused : goal.run_asked-report-requires-clause-unused
-run_asked-report-requires-clause-unused g c κs within i low =
-    opened_unused c.in_ok-rows.bench i (c.in_ok-rows.ensures.fresh i (omega (arith, low, c.callers.ensures.count)))
+pub run_asked-report-requires-clause-begins : goal.run_asked-report-requires-clause-begins
+run_asked-report-requires-clause-begins g c κs within =
+    let opened = c.in_ok-rows.ensures in
+    may_begin _ c.args.script.now 0 _ 256 _ _ (omega (arith, c.callers.ensures.count)) c.callers.ensures.plan.calls opened.rows.0 opened.rows.1 opened.bench opened.fresh
 
 pub returns : goal.returns
 returns g c =

@@ -1,11 +1,11 @@
 use Rattle.std.proofs.Common.{◌≡◌, ℕ, ◌+◌, ◌<◌, ◌≤◌, length, get_or, slice_index}
 use Rattle.call_lines.specs.Phases.{published_by}
-use Rattle.monitored_runs.specs.Monitoring.{allotments_in}
+use Rattle.bench_clients.specs.Starts.{run_allotments}
 use Rattle.monitored_runs.proofs.counts.published_counts.Given as goal
 
 abbrev pub invariant-loop-i : goal.invariant-loop-i
 invariant-loop-i l = record {
   wide : length l.counts ≡ length l.script.operations + 2;
-  done : (k : ℕ) → k < l.i → get_or l.counts k 0 ≡ published_by (slice_index (allotments_in l.script) k);
+  done : (k : ℕ) → k < l.i → get_or l.counts k 0 ≡ published_by (slice_index (run_allotments l.script) k);
   rest : (k : ℕ) → l.i ≤ k → get_or l.counts k 0 ≡ 0;
 }

@@ -12,7 +12,7 @@ use Rattle.monitored_runs.proofs.run.monitor_over.Goals as goal
 pub returns-clause-passes : goal.returns-clause-passes
 returns-clause-passes g c =
     let done = c.monitor_asked.ensures in
-    own_passes _ _ _ _ _ _ _ _ _ _ _ (omega (arith, done.all_passes)) done.back
+    own_passes _ _ _ _ _ _ _ _ _ _ _ _ (omega (arith, done.all_passes)) done.back
 
 pub returns-clause-told : goal.returns-clause-told
 returns-clause-told g c =

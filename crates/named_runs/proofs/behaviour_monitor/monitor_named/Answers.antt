@@ -1,32 +1,29 @@
-use Rattle.std.proofs.Common.{◌≡◌, ◌∙◌, sym, ap, subst, ℕ, ◌+◌, List, length, arith}
+use Rattle.std.proofs.Common.{◌≡◌, sym, ap, subst, List, length, arith}
 use Rattle.bench_clients.specs.Places.{AreInOrder}
 use Rattle.run_report.specs.Passes.{IsOwnPass, IsUnusedPass}
 use Rattle.named_runs.specs.NamedObjects.{AreTold}
-use Rattle.named_runs.proofs.FreshRuns.{unused_own}
-use Rattle.named_runs.proofs.OpenedPasses.{passes_count, opened_passes, passes_back}
+use Rattle.run_report.proofs.Workers.{unused_own}
+use Rattle.named_runs.proofs.OpenedPasses.{passes_count, opened_unused, passes_back}
 use Rattle.named_runs.proofs.MonitoredRuns.{two_longer, first_aside, second_aside, others_aside, back_in_order, explained_monitored}
 use Rattle.named_runs.proofs.behaviour_monitor.monitor_named.Goals as goal
-
-pub monitor_fresh-status-requires-clause-all_passes : goal.monitor_fresh-status-requires-clause-all_passes
-monitor_fresh-status-requires-clause-all_passes g c κs within =
-    let aside = c.set_aside-first in
-    omega (
-      arith,
-      ap (λ (l : List _). length l) aside.ensures.items,
-      two_longer aside.new.passes.items aside.result.0 aside.result.1,
-      passes_count _ _ _ c.in-Ok.ensures.passes.callers,
-      c.callers.ensures.count,
-      aside.new.passes.ok.0,
-    )
 
 pub monitor_fresh-status-requires-clause-passes : goal.monitor_fresh-status-requires-clause-passes
 monitor_fresh-status-requires-clause-passes g c κs within =
     let aside = c.set_aside-first in
     let plan = c.args.script.now in
     let opened = c.in-Ok.ensures in
-    others_aside aside.new.passes.items c.in-Ok.opened.1.items aside.result.0 aside.result.1 aside.ensures.items
-    (IsUnusedPass (g.O.BlackBox.is_own c.in-Ok.opened.0) g.O.Pass.ObjectPass.caller g.O.Pass.ObjectPass.made g.O.Pass.ObjectPass.cap plan.operations)
-    (opened_passes _ _ _ _ _ _ plan opened.passes.callers opened.passes.own opened.fresh c.callers.ensures.plan)
+    record {
+      as_many = omega (
+        arith,
+        ap (λ (l : List _). length l) aside.ensures.items,
+        two_longer aside.new.passes.items aside.result.0 aside.result.1,
+        passes_count _ _ _ opened.passes.callers,
+        c.callers.ensures.count,
+      );
+      each = others_aside aside.new.passes.items c.in-Ok.opened.1.items aside.result.0 aside.result.1 aside.ensures.items
+          (IsUnusedPass (g.O.BlackBox.is_own c.in-Ok.opened.0) g.O.Pass.ObjectPass.caller g.O.Pass.ObjectPass.made g.O.Pass.ObjectPass.cap plan.operations)
+          (opened_unused _ _ _ _ _ _ plan opened.passes.callers opened.passes.own opened.fresh c.callers.ensures.plan);
+    }
 
 pub put_back-requires : goal.put_back-requires
 put_back-requires g c =
@@ -50,7 +47,7 @@ close_with-requires g c =
     let is_own = g.O.BlackBox.is_own c.in-Ok.opened.0 in
     let caller = g.O.Pass.ObjectPass.caller in
     let owned : AreInOrder (IsOwnPass is_own caller) c.in-Ok.opened.1.items =
-    unused_own is_own caller g.O.Pass.ObjectPass.made g.O.Pass.ObjectPass.cap plan.operations c.in-Ok.opened.1.items (opened_passes _ _ _ _ _ _ plan opened.passes.callers opened.passes.own opened.fresh c.callers.ensures.plan) in
+    unused_own is_own caller g.O.Pass.ObjectPass.made g.O.Pass.ObjectPass.cap plan.operations c.in-Ok.opened.1.items (opened_unused _ _ _ _ _ _ plan opened.passes.callers opened.passes.own opened.fresh c.callers.ensures.plan) in
     let rest = aside.new.passes.items in
     let whole = c.in-Ok.opened.1.items in
     let long : length after.new.passes.items ≡ length rest =
@@ -98,7 +95,7 @@ tells_nothing-requires-clause-own g c =
     let opened = c.in-Ok.ensures in
     (first_aside aside.new.passes.items c.in-Ok.opened.1.items aside.result.0 aside.result.1 aside.ensures.items
     (IsUnusedPass (g.O.BlackBox.is_own c.in-Ok.opened.0) g.O.Pass.ObjectPass.caller g.O.Pass.ObjectPass.made g.O.Pass.ObjectPass.cap plan.operations)
-    (opened_passes _ _ _ _ _ _ plan opened.passes.callers opened.passes.own opened.fresh c.callers.ensures.plan)).own
+    (opened_unused _ _ _ _ _ _ plan opened.passes.callers opened.passes.own opened.fresh c.callers.ensures.plan)).own
 
 pub tells_nothing-requires-clause-unused : goal.tells_nothing-requires-clause-unused
 tells_nothing-requires-clause-unused g c =
@@ -107,4 +104,4 @@ tells_nothing-requires-clause-unused g c =
     let opened = c.in-Ok.ensures in
     (first_aside aside.new.passes.items c.in-Ok.opened.1.items aside.result.0 aside.result.1 aside.ensures.items
     (IsUnusedPass (g.O.BlackBox.is_own c.in-Ok.opened.0) g.O.Pass.ObjectPass.caller g.O.Pass.ObjectPass.made g.O.Pass.ObjectPass.cap plan.operations)
-    (opened_passes _ _ _ _ _ _ plan opened.passes.callers opened.passes.own opened.fresh c.callers.ensures.plan)).none
+    (opened_unused _ _ _ _ _ _ plan opened.passes.callers opened.passes.own opened.fresh c.callers.ensures.plan)).none

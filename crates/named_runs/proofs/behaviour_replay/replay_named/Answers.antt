@@ -1,15 +1,12 @@
 use Rattle.std.proofs.Common.{◌∙◌, arith}
 use Rattle.named_runs.proofs.ToldCalls.{explained_ends}
-use Rattle.named_runs.proofs.OpenedPasses.{passes_count, opened_passes, passes_back}
+use Rattle.named_runs.proofs.OpenedPasses.{opened_passes, passes_back}
 use Rattle.named_runs.proofs.behaviour_replay.replay_named.Goals as goal
 
-pub replay_fresh-status-requires-clause-all_passes : goal.replay_fresh-status-requires-clause-all_passes
-replay_fresh-status-requires-clause-all_passes g c =
-    omega (arith, passes_count _ _ _ c.in-Ok.ensures.passes.callers, c.callers.ensures.count, c.in-Ok.opened.1.ok.0)
-
-pub replay_fresh-status-requires-clause-passes : goal.replay_fresh-status-requires-clause-passes
-replay_fresh-status-requires-clause-passes g c =
-    opened_passes _ _ _ _ _ _ c.args.script.now c.in-Ok.ensures.passes.callers c.in-Ok.ensures.passes.own c.in-Ok.ensures.fresh c.callers.ensures.plan
+pub replay_fresh-status-requires : goal.replay_fresh-status-requires
+replay_fresh-status-requires g c = record {
+  passes = opened_passes _ _ _ _ _ _ c.args.script.now (omega (arith, c.callers.ensures.count)) c.in-Ok.ensures.passes.callers c.in-Ok.ensures.passes.own c.in-Ok.ensures.fresh c.callers.ensures.plan;
+}
 
 pub close_with-requires : goal.close_with-requires
 close_with-requires g c =

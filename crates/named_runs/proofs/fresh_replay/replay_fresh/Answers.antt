@@ -1,14 +1,17 @@
-use Rattle.std.proofs.Common.{◌∙◌}
-use Rattle.named_runs.proofs.FreshRuns.{may_begin, unused_own, outside_shapes, fresh_ends}
+use Rattle.std.proofs.Common.{◌∙◌, arith}
+use Rattle.bench_clients.proofs.Starts.{may_begin}
+use Rattle.run_report.proofs.Reported.{outside_shapes}
+use Rattle.run_report.proofs.Workers.{unused_own}
+use Rattle.named_runs.proofs.FreshRuns.{fresh_ends}
 use Rattle.named_runs.proofs.fresh_replay.replay_fresh.Goals as goal
 
 pub returns-in-Err-clause-passes : goal.returns-in-Err-clause-passes
-returns-in-Err-clause-passes g c = unused_own _ _ _ _ _ _ c.requires.passes
+returns-in-Err-clause-passes g c = unused_own _ _ _ _ _ _ c.requires.passes.each
 
 pub replay_and_write-status-requires-clause-begins : goal.replay_and_write-status-requires-clause-begins
 replay_and_write-status-requires-clause-begins g c =
     let opened = c.in-Ok.ensures in
-    may_begin _ c.args.script.now _ c.in-Ok.opened.0 c.in-Ok.opened.1 c.callers.ensures.count c.callers.ensures.plan opened.rows.0 opened.rows.1 opened.bench opened.fresh
+    may_begin _ c.args.script.now 0 _ 256 c.in-Ok.opened.0 c.in-Ok.opened.1 (omega (arith, c.callers.ensures.count)) c.callers.ensures.plan.calls opened.rows.0 opened.rows.1 opened.bench opened.fresh
 
 pub returns-clause-ends : goal.returns-clause-ends
 returns-clause-ends g c =

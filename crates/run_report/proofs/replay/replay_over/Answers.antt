@@ -1,66 +1,42 @@
-use Rattle.std.proofs.Common.{◌≡◌, ◌∙◌, sym, subst, ap, List, arith}
-use Rattle.std.specs.List.{All}
-use Rattle.std.proofs.lemmas.List.{length-map}
-use Rattle.reports.specs.declared.report.Own.{Own}
-use Rattle.run_report.specs.Replies.{HasWord}
-use Rattle.seq_objects.specs.declared.kind.Kind.{Kind}
-use Rattle.call_lines.specs.Allotments.{allotments_by_turns}
-use Rattle.reports.specs.Findings.{Findings, IsReport}
-use Rattle.reports.specs.ReportLayout.{findings_in}
-use Rattle.run_report.specs.Reporting.{IsToldIn}
-use Rattle.bench_clients.specs.Places.{AreInOrder}
-use Rattle.run_report.proofs.Workers.{holds_back, own_passes, counted_told}
-use Rattle.run_report.proofs.Reports.{words_of_all}
-use Rattle.run_report.proofs.Reported.{reported, fits, free_of, told_of}
+use Rattle.std.proofs.Common.{rules, arith}
+use Rattle.bench_clients.specs.Starts.{replay_allotments, object_by}
+use Rattle.bench_clients.proofs.Returns.{unused_back}
+use Rattle.run_report.proofs.Workers.{all_held, unused_own, own_passes, counted_told, all_by_first, first_is, back_by}
 use Rattle.run_report.proofs.replay.replay_over.Goals as goal
 
+pub replay_all-requires : goal.replay_all-requires
+replay_all-requires g c κs within =
+    (search rules, (search rules, (search rules, (search rules, (tt, (c.requires.begins.starts, (c.passes_are_fresh.ensures, (omega (arith, c.in_ok-endings.ensures.all, c.callers.ensures.count), all_by_first _ _ _ c.in_ok-endings.ensures.each))))))))
+
+pub report_of-report-requires : goal.report_of-report-requires
+report_of-report-requires g c κs within =
+    let done = c.in_ok-lines.ensures in
+    let object = object_by g.S.SeqObject.init g.S.SeqObject.next c.args.sequential.now in
+    let first = first_is _ object _ (omega (arith, c.in_ok-endings.ensures.all, c.callers.ensures.count, c.callers.ensures.plan.some)) c.in_ok-endings.ensures.each in
+    (search rules, (search rules, (search rules, (search rules, (omega (arith, c.requires.begins.callers), (done.bench, (done.all_passes, (done.all_lines, back_by _ _ _ _ _ c.args.script.now _ _ _ _ _ _ first done.lines))))))))
+
+pub returns-in_err-endings-clause-bench : goal.returns-in_err-endings-clause-bench
+returns-in_err-endings-clause-bench g c =
+    let starts = c.requires.begins.starts in
+    all_held _ _ _ _ c.args.script.now (replay_allotments c.args.script.now) _ _ _ c.requires.begins starts.bench_of (unused_back _ _ _ _ _ _ _ _ starts c.passes_are_fresh.ensures)
+
+pub returns-in_err-endings-clause-back : goal.returns-in_err-endings-clause-back
+returns-in_err-endings-clause-back g c = unused_back _ _ _ _ c.args.script.now _ _ _ c.requires.begins.starts c.passes_are_fresh.ensures
+
+pub returns-in_err-endings-clause-passes : goal.returns-in_err-endings-clause-passes
+returns-in_err-endings-clause-passes g c = unused_own _ _ _ _ _ _ c.requires.passes.each
+
 pub returns-in_err-lines-clause-bench : goal.returns-in_err-lines-clause-bench
-returns-in_err-lines-clause-bench g c =
-    let done = c.replay_judged.ensures in
-    (done.bench, λ i low. holds_back _ _ _ _ _ _ _ i (done.back i (omega (arith, low, done.bench.callers, c.requires.rows.callers))))
+returns-in_err-lines-clause-bench g c = all_held _ _ _ _ c.args.script.now _ _ _ _ c.requires.begins c.replay_all.ensures.bench c.replay_all.ensures.back
 
 pub returns-in_err-lines-clause-passes : goal.returns-in_err-lines-clause-passes
-returns-in_err-lines-clause-passes g c =
-    let done = c.replay_judged.ensures in
-    own_passes _ _ _ _ _ _ _ _ _ _ _ (omega (arith, done.all_passes)) done.back
-
-pub of_lines-requires : goal.of_lines-requires
-of_lines-requires g c =
-    let done = c.in_ok-lines.ensures in
-    let plan = c.args.script.now in
-    subst (λ (k : Kind). IsReport (findings_in k c.in_ok-lines.lines.items)) (sym c.kind.ensures)
-    (fits _ _ _ plan _ _ _ _ _ _ c.callers-callers.ensures.plan c.requires.rows done.bench done.lines (omega (arith, done.all_lines, length-map c.in_ok-lines.lines.items (λ (o : Own). o.lines.items))) (words_of_all _ (subst (λ (ls : List Own). All (λ own. All (λ line. HasWord line.end) own.lines.items) ls) c.deref.ensures.value c.read_replies.ensures)))
+returns-in_err-lines-clause-passes g c = own_passes _ _ _ _ _ _ _ _ _ _ _ _ (omega (arith, c.replay_all.ensures.all_passes)) c.replay_all.ensures.back
 
 pub returns-clause-bench : goal.returns-clause-bench
-returns-clause-bench g c =
-    let done = c.replay_judged.ensures in
-    (done.bench, λ i low. holds_back _ _ _ _ _ _ _ i (done.back i (omega (arith, low, done.bench.callers, c.requires.rows.callers))))
+returns-clause-bench g c = all_held _ _ _ _ c.args.script.now _ _ _ _ c.requires.begins c.replay_all.ensures.bench c.replay_all.ensures.back
 
 pub returns-clause-passes : goal.returns-clause-passes
-returns-clause-passes g c =
-    let done = c.replay_judged.ensures in
-    own_passes _ _ _ _ _ _ _ _ _ _ _ (omega (arith, done.all_passes)) done.back
-
-pub returns-clause-report : goal.returns-clause-report
-returns-clause-report g c =
-    let done = c.in_ok-lines.ensures in
-    let plan = c.args.script.now in
-    let same : c.of_lines.result ≡ findings_in plan.kind c.in_ok-lines.lines.items = c.of_lines.ensures ∙ ap (λ (k : Kind). findings_in k c.in_ok-lines.lines.items) c.kind.ensures in
-    reported _ _ _ plan _ _ _ _ _ _ c.callers-callers.ensures.plan c.requires.rows done.bench done.lines (omega (arith, done.all_lines, length-map c.in_ok-lines.lines.items (λ (o : Own). o.lines.items)))
-    c.of_lines.result same
-
-pub returns-clause-free : goal.returns-clause-free
-returns-clause-free g c i low =
-    let done = c.in_ok-lines.ensures in
-    let plan = c.args.script.now in
-    let same : c.of_lines.result ≡ findings_in plan.kind c.in_ok-lines.lines.items = c.of_lines.ensures ∙ ap (λ (k : Kind). findings_in k c.in_ok-lines.lines.items) c.kind.ensures in
-    free_of _ _ _ plan _ _ _ _ _ _ c.callers-callers.ensures.plan c.requires.rows done.bench done.lines (omega (arith, done.all_lines, length-map c.in_ok-lines.lines.items (λ (o : Own). o.lines.items)))
-    c.of_lines.result same i low
+returns-clause-passes g c = own_passes _ _ _ _ _ _ _ _ _ _ _ _ (omega (arith, c.replay_all.ensures.all_passes)) c.replay_all.ensures.back
 
 pub returns-clause-told : goal.returns-clause-told
-returns-clause-told g c =
-    let done = c.in_ok-lines.ensures in
-    let plan = c.args.script.now in
-    let same : c.of_lines.result ≡ findings_in plan.kind c.in_ok-lines.lines.items = c.of_lines.ensures ∙ ap (λ (k : Kind). findings_in k c.in_ok-lines.lines.items) c.kind.ensures in
-    subst (λ (f : Findings). AreInOrder (IsToldIn g.B.Pass.ObjectPass.made g.B.Pass.ObjectPass.told (allotments_by_turns plan.operations plan.stops plan.turns) f) c.replay_judged.new.passes.items) (sym same)
-    (counted_told _ _ _ _ _ _ (told_of _ _ _ plan _ _ _ _ _ _ c.callers-callers.ensures.plan c.requires.rows done.bench done.lines (omega (arith, done.all_lines, length-map c.in_ok-lines.lines.items (λ (o : Own). o.lines.items))) (omega (arith, done.all_passes))))
+returns-clause-told g c = counted_told _ _ _ _ _ _ c.report_of-report.ensures.counted

@@ -1,5 +1,5 @@
 use Rattle.std.proofs.Common.{sym}
-use Rattle.run_writer.specs.Runs.{object_by}
+use Rattle.bench_clients.specs.Starts.{object_by}
 use Rattle.run_writer.proofs.RunLemmas.{RunEnds-from_report}
 use Rattle.run_writer.proofs.RunningLemmas.{ends_by_object, form_by_object, one_standing, has_form}
 use Rattle.run_writer.proofs.core_run.core_and_write.Goals as goal

@@ -1,11 +1,8 @@
 use Rattle.std.proofs.Common.{arith}
-use Rattle.named_runs.proofs.OpenedPasses.{passes_count, opened_passes}
+use Rattle.named_runs.proofs.OpenedPasses.{opened_passes}
 use Rattle.whole_runs.proofs.meetings.meet_in_rows.Goals as goal
-
-pub run_in_rows-requires-clause-all_passes : goal.run_in_rows-requires-clause-all_passes
-run_in_rows-requires-clause-all_passes g c κs within = omega (arith, passes_count _ _ _ c.in_ok-object.ensures.callers, c.callers.ensures.count)
 
 pub run_in_rows-requires-clause-passes : goal.run_in_rows-requires-clause-passes
 run_in_rows-requires-clause-passes g c κs within =
-    opened_passes _ _ _ _ _ _ c.args.script.now c.in_ok-object.ensures.callers c.in_ok-object.ensures.own
+    opened_passes _ _ _ _ _ _ c.args.script.now (omega (arith, c.callers.ensures.count)) c.in_ok-object.ensures.callers c.in_ok-object.ensures.own
     (λ k d low. let new = c.in_ok-object.ensures.fresh k d low in (new.made, new.cap)) c.callers.ensures.plan

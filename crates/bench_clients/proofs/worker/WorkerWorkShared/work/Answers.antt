@@ -4,11 +4,11 @@ use Rattle.bench_clients.proofs.worker.WorkerWorkShared.work.Goals as goal
 pub returns : goal.returns
 returns g c = record {
   before = c.in-Some.client;
-  after = c.run_alone-client.result;
+  after = c.run_counted-client.result;
   was = sym c.take.ensures.value ∙ c.in-Some.is;
   is = c.replace.ensures.after;
-  work = c.run_alone-client.ensures.work;
-  same = c.run_alone-client.ensures.same;
-  judges = c.run_alone-client.ensures.object;
-  spent = c.run_alone-client.ensures.spent;
+  work = c.run_counted-client.ensures.work;
+  same = c.run_counted-client.ensures.same;
+  judges = c.run_counted-client.ensures.object;
+  spent = c.run_counted-client.ensures.spent;
 }
