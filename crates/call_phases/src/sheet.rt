@@ -83,13 +83,9 @@ impl<'a, E: Ending> Sheet<'a, E> {
         ensures standing { StandsBy (E.object self.new.ending) self.new.gathered self.new.standing }
     {
         let seen = seen(published, rows, steps);
-        let ended = self.ending.end(
-            rows,
-            seen,
-            &mut self.gathered,
-            &mut self.standing,
-            steps,
-        );
+        let ended = self
+            .ending
+            .end(rows, seen, &mut self.gathered, &mut self.standing, steps);
         noted(ended, op, &mut self.lines)
     }
 }

@@ -175,7 +175,12 @@ impl Front {
     }
 
     /// Puts a place behind the others. Whether the object gave its reply.
-    pub fn put<S: SeqObject>(&mut self, object: &S, book: &Book, place: Place) -> Result<bool, NoMemory>
+    pub fn put<S: SeqObject>(
+        &mut self,
+        object: &S,
+        book: &Book,
+        place: Place,
+    ) -> Result<bool, NoMemory>
         requires put { IsPut (S.init object.now) (S.next object.now) book.now self.old }
         requires next { IsNext book.now self.old.cut place }
         requires room { self.old.here.room ≡ ROOM }

@@ -50,11 +50,7 @@ fn last_standing(book: &Book, marks: &[Mark]) -> Option<usize>
 }
 
 // The places of an order up to a mark, as a front, and the other places.
-fn front_at(
-    alloc: Global,
-    order: Vec<Place>,
-    mark: &Mark,
-) -> Result<(Front, Vec<Place>), NoMemory>
+fn front_at(alloc: Global, order: Vec<Place>, mark: &Mark) -> Result<(Front, Vec<Place>), NoMemory>
     requires len { mark.now.len ≤ length order.items }
     requires words { length mark.now.words.items ≤ ROOM }
     ensures places { IfOk result (λ r. r.0.places.items ≡ take mark.now.len order.items) }
