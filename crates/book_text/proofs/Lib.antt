@@ -10,3 +10,4 @@ pub mod WrittenTexts
 pub mod ReadTexts
 pub mod FaultTexts
 pub mod Leavings
+pub mod CallReadings

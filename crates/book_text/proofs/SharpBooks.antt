@@ -25,7 +25,7 @@ use Rattle.text_fields.specs.Operations.{Operations, kind_operations}
 use Rattle.text_fields.specs.OperationLaws.{one_kind_operation, solid_kind_words}
 use Rattle.text_fields.proofs.NumberTexts.{same_first, solid_word, solid_decimal}
 use Rattle.text_fields.proofs.HeadTexts.{solid_numbers, plain, head_sharp}
-use Rattle.book_text.specs.CallLines.{place_words, answer_words, call_words, HasView, EntryFails, ViewFails, is_gap, MayStand, with_line, IsNamedCall, IsCallLine, CallFails}
+use Rattle.book_text.specs.CallLines.{place_words, answer_words, call_words, HasView, EntryFails, ViewFails, is_gap, MayStand, with_line, IsNamedCall, IsCallLine, CallPasses, CallFails, Progress, reading, call_wanted, call_rules}
 use Rattle.book_text.specs.BookRules.{BookDue, InHead, InCalls, AtEnd, behind_head, BookPasses, BookFails, book_wanted, book_rules}
 use Rattle.book_text.proofs.EntryTexts.{OneOperation, same_behind, behind_place, one_behind, passes_place, passes_op, passes_gap, passes_reply, passes_view}
 use Rattle.book_text.proofs.CallTexts.{cut_once, one_view}
@@ -114,6 +114,35 @@ module _ (version : Version) (operations : Operations) (one : OneOperation opera
         (solid_decimal call.caller (omega (arith, h.named.caller, h.named.callers)), (solid_decimal call.number h.named.number, tt))
         (AllByRecursion-append IsSolid (operations.words h.op) (answer_words version h.answer) (solid_operation h.op h.has).each (solid_answer h.answer h.named h.stands));
   })
+
+module _ (version : Version) (operations : Operations) (one : OneOperation operations) (solid_operation : (op : ℕ) → IsTrue (operations.has op) → AreSolid (operations.words op)) where
+  same_progress : (a b : Progress) → a.book ≡ b.book → a.due ≡ b.due → a ≡ b
+  same_progress a b books dues = ap (λ (book : List Page). reading book a.due) books ∙ ap (reading b.book) dues
+
+  calls_one_way : (book : List Page) (due : List Call) (a b : Progress) (words : List (List ℕ)) → CallPasses version operations book due words a → CallPasses version operations book due words b → a ≡ b
+  calls_one_way book [] a b words h k = absurd h
+  calls_one_way book (call ∷ calls) a b words h k = same_progress a b (line_one_way version operations one solid_operation book call words a.book b.book h.0 k.0) (h.1 ∙ sym k.1)
+
+  calls_apart : (book : List Page) (due : List Call) (after : Progress) (words : List (List ℕ)) (name : What) → CallPasses version operations book due words after → CallFails version operations book due words name → ⊥
+  calls_apart book [] after words name h k = h
+  calls_apart book (call ∷ calls) after words name h k = line_apart version operations one solid_operation book call calls words after.book name h.0 k
+
+  calls_solid : (book : List Page) (due : List Call) (after : Progress) (words : List (List ℕ)) → CallPasses version operations book due words after → AreSolid words
+  calls_solid book [] after words h = absurd h
+  calls_solid book (call ∷ calls) after words h = line_solid version operations one solid_operation book call words after.book h.0
+
+  calls_wanted : (book : List Page) (due : List Call) (after : Progress) (words : List (List ℕ)) → CallPasses version operations book due words after → call_wanted due ≡ ALine
+  calls_wanted book [] after words h = absurd h
+  calls_wanted book (call ∷ calls) after words h = refl
+
+  -- the rules of the lines of calls are sharp, whatever the operations
+  pub call_sharp : AreSharp (call_rules version operations)
+  call_sharp = record {
+    one_way = λ due a b words h k. calls_one_way due.book due.due a b words h k;
+    apart = λ due after words name h k. calls_apart due.book due.due after words name h k;
+    solid = λ due after words h. calls_solid due.book due.due after words h;
+    lines = λ due after words h. calls_wanted due.book due.due after words h;
+  }
 
 module _ (version : Version) where
   title_solid : IsSolid (codes "book")

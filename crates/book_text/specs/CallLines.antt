@@ -5,6 +5,7 @@ use Rattle.book_base.specs.declared.call.Record.{Record}
 use Rattle.book_base.specs.declared.fault.BookFault.{BookFault}
 use Rattle.book_base.specs.declared.fault.BookFault.TheVariants as tests
 use Rattle.book_base.specs.declared.fault.ReadFault.{ReadFault}
+use Rattle.book_base.specs.declared.fault.TextFault.{TextFault}
 use Rattle.book_base.specs.declared.fault.What.{What}
 use Rattle.book_base.specs.declared.fault.What.TheVariants as what
 use Rattle.book_base.specs.declared.TheConstants.{MAX_CALLERS}
@@ -16,7 +17,7 @@ use Rattle.text_fields.specs.declared.version.Version.TheVariants.{First, Second
 use Rattle.text_fields.specs.Counts.{AreNumbers, cut_words, HasBadPair, HasWordBehindPairs}
 use Rattle.text_fields.specs.Operations.{Operations}
 use Rattle.text_fields.specs.Lines.{Unread}
-use Rattle.text_fields.specs.Faults.{Wanted, ALine, Nothing, Rules, GoesTo, StopsFor}
+use Rattle.text_fields.specs.Faults.{Wanted, ALine, Nothing, Rules, GoesTo, IsFirstFault, StopsFor}
 
 -- ---- what a line says
 
@@ -215,3 +216,7 @@ AreCallLines version operations calls book text left = GoesTo (call_rules versio
 -- Why lines of calls, so many of each caller, aren't read: want of memory, or their first fault.
 abbrev pub AreNoCallLines : Version → Operations → List ℕ → Unread → ReadFault → Type 0
 AreNoCallLines version operations calls text fault = StopsFor (call_rules version operations) (no_call_read calls) text fault
+
+-- The first fault of lines of calls, so many of each caller.
+abbrev pub IsFirstCallFault : Version → Operations → List ℕ → Unread → TextFault → Type 0
+IsFirstCallFault version operations calls text fault = IsFirstFault (call_rules version operations) (no_call_read calls) text fault

@@ -1,12 +1,14 @@
 //! The lines of a book's calls.
 
-ghost use Rattle.std.specs.Prelude.{◌≡◌, ◌≢◌, ◌⊎◌, ℕ, ◌+◌, ◌<◌, ◌≤◌, ◌∷◌, [], length, slice_index, IfOk, IfErr, IfSome, IfNone, IsSomeAnd, OnOk};
+ghost use Rattle.std.specs.Prelude.{◌≡◌, ◌≢◌, ◌⊎◌, ℕ, ◌+◌, ◌<◌, ◌≤◌, ◌∷◌, [], length, slice_index, IfOk, IfErr, IfSome, IfNone, IsSomeAnd, OnOk, MatchResult, List};
 ghost use Rattle.book_base.specs.declared.TheConstants.{MAX_CALLERS, MAX_CALLS};
 ghost use Rattle.book_base.specs.declared.fault.BookFault.{BookFault};
-ghost use Rattle.book_base.specs.Book.{IsCall, calls_of, answers_of};
+ghost use Rattle.book_base.specs.declared.fault.TextFault.{TextFault};
+ghost use Rattle.book_base.specs.Book.{Page, IsCall, calls_of, answers_of};
+ghost use Rattle.text_fields.specs.Lines.{Unread};
 ghost use Rattle.book_base.specs.Refusal.{MayAnswer, IsFirstFault};
 ghost use Rattle.text_fields.specs.declared.version.Version.TheVariants.{Second};
-ghost use Rattle.book_text.specs.CallLines.{AreCallLines, AreNoCallLines, AreRead, AreStopped, IsUnanswered, MayRefuse, calls_from, is_gap as is_gap_lem, view_test, with_line};
+ghost use Rattle.book_text.specs.CallLines.{AreCallLines, AreNoCallLines, IsFirstCallFault, AreRead, AreStopped, IsUnanswered, MayRefuse, calls_from, is_gap as is_gap_lem, view_test, with_line};
 
 use crate::entry::{Entry, read_entry};
 use book_base::{Book, BookFault, Call, Cut, ReadFault, Record, TextFault, What};
@@ -32,6 +34,16 @@ pub fn read_calls<T: OpText>(
     ensures refused { IfErr result
         (AreNoCallLines Second (T.operations operations.now) calls.now lines.old) }
     ensures unchanged { IfErr result (λ _. lines.new ≡ lines.old) }
+    // The lines of a book's calls are read as that book, unless memory runs out, and leave what stands
+    // behind them.
+    ensures only { (book : List Page) (left : Unread)
+        → AreCallLines Second (T.operations operations.now) calls.now book lines.old left
+        → MatchResult result (λ b. (b ≡ book) × (lines.new ≡ left)) (λ e. e ≡ ReadFault.NoMemory) }
+    // Where the lines have a first fault, the answer is that fault, unless memory runs out.
+    ensures first { (fault : TextFault)
+        → IsFirstCallFault Second (T.operations operations.now) calls.now lines.old fault
+        → MatchResult result (λ _. ⊥)
+        (λ e. (e ≡ ReadFault.Text fault) ⊎ (e ≡ ReadFault.NoMemory)) }
 {
     let callers = calls.n();
     prove!(callers == n);

@@ -1,6 +1,8 @@
 //! The end of a text.
 
-ghost use Rattle.std.specs.Prelude.{◌≡◌, ◌↔◌, IsTrue, IfOk, IfErr};
+ghost use Rattle.std.specs.Prelude.{◌≡◌, ◌↔◌, IsTrue, IfOk, IfErr, MatchResult};
+ghost use Rattle.book_base.specs.declared.fault.TextFault.{TextFault};
+ghost use Rattle.text_fields.specs.Lines.{Unread};
 ghost use Rattle.book_text.specs.Ending.{IsEnded, IsNoEnd};
 ghost use Rattle.book_text.specs.Grammar.{end_words};
 
@@ -11,6 +13,12 @@ use text_fields::{Lines, Words};
 pub fn read_end(lines: &mut Lines) -> Result<(), TextFault>
     ensures found { IfOk result (λ _. IsEnded lines.old lines.new) }
     ensures refused { IfErr result (IsNoEnd lines.old) }
+    // The end of a text is read as such, and leaves what it leaves.
+    ensures only { (left : Unread) → IsEnded lines.old left
+        → MatchResult result (λ _. lines.new ≡ left) (λ _. ⊥) }
+    // Where the next line is no end for some reason, the answer is the fault that this reason has.
+    ensures first { (fault : TextFault) → IsNoEnd lines.old fault
+        → MatchResult result (λ _. ⊥) (λ e. e ≡ fault) }
 {
     let line = lines.number();
     let mut words = Words::new(lines.line()?);

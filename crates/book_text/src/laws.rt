@@ -5,9 +5,15 @@ ghost use Rattle.book_base.specs.Book.{Page};
 ghost use Rattle.book_base.specs.declared.fault.TextFault.{TextFault};
 ghost use Rattle.seq_objects.specs.declared.kind.Kind.{Kind};
 ghost use Rattle.text_fields.specs.declared.version.Version.{Version};
-ghost use Rattle.book_text.specs.BookRules.{IsBookText, IsFirstBookFault};
+ghost use Rattle.book_text.specs.BookRules.{book_rules, IsBookText, IsFirstBookFault};
 ghost use Rattle.book_text.specs.Grammar.{IsWrittenText};
+ghost use Rattle.text_fields.specs.Faults.{AreSharp};
+ghost use Rattle.text_fields.specs.Lines.{IsSolid};
+ghost use Rattle.text_fields.specs.Head.{head_rules};
+ghost use Rattle.book_text.specs.CallLines.{call_rules};
 ghost use Rattle.book_text.specs.Beginnings.{LeavesTexts};
+
+use text_fields::OpText;
 
 /// Bytes are the text of one book at most, for one kind.
 pub fn one_book_per_text()
@@ -40,4 +46,15 @@ pub fn a_text_is_its_books_lines()
 pub fn first_faults_leave_texts()
     ensures { (version : Version) (bytes : List ℕ) (fault : TextFault)
         → IsFirstBookFault version bytes fault → LeavesTexts version bytes fault }
+{}
+
+/// The rules of a head, of the lines of calls and of a whole book are sharp: a right line is right in
+/// one way, fails no test, and can be read back. So is each of them for any title that is a word, and
+/// the lines of calls for the operations of any texts.
+pub fn rules_are_sharp<T: OpText>()
+    ensures head { (version : Version) (title : List ℕ)
+        → IsSolid title → AreSharp (head_rules version title) }
+    ensures calls { (version : Version) (text : T)
+        → AreSharp (call_rules version (T.operations text)) }
+    ensures book { (version : Version) → AreSharp (book_rules version) }
 {}

@@ -5,3 +5,4 @@ pub mod NumberTexts
 pub mod HeadTexts
 pub mod Readings
 pub mod Leading
+pub mod Heads

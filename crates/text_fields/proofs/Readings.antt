@@ -72,3 +72,14 @@ module _ {Due Said : Type 0} (rules : Rules Due) (are_sharp : AreSharp rules) (s
   first_read bytes (Ok x) h k fault f = no_first bytes x fault h f
   first_read bytes (Err NoMemory) h k fault f = inr refl
   first_read bytes (Err (Text other)) h k fault f = inl (ap Text (one_first bytes other fault k f))
+
+-- ---- a reader of a part of a text, whose rest others read
+
+module _ {Due : Type 0} (rules : Rules Due) (are_sharp : AreSharp rules) (start : Due) (text : Unread) where
+  -- what a part is read as, and what it leaves, is one thing
+  pub one_part : (a b : Due) (x y : Unread) → IsThrough (rules.wanted a) x.bytes → IsThrough (rules.wanted b) y.bytes → GoesTo rules start text a x → GoesTo rules start text b y → (a ≡ b) × (x ≡ y)
+  one_part a b x y p q h k = sharp.one_reading rules are_sharp start a b text x y (record { goes = h; through = p }) (record { goes = k; through = q })
+
+  -- a part that is read has no fault
+  pub no_part_fault : (after : Due) (left : Unread) (fault : TextFault) → IsThrough (rules.wanted after) left.bytes → GoesTo rules start text after left → IsFirstFault rules start text fault → ⊥
+  no_part_fault after left fault p h k = sharp.no_fault rules are_sharp start after text left fault (record { goes = h; through = p }) k

@@ -1,10 +1,12 @@
 //! The head of a text.
 
-ghost use Rattle.std.specs.Prelude.{◌≡◌, ◌≢◌, ◌↔◌, ℕ, ◌≤◌, true, List, [], ◌∷◌, length, IfOk, IfErr, IfSome, IfNone, IsTrue};
+ghost use Rattle.std.specs.Prelude.{◌≡◌, ◌≢◌, ◌↔◌, ℕ, ◌≤◌, true, List, [], ◌∷◌, length, IfOk, IfErr, IfSome, IfNone, IsTrue, MatchResult};
 ghost use Rattle.book_base.specs.declared.TheConstants.{MAX_CALLERS};
 ghost use Rattle.seq_objects.specs.declared.kind.Kind.{Kind};
 ghost use Rattle.text_fields.specs.declared.version.Version.TheVariants.{First, Second};
+ghost use Rattle.book_base.specs.declared.fault.TextFault.{TextFault};
 ghost use Rattle.text_fields.specs.Version.{has_kind, most_callers};
+ghost use Rattle.text_fields.specs.Lines.{Unread, IsSolid};
 ghost use Rattle.text_fields.specs.Head.{TitleDue, ObjectDue, CallersDue, CountsDue, HeadRead, HeadGoes, IsHeadFault, IsHead, AreCallers, AreCalls, object_words, callers_words, calls_words};
 
 use crate::counts::{next_number, read_counts};
@@ -34,6 +36,15 @@ pub fn read_head(lines: &mut Lines, title: &[u8]) -> Result<Head, TextFault>
         AreCallers Second head.n × AreCalls Second head.n head.calls) }
     ensures refused { IfErr result (IsHeadFault Second title.now TitleDue lines.old) }
     ensures unchanged { IfErr result (λ _. lines.new ≡ lines.old) }
+    // A head with a title that is a word is read as that head, and leaves what stands behind it.
+    ensures only { (kind : Kind) (calls : List ℕ) (left : Unread) → IsSolid title.now
+        → IsHead Second title.now kind calls lines.old left
+        → MatchResult result (λ head.
+        (head.kind ≡ kind) × (head.calls ≡ calls) × (lines.new ≡ left)) (λ _. ⊥) }
+    // Where the head has a first fault, the answer is that fault.
+    ensures first { (fault : TextFault) → IsSolid title.now
+        → IsHeadFault Second title.now TitleDue lines.old fault
+        → MatchResult result (λ _. ⊥) (λ e. e ≡ fault) }
 {
     read_head_of(Version::Second, lines, title)
 }
@@ -47,6 +58,15 @@ pub fn read_head1(lines: &mut Lines, title: &[u8]) -> Result<Head, TextFault>
         AreCallers First head.n × AreCalls First head.n head.calls) }
     ensures refused { IfErr result (IsHeadFault First title.now TitleDue lines.old) }
     ensures unchanged { IfErr result (λ _. lines.new ≡ lines.old) }
+    // A head with a title that is a word is read as that head, and leaves what stands behind it.
+    ensures only { (kind : Kind) (calls : List ℕ) (left : Unread) → IsSolid title.now
+        → IsHead First title.now kind calls lines.old left
+        → MatchResult result (λ head.
+        (head.kind ≡ kind) × (head.calls ≡ calls) × (lines.new ≡ left)) (λ _. ⊥) }
+    // Where the head has a first fault, the answer is that fault.
+    ensures first { (fault : TextFault) → IsSolid title.now
+        → IsHeadFault First title.now TitleDue lines.old fault
+        → MatchResult result (λ _. ⊥) (λ e. e ≡ fault) }
 {
     read_head_of(Version::First, lines, title)
 }
@@ -59,6 +79,15 @@ pub fn read_head_of(version: Version, lines: &mut Lines, title: &[u8]) -> Result
         AreCallers version head.n × AreCalls version head.n head.calls) }
     ensures refused { IfErr result (IsHeadFault version title.now TitleDue lines.old) }
     ensures unchanged { IfErr result (λ _. lines.new ≡ lines.old) }
+    // A head with a title that is a word is read as that head, and leaves what stands behind it.
+    ensures only { (kind : Kind) (calls : List ℕ) (left : Unread) → IsSolid title.now
+        → IsHead version title.now kind calls lines.old left
+        → MatchResult result (λ head.
+        (head.kind ≡ kind) × (head.calls ≡ calls) × (lines.new ≡ left)) (λ _. ⊥) }
+    // Where the head has a first fault, the answer is that fault.
+    ensures first { (fault : TextFault) → IsSolid title.now
+        → IsHeadFault version title.now TitleDue lines.old fault
+        → MatchResult result (λ _. ⊥) (λ e. e ≡ fault) }
 {
     let mut ahead = lines.copy();
     let head = read_lines(version, &mut ahead, title)?;
