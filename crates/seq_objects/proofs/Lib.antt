@@ -16,3 +16,4 @@ pub mod Narrowing
 pub mod Lengths
 pub mod CountOnce
 pub mod LeastFirst
+pub mod HoldsLast

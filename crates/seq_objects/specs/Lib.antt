@@ -18,4 +18,5 @@ pub mod Readings
 pub mod Keys
 pub mod Counts
 pub mod PqueueReading
+pub mod RegisterReading
 pub mod Seen

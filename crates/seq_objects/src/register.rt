@@ -3,13 +3,21 @@ ghost use Rattle.book_base.specs.Foresight.{Leaves};
 ghost use Rattle.seq_objects.specs.declared.kind.Kind.TheVariants as kinds;
 ghost use Rattle.seq_objects.specs.Words.{is_known_word};
 ghost use Rattle.seq_objects.specs.Items.{length-one};
+ghost use Rattle.seq_objects.specs.RegisterReading.{held_in, register_reading};
+ghost use Rattle.value_pruning.specs.Sights.{ListsValues};
 ghost use Rattle.seq_objects.specs.RegisterSteps.{register_operation, register_after, length-register_after, register_after-unknown};
 
 use crate::entry::{READ, WRITE, argument_of};
 use crate::items::{first_or_zero, set_only};
 use crate::kind::Kind;
-use crate::reply::{DONE, value_reply};
-use book_base::{BAD, OpWord, SeqObject, State};
+use crate::reply::{DONE, shown_value, value_reply};
+use book_base::{BAD, Book, Cut, Marks, NoMemory, OpWord, SeqObject, Sight, State};
+use object_foresight::{Reader, Role};
+use std::alloc::Global;
+use value_pruning::{narrow_holds_last, sight_of_values};
+
+/// How many values there are.
+const VALUES: u64 = 1 << 32;
 
 /// A register, which is 0 at first.
 #[derive(Clone, Copy, Debug)]
@@ -37,12 +45,40 @@ impl RegisterOperation {
     }
 }
 
+/// The value that a register's list holds.
+fn held_in(words: &[u64]) -> u64
+    ensures { result ≡ held_in words.now }
+{
+    match words.first() {
+        Some(word) => *word % VALUES,
+        None => 0,
+    }
+}
+
+impl Reader for Register {
+    ghost reading = { λ _. register_reading };
+
+    fn role(&self, op: OpWord) -> Role {
+        match RegisterOperation::from_word(op) {
+            Some(RegisterOperation::Write(value)) => Role::Put(u64::from(value)),
+            Some(RegisterOperation::Read) => Role::Take,
+            None => Role::Other,
+        }
+    }
+
+    fn shown(&self, reply: u64) -> Option<u64> {
+        shown_value(reply)
+    }
+}
+
 impl SeqObject for Register {
     ghost is_known = { λ _. is_known_word kinds.Register };
 
     ghost init = { λ _. 0 ∷ [] };
 
     ghost next = { λ _ list op. register_after list (register_operation op) };
+
+    ghost sees = { λ _ book sight. ListsValues register_reading book sight };
 
     ghost begins_small = { λ _. length-one };
 
@@ -78,5 +114,21 @@ impl SeqObject for Register {
             Some(RegisterOperation::Read) => true,
             None => true,
         }
+    }
+
+    fn prepare(&self, alloc: Global, book: &Book) -> Result<Option<Sight>, NoMemory> {
+        Ok(Some(sight_of_values(alloc, self, book)?))
+    }
+
+    fn narrow(
+        &self,
+        sight: &Sight,
+        book: &Book,
+        cut: &Cut,
+        words: &[u64],
+        forced: u32,
+        marks: Marks,
+    ) -> Marks {
+        narrow_holds_last(self, sight, book, cut, held_in(words), forced, marks)
     }
 }

@@ -3,3 +3,4 @@ pub mod Taking
 pub mod Putting
 pub mod Listing
 pub mod Least
+pub mod Writing

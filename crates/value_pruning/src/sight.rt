@@ -1,4 +1,4 @@
-ghost use Rattle.std.specs.Prelude.{◌≡◌, ℕ, ◌+◌, ◌<◌, ◌≤◌, ◌==◌, ◌↔◌, if◌then◌else◌, Some, length, slice_index, IfOk, IfSome, IsTrue, OnOk};
+ghost use Rattle.std.specs.Prelude.{◌≡◌, [], ℕ, ◌+◌, ◌<◌, ◌≤◌, ◌==◌, ◌↔◌, if◌then◌else◌, Some, length, slice_index, IfOk, IfNone, IfSome, IsTrue, OnOk};
 ghost use Rattle.book_base.specs.Book.{IsCall, IsAnswered};
 ghost use Rattle.value_pruning.specs.Sights as sights;
 ghost use Rattle.value_pruning.specs.Sights.{place_of, HasItsPlaces, HasPlace, HasPut, HasTake, IsLeastListed, ListsRead, ListsValues};
@@ -118,6 +118,7 @@ fn set_place(sight: &mut Sight, label: u128, place: u64) -> Result<(), NoMemory>
 pub fn labelled_of(sight: &Sight, value: u64) -> Option<&Labelled>
     ensures puts { IfSome result (λ labelled. labelled.now.puts.items ≡ sights.puts_of sight.now value) }
     ensures shows { IfSome result (λ labelled. labelled.now.shows.items ≡ sights.shows_of sight.now value) }
+    ensures none { IfNone result ((sights.puts_of sight.now value ≡ []) × (sights.shows_of sight.now value ≡ [])) }
 {
     let place = sight.places.get(&u128::from(value))?;
     sight.labelled.get(*place as usize)

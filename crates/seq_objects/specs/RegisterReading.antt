@@ -1,0 +1,21 @@
+-- How a register is read: as puts and takes of the value that it holds. A take leaves the value.
+use Rattle.std.specs.Prelude.{ℕ, List, map, Option, Some, None}
+use Rattle.history_rules.specs.Container.{Deed, Puts, Takes, Neither, Reading}
+use Rattle.seq_objects.specs.declared.register.RegisterOperation.{RegisterOperation}
+use Rattle.seq_objects.specs.declared.register.RegisterOperation.TheVariants.{Write, Read}
+use Rattle.seq_objects.specs.Items.{first_or_zero}
+use Rattle.seq_objects.specs.RegisterSteps.{register_operation}
+use Rattle.seq_objects.specs.Readings.{value_of, shown_value}
+
+-- the value that a register's list holds
+abbrev pub held_in : List ℕ → ℕ
+held_in list = value_of (first_or_zero list)
+
+-- a write puts in, a read takes
+abbrev pub register_deed : Option RegisterOperation → Deed
+register_deed (Some (Write value)) = Puts value
+register_deed (Some Read) = Takes
+register_deed None = Neither
+
+abbrev pub register_reading : Reading
+register_reading = record { deed = λ word. register_deed (register_operation word); shown = shown_value; values = map value_of }

@@ -1,0 +1,169 @@
+ghost use Rattle.std.specs.Prelude.{◌≡◌, ◌↔◌, ◌⊎◌, ℕ, ◌<◌, List, length, IfSome, IsTrue};
+ghost use Rattle.book_base.specs.Book.{IsCall, IsAnswered};
+ghost use Rattle.book_base.specs.Next.{next_call};
+ghost use Rattle.book_base.specs.Pruning.{HasOneOpen, IsForced, IsMarked, IsMarkedWithin, MarksAllNext, MarksSuffice};
+ghost use Rattle.value_pruning.specs.Sights.{ListsValues};
+ghost use Rattle.value_pruning.specs.HoldsLast.{HoldsLast, IsKept, IsNeedless, IsRead, IsUnreadWrite, IsWritten, WritesAnother, WritesUnread};
+
+use crate::outside::{is_read, is_written};
+use crate::values::value_put;
+use book_base::{Book, Call, Cut, Marks, Sight};
+use object_foresight::Reader;
+
+/// Which of the calls that may come next a search has to try, of a register that holds a value. One answered
+/// write alone, where no call outside the cut reads its value or the one held; and else no write over a value
+/// that is still read and no longer written, and no unanswered write of what isn't read.
+pub fn narrow_holds_last<R: Reader>(
+    reader: &R,
+    sight: &Sight,
+    book: &Book,
+    cut: &Cut,
+    held: u64,
+    forced: u32,
+    marks: Marks,
+) -> Marks
+    requires sight { ListsValues (R.reading reader.now) book.now sight.now }
+    requires open { HasOneOpen book.now }
+    requires wide { length cut.now ≡ length book.now }
+    requires forced { IsForced book.now cut.now forced }
+    requires marks { MarksAllNext book.now cut.now marks }
+    ensures fewer { IsMarkedWithin result marks }
+    ensures suffice { (held_in : List ℕ → ℕ) (next : List ℕ → ℕ → List ℕ × ℕ) (list : List ℕ) → HoldsLast (R.reading reader.now) held_in next
+        → held_in list ≡ held → MarksSuffice book.now next cut.now list result }
+{
+    let _callers = book.callers();
+    match unread_write(reader, sight, book, cut, held, marks) {
+        Some(caller) => Marks::only(caller),
+        None => without_needless(reader, sight, book, cut, held, marks),
+    }
+}
+
+// A marked caller whose next call is answered and writes what no call outside reads, where none reads the
+// value held either.
+fn unread_write<R: Reader>(
+    reader: &R,
+    sight: &Sight,
+    book: &Book,
+    cut: &Cut,
+    held: u64,
+    marks: Marks,
+) -> Option<u32>
+    requires sight { ListsValues (R.reading reader.now) book.now sight.now }
+    requires wide { length cut.now ≡ length book.now }
+    requires marks { MarksAllNext book.now cut.now marks }
+    ensures caller { IfSome result (λ i. i < length book.now) }
+    ensures marked { IfSome result (IsMarked marks) }
+    ensures write { IfSome result (WritesUnread (R.reading reader.now) book.now cut.now held) }
+{
+    if is_read(reader, sight, book, cut, held) {
+        return None;
+    }
+    for caller in 0..book.callers() {
+        if marks.has(caller) && writes_unread(reader, sight, book, cut, caller) {
+            return Some(caller);
+        }
+    }
+    None
+}
+
+// Whether a caller's next call is answered and writes what no call outside reads.
+fn writes_unread<R: Reader>(reader: &R, sight: &Sight, book: &Book, cut: &Cut, caller: u32) -> bool
+    requires sight { ListsValues (R.reading reader.now) book.now sight.now }
+    requires wide { length cut.now ≡ length book.now }
+    requires caller { caller < length book.now }
+    requires call { IsCall book.now (next_call cut.now caller) }
+    ensures { IsTrue result → IsUnreadWrite (R.reading reader.now) book.now cut.now (next_call cut.now caller) × IsAnswered book.now (next_call cut.now caller) }
+{
+    let number = cut.get(caller);
+    if number >= book.answers(caller) {
+        return false;
+    }
+    is_unread_write(reader, sight, book, cut, Call { caller, number })
+}
+
+// The marked callers but those whose next calls needn't be tried.
+fn without_needless<R: Reader>(
+    reader: &R,
+    sight: &Sight,
+    book: &Book,
+    cut: &Cut,
+    held: u64,
+    marks: Marks,
+) -> Marks
+    requires sight { ListsValues (R.reading reader.now) book.now sight.now }
+    requires wide { length cut.now ≡ length book.now }
+    requires marks { MarksAllNext book.now cut.now marks }
+    ensures fewer { IsMarkedWithin result marks }
+    ensures needless { (i : ℕ) → IsMarked marks i → IsMarked result i ⊎ IsNeedless (R.reading reader.now) book.now cut.now held i }
+{
+    let kept = is_kept(reader, sight, book, cut, held);
+    let mut left = marks;
+    for caller in 0..book.callers() {
+        if marks.has(caller) && is_needless(reader, sight, book, cut, held, kept, caller) {
+            left = left.without(caller);
+        }
+    }
+    left
+}
+
+// Whether a caller's next call writes over a value that is kept, or is unanswered and writes what no call
+// outside reads.
+fn is_needless<R: Reader>(
+    reader: &R,
+    sight: &Sight,
+    book: &Book,
+    cut: &Cut,
+    held: u64,
+    kept: bool,
+    caller: u32,
+) -> bool
+    requires sight { ListsValues (R.reading reader.now) book.now sight.now }
+    requires wide { length cut.now ≡ length book.now }
+    requires kept { IsTrue kept → IsKept (R.reading reader.now) book.now cut.now held }
+    requires caller { caller < length book.now }
+    requires call { IsCall book.now (next_call cut.now caller) }
+    ensures { IsTrue result → IsNeedless (R.reading reader.now) book.now cut.now held caller }
+{
+    let number = cut.get(caller);
+    let call = Call { caller, number };
+    if kept && writes_another(reader, book, call, held) {
+        return true;
+    }
+    if number < book.answers(caller) {
+        return false;
+    }
+    is_unread_write(reader, sight, book, cut, call)
+}
+
+// Whether a call writes another value than this one.
+fn writes_another<R: Reader>(reader: &R, book: &Book, call: Call, held: u64) -> bool
+    requires { IsCall book.now call }
+    ensures { IsTrue result → WritesAnother (R.reading reader.now) book.now call held }
+{
+    match value_put(reader, book, call) {
+        Some(value) => value != held,
+        None => false,
+    }
+}
+
+// Whether a call writes what no answered call outside a cut reads.
+fn is_unread_write<R: Reader>(reader: &R, sight: &Sight, book: &Book, cut: &Cut, call: Call) -> bool
+    requires sight { ListsValues (R.reading reader.now) book.now sight.now }
+    requires wide { length cut.now ≡ length book.now }
+    requires call { IsCall book.now call }
+    ensures { IsTrue result → IsUnreadWrite (R.reading reader.now) book.now cut.now call }
+{
+    match value_put(reader, book, call) {
+        Some(value) => !is_read(reader, sight, book, cut, value),
+        None => false,
+    }
+}
+
+// Whether a value is read by a call outside a cut, and written by none.
+fn is_kept<R: Reader>(reader: &R, sight: &Sight, book: &Book, cut: &Cut, value: u64) -> bool
+    requires sight { ListsValues (R.reading reader.now) book.now sight.now }
+    requires wide { length cut.now ≡ length book.now }
+    ensures { IsTrue result ↔ IsKept (R.reading reader.now) book.now cut.now value }
+{
+    is_read(reader, sight, book, cut, value) && !is_written(reader, sight, book, cut, value)
+}
