@@ -77,6 +77,10 @@ worked_book = page (5 ∷ 7 ∷ []) (first ∷ []) ∷ page (6 ∷ []) (second �
 abbrev pub seen_by_second : List ℕ → List (List Line)
 seen_by_second cut = (delivered 5 first (1 ∷ 0 ∷ 0 ∷ []) ∷ pending 7 ∷ []) ∷ (delivered 6 second cut ∷ []) ∷ (unchecked 8 third ∷ []) ∷ []
 
+-- Its line as an error, with another seen cut.
+abbrev pub failed_by_second : List ℕ → List (List Line)
+failed_by_second cut = (delivered 5 first (1 ∷ 0 ∷ 0 ∷ []) ∷ pending 7 ∷ []) ∷ (failed 6 second cut ∷ []) ∷ (unchecked 8 third ∷ []) ∷ []
+
 -- Three delivered lines of two callers, of which the one in the middle saw most; and an error line that saw still more.
 abbrev pub three_delivered : List (List Line)
 three_delivered =

@@ -7,7 +7,7 @@ ghost use Rattle.call_lines.specs.Phases.{begun, asked, answered, published_by, 
 ghost use Rattle.call_lines.specs.Progress.{after_announcing, after_stepping, after_viewing, after_publishing, after_seeing};
 ghost use Rattle.call_lines.specs.Allotments.{phases_for, turns_of, allotments_of, allotments_by_turns, phases_of, KeepsTo, published_in};
 ghost use Rattle.call_lines.specs.Lawful.{IsAllotted, AreSeen, delivered_cuts, delivered_cut};
-ghost use Rattle.call_lines.specs.Cases.{call, answer, pending, unchecked, delivered, failed, worked_operations, worked_stops, first, second, third, worked_lines, made, recorded, judged, worked_calls, page, worked_book, seen_by_second, three_delivered, progress, object_step, stepped};
+ghost use Rattle.call_lines.specs.Cases.{call, answer, pending, unchecked, delivered, failed, worked_operations, worked_stops, first, second, third, worked_lines, made, recorded, judged, worked_calls, page, worked_book, seen_by_second, failed_by_second, three_delivered, progress, object_step, stepped};
 ghost use Rattle.world_core.specs.Local.{fresh};
 ghost use Rattle.world_core.specs.CallSteps.{operation_now, steps_now, all_steps_of};
 ghost use Rattle.world_core.specs.Event.{Announce, Object, local_after};
@@ -140,6 +140,17 @@ pub fn seen_cuts_fit()
     ensures lacks_its_own { ¬ AreSeen (1 ∷ 1 ∷ 0 ∷ []) (seen_by_second (1 ∷ 0 ∷ 0 ∷ [])) }
     ensures own_later_one { ¬ AreSeen (1 ∷ 2 ∷ 0 ∷ []) (seen_by_second (1 ∷ 2 ∷ 0 ∷ [])) }
     ensures crossing { ¬ AreSeen (1 ∷ 1 ∷ 1 ∷ []) (seen_by_second (0 ∷ 1 ∷ 0 ∷ [])) }
+{}
+
+/// The seen cut of an error line fits as a delivered line's does: others don't, which hold a record that wasn't
+/// published, are narrow, lack their own line, hold an own line more, or aren't comparable.
+pub fn seen_cuts_of_errors_fit()
+    ensures unpublished { ¬ AreSeen (published_in (6 ∷ 10 ∷ 3 ∷ []) (failed_by_second (1 ∷ 1 ∷ 1 ∷ []))) (failed_by_second (1 ∷ 1 ∷ 1 ∷ [])) }
+    ensures published { AreSeen (published_in (6 ∷ 10 ∷ 4 ∷ []) (failed_by_second (1 ∷ 1 ∷ 1 ∷ []))) (failed_by_second (1 ∷ 1 ∷ 1 ∷ [])) }
+    ensures narrow { ¬ AreSeen (1 ∷ 1 ∷ 0 ∷ []) (failed_by_second (1 ∷ 1 ∷ [])) }
+    ensures lacks_its_own { ¬ AreSeen (1 ∷ 1 ∷ 0 ∷ []) (failed_by_second (1 ∷ 0 ∷ 0 ∷ [])) }
+    ensures own_later_one { ¬ AreSeen (1 ∷ 2 ∷ 0 ∷ []) (failed_by_second (1 ∷ 2 ∷ 0 ∷ [])) }
+    ensures crossing { ¬ AreSeen (1 ∷ 1 ∷ 1 ∷ []) (failed_by_second (0 ∷ 1 ∷ 0 ∷ [])) }
 {}
 
 /// The greatest seen cut of a delivered line: whichever line saw it, and no error line's.
