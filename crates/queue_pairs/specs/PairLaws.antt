@@ -1,0 +1,12 @@
+-- Pairs and legal orders.
+use Rattle.std.specs.Prelude.{◌≡◌, ℕ, [], List}
+use Rattle.book_base.specs.Book.{Page, IsValid}
+use Rattle.book_base.specs.Order.{HasLegalOrder}
+use Rattle.book_base.specs.Pruning.{HasOneOpen}
+use Rattle.history_rules.specs.Container.{Reading, IsQueue}
+use Rattle.queue_pairs.specs.Pairs.{HasPairs}
+
+-- A queue's book with one open that has a legal order has pairs.
+abbrev pub LegalOrdersHavePairs : Type 0
+LegalOrdersHavePairs = (reading : Reading) (init : List ℕ) (next : List ℕ → ℕ → List ℕ × ℕ) (book : List Page) → IsQueue reading next → reading.values init ≡ []
+    → IsValid book → HasOneOpen book → HasLegalOrder init next book → HasPairs reading book

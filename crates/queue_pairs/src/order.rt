@@ -1,0 +1,118 @@
+ghost use Rattle.std.specs.Prelude.{◌↔◌, IsTrue};
+ghost use Rattle.book_base.specs.Book.{IsCall};
+
+use crate::table::{Deal, Table, TimedCall};
+use crate::walk::{Choice, Step, Walk};
+use book_base::{Book, Call, MAX_CALLERS, MAX_CALLS, NoMemory, Place, SeqObject, State};
+use std::alloc::Global;
+
+// Room for as many words as a book has calls, and one more.
+const ROOM: u64 = MAX_CALLERS as u64 * MAX_CALLS + 1;
+
+/// A call, and the moment at which it takes effect.
+#[derive(Clone, Copy)]
+struct Event {
+    moment: u64,
+    call: Call,
+}
+
+/// The calls of a walk's pairs, and all other answered calls, in the order of their moments: at one moment as they
+/// stand in the walk, and the puts that nobody takes last.
+pub fn calls_in_order(alloc: Global, table: &Table, walk: &Walk) -> Result<Vec<Call>, NoMemory> {
+    let mut events = Vec::new(alloc);
+    for level in &walk.levels {
+        add_step(table, level.choice, &mut events)?;
+    }
+    for caller in 0..MAX_CALLERS {
+        if let Some(row) = table.rows.get(caller) {
+            for timed in row {
+                if let Some(moment) = left_moment(walk, caller, *timed) {
+                    events.push(Event {
+                        moment,
+                        call: timed.call,
+                    })?;
+                }
+            }
+        }
+    }
+    events.sort_by_key(|event| event.moment)?;
+    let mut order = Vec::with_capacity(alloc, events.len())?;
+    for event in &events {
+        order.push(event.call)?;
+    }
+    Ok(order)
+}
+
+// Adds the calls of a step.
+fn add_step(table: &Table, choice: Choice, events: &mut Vec<Event>) -> Result<(), NoMemory> {
+    match choice.step {
+        Step::Pair(put, take) => {
+            events.push(Event {
+                moment: choice.to.put_moment,
+                call: put.call,
+            })?;
+            events.push(Event {
+                moment: choice.to.take_moment,
+                call: take.call,
+            })?;
+        }
+        Step::Finds(after, upto) => {
+            for find in &table.finds {
+                if find.span.first > after && find.span.first <= upto {
+                    events.push(Event {
+                        moment: upto,
+                        call: find.call,
+                    })?;
+                }
+            }
+        }
+    }
+    Ok(())
+}
+
+// The moment of an answered call that is in no step of a walk, if it is none: a put that nobody takes, or neither a put
+// nor a take.
+fn left_moment(walk: &Walk, caller: usize, timed: TimedCall) -> Option<u64> {
+    if caller >= MAX_CALLERS || !timed.is_answered() {
+        return None;
+    }
+    match timed.deal {
+        Deal::Put(_) if timed.call.number >= walk.here.puts[caller] as u64 => {
+            Some(timed.span.first.max(walk.here.put_moment))
+        }
+        Deal::Other => Some(timed.span.first),
+        _ => None,
+    }
+}
+
+/// The places of calls in an order, each with the reply that the object gives there; there are none where a call
+/// isn't the book's.
+pub fn places_of<S: SeqObject>(
+    alloc: Global,
+    object: &S,
+    book: &Book,
+    calls: &[Call],
+) -> Result<Option<Vec<Place>>, NoMemory> {
+    let mut state = State::with_room(alloc, ROOM)?;
+    object.reset(&mut state);
+    let mut places = Vec::with_capacity(alloc, calls.len())?;
+    for call in calls {
+        if !is_call(book, *call) || state.len() >= state.room() {
+            return Ok(None);
+        }
+        let reply = object.step(&mut state, book.op(*call));
+        places.push(Place {
+            caller: call.caller,
+            number: call.number,
+            reply,
+        })?;
+    }
+    Ok(Some(places))
+}
+
+// Whether a call is one of the book's.
+fn is_call(book: &Book, call: Call) -> bool
+    ensures { IsTrue result ↔ IsCall book.now call }
+{
+    call.caller < book.callers() && call.number < book.calls(call.caller)
+}

@@ -1,0 +1,46 @@
+use crate::table::{Deal, Table};
+use book_base::NoMemory;
+use std::alloc::Global;
+use std::collections::BTreeMap;
+
+/// How many more puts than answered takes there are of each value: as many may be taken by unanswered takes.
+#[derive(Drop)]
+pub struct Surplus {
+    by_value: BTreeMap<u64, usize>,
+}
+
+impl Surplus {
+    /// The surplus of each value of a book.
+    pub fn of(alloc: Global, table: &Table) -> Result<Surplus, NoMemory> {
+        let mut surplus = Surplus {
+            by_value: BTreeMap::new(alloc),
+        };
+        for row in &table.rows {
+            for timed in row {
+                if let Deal::Put(value) = timed.deal
+                    && timed.is_held()
+                {
+                    let more = surplus.of_value(value).saturating_add(1);
+                    surplus.by_value.insert(value, more)?;
+                }
+            }
+        }
+        for row in &table.rows {
+            for timed in row {
+                if let Deal::Took(value) = timed.deal {
+                    let less = surplus.of_value(value).saturating_sub(1);
+                    surplus.by_value.insert(value, less)?;
+                }
+            }
+        }
+        Ok(surplus)
+    }
+
+    /// The surplus of a value.
+    pub fn of_value(&self, value: u64) -> usize {
+        match self.by_value.get(&value) {
+            Some(more) => *more,
+            None => 0,
+        }
+    }
+}

@@ -1,0 +1,95 @@
+use crate::standing::Standing;
+use crate::table::TimedCall;
+use book_base::NoMemory;
+use indexmap::IndexSet;
+use std::alloc::Global;
+use std::mem;
+
+/// What is put next in a search of pairs.
+#[derive(Clone, Copy)]
+pub enum Step {
+    /// A put, and the take that takes its value out.
+    Pair(TimedCall, TimedCall),
+    /// The takes that find nothing and whose first moments lie after one moment, and not after another one.
+    Finds(u64, u64),
+}
+
+/// A step that may be tried, where it leads, and its turn: the least is tried first.
+#[derive(Clone, Copy)]
+pub struct Choice {
+    pub turn: u64,
+    pub step: Step,
+    pub to: Standing,
+}
+
+/// A standing on the way to where a walk stands: the step that was put next there, and what is still to be
+/// tried there besides it.
+#[derive(Drop)]
+pub struct Level {
+    pub from: Standing,
+    pub choice: Choice,
+    pub choices: Vec<Choice>,
+}
+
+/// Where a walk stands: the levels that lead there, its standing, what is still to be tried there with the
+/// best choice last, the values that unanswered takes took on the way, and all standings that were entered.
+#[derive(Drop)]
+pub struct Walk {
+    pub levels: Vec<Level>,
+    pub here: Standing,
+    pub choices: Vec<Choice>,
+    pub spent: Vec<u64>,
+    pub entered: IndexSet<Standing>,
+}
+
+impl Walk {
+    /// A walk that stands at the start.
+    pub fn new(alloc: Global) -> Walk {
+        Walk {
+            levels: Vec::new(alloc),
+            here: Standing::start(),
+            choices: Vec::new(alloc),
+            spent: Vec::new(alloc),
+            entered: IndexSet::new(alloc),
+        }
+    }
+
+    /// Goes on by a choice, to where these may be tried.
+    pub fn enter(&mut self, choice: Choice, choices: Vec<Choice>) -> Result<(), NoMemory> {
+        let level = Level {
+            from: self.here,
+            choice,
+            choices: mem::replace(&mut self.choices, choices),
+        };
+        self.here = choice.to;
+        self.levels.push(level)?;
+        Ok(())
+    }
+
+    /// Goes back by a step, if there is one.
+    pub fn retreat(&mut self) -> bool {
+        match self.levels.pop() {
+            Some(level) => {
+                let Level {
+                    from,
+                    choice,
+                    choices,
+                } = level;
+                if let Step::Pair(_, take) = choice.step
+                    && !take.is_answered()
+                {
+                    let _value = self.spent.pop();
+                }
+                self.here = from;
+                self.choices = choices;
+                true
+            }
+            None => false,
+        }
+    }
+
+    /// How often unanswered takes took a value on the way.
+    pub fn times_spent(&self, value: u64) -> usize {
+        self.spent.iter().filter(|spent| **spent == value).count()
+    }
+}
