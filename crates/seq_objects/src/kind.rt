@@ -17,7 +17,7 @@ use crate::queue::Queue;
 use crate::register::Register;
 use crate::stack::Stack;
 use crate::whole::{put_whole, whole};
-use book_base::{Book, Cut, Foresight, Marks, NoMemory, OpWord, SeqObject, Sight, State};
+use book_base::{Book, Cut, Decision, Foresight, Marks, NoMemory, OpWord, SeqObject, Sight, State};
 use std::alloc::Global;
 
 /// A kind of sequential object.
@@ -203,6 +203,19 @@ impl SeqObject for Kind {
             Kind::Pqueue => Pqueue.leaves(op, reply),
             Kind::CasRegister => CasRegister.leaves(op, reply),
             Kind::Map => Map.leaves(op, reply),
+        }
+    }
+
+    fn decide(&self, alloc: Global, book: &Book) -> Result<Decision, NoMemory> {
+        match self {
+            Kind::Queue => Queue.decide(alloc, book),
+            Kind::Stack
+            | Kind::Register
+            | Kind::Counter
+            | Kind::IntSet
+            | Kind::Pqueue
+            | Kind::CasRegister
+            | Kind::Map => Ok(Decision::Unsaid),
         }
     }
 

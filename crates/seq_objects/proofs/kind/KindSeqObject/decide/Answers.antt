@@ -1,0 +1,8 @@
+use Rattle.std.proofs.Common.{IfOk, sym, subst}
+use Rattle.book_base.specs.Decision.{IsRightDecision}
+use Rattle.seq_objects.specs.Objects.{kind_init, kind_next}
+use Rattle.seq_objects.proofs.kind.KindSeqObject.decide.Goals as goal
+
+pub returns-in-Queue : goal.returns-in-Queue
+unfolding kind_next
+returns-in-Queue c = subst (λ kind. IfOk c.decide.result (IsRightDecision (kind_init kind) (kind_next kind) c.args.book.now)) (sym c.in-Queue.is) c.decide.ensures
