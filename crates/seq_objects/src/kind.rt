@@ -18,6 +18,7 @@ use crate::register::Register;
 use crate::stack::Stack;
 use crate::whole::{put_whole, whole};
 use book_base::{Book, Cut, Decision, Foresight, Marks, NoMemory, OpWord, SeqObject, Sight, State};
+use queue_pairs::decide_queue;
 use std::alloc::Global;
 
 /// A kind of sequential object.
@@ -206,9 +207,10 @@ impl SeqObject for Kind {
         }
     }
 
+    /// What is said of a whole book without a search: of a queue's by pairs of puts and takes.
     fn decide(&self, alloc: Global, book: &Book) -> Result<Decision, NoMemory> {
         match self {
-            Kind::Queue => Queue.decide(alloc, book),
+            Kind::Queue => decide_queue(alloc, &Queue, book),
             Kind::Stack
             | Kind::Register
             | Kind::Counter

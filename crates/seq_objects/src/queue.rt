@@ -10,9 +10,8 @@ use crate::entry::{DEQ, ENQ, argument_of};
 use crate::items::take_first;
 use crate::kind::Kind;
 use crate::reply::{DONE, is_value, shown_value};
-use book_base::{BAD, Book, Decision, Foresight, NoMemory, OpWord, SeqObject, State};
+use book_base::{BAD, Book, Foresight, NoMemory, OpWord, SeqObject, State};
 use object_foresight::{Reader, Role, foresee_queue};
-use queue_pairs::decide_queue;
 use std::alloc::Global;
 
 /// A first-in first-out queue.
@@ -91,10 +90,6 @@ impl SeqObject for Queue {
 
     fn foresee(&self, alloc: Global, book: &Book) -> Result<Foresight, NoMemory> {
         foresee_queue(alloc, self, book)
-    }
-
-    fn decide(&self, alloc: Global, book: &Book) -> Result<Decision, NoMemory> {
-        decide_queue(alloc, self, book)
     }
 
     fn leaves(&self, op: OpWord, reply: u64) -> bool

@@ -5,4 +5,4 @@ use Rattle.seq_objects.proofs.kind.KindSeqObject.decide.Goals as goal
 
 pub returns-in-Queue : goal.returns-in-Queue
 unfolding kind_next
-returns-in-Queue c = subst (λ kind. IfOk c.decide.result (IsRightDecision (kind_init kind) (kind_next kind) c.args.book.now)) (sym c.in-Queue.is) c.decide.ensures
+returns-in-Queue c = subst (λ kind. IfOk c.decide_queue.result (IsRightDecision (kind_init kind) (kind_next kind) c.args.book.now)) (sym c.in-Queue.is) c.decide_queue.ensures
