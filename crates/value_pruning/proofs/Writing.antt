@@ -1,4 +1,4 @@
--- A register's writes: what no call reads may stand at once or be left out, and what is kept isn't written over.
+-- A register's writes: what no call reads may stand at once or be left out, and what is irreplaceable isn't written over.
 use Rattle.std.proofs.Common.{◌≡◌, ◌≢◌, ℕ, zero, suc, ◌+◌, ◌<◌, ◌≤◌, ◌⊎◌, ◌∙◌, ◌↔◌, Bool, true, false, IsTrue, List, [], ◌∷◌, length, get_or, Some, unwrap_or, refl, sym, ap, subst, inl, inr, length-set, arith}
 use Rattle.std.proofs.lemmas.Bool.{cases_eq}
 use Rattle.std.proofs.lemmas.Option.{same_Some, slice_get_within}
@@ -145,12 +145,12 @@ unread_write_suffices reading held next is book cut list caller marks wide may w
     (place, on.0.0, marked, (stands, on.0.1), omega (arith, on.0.2))
 
 -- What is read may not be written over where no call outside writes it.
-kept_is_held : (reading : Reading) (held : List ℕ → ℕ) (next : List ℕ → ℕ → List ℕ × ℕ) → HoldsLast reading held next → (book : List Page) (v : ℕ) (read : Call)
+irreplaceable_is_held : (reading : Reading) (held : List ℕ → ℕ) (next : List ℕ → ℕ → List ℕ × ℕ) → HoldsLast reading held next → (book : List Page) (v : ℕ) (read : Call)
     → TakesOut reading book read v → (rest : List Place) (cut list : List ℕ) → length book ≤ length cut → get_or cut read.caller 0 ≤ read.number
     → (IsWritten reading book cut v → ⊥) → held list ≢ v → Continues book next cut list rest → ⊥
-kept_is_held reading held next is book v read reads [] cut list wide out unwritten other goes =
+irreplaceable_is_held reading held next is book v read reads [] cut list wide out unwritten other goes =
     let in_cut : read.number < get_or cut read.caller 0 = goes read (slice_get_within _ read.number reads.1 reads.3) in omega (arith, in_cut, out)
-kept_is_held reading held next is book v read reads (place ∷ rest) cut list wide out unwritten other goes =
+irreplaceable_is_held reading held next is book v read reads (place ∷ rest) cut list wide out unwritten other goes =
     let there : place.caller < length cut = within_cut book cut (call_at place) wide goes.0.may_come.is_call in
     let wider : length book ≤ length (raised cut place.caller) = omega (arith, wide, length-set cut place.caller (get_or cut place.caller 0 + 1)) in
     let op : ℕ = word_at book place in
@@ -173,7 +173,7 @@ kept_is_held reading held next is book v read reads (place ∷ rest) cut list wi
             absurd (other (same_Some (held list) v (sym (is.shows list op (ap reading.deed word ∙ reads.4)) ∙ shown)))
       ]
     ] in
-    kept_is_held reading held next is book v read reads rest (raised cut place.caller) (next list op).0 wider later
+    irreplaceable_is_held reading held next is book v read reads rest (raised cut place.caller) (next list op).0 wider later
     (unwritten_later reading book cut v place.caller there unwritten) still goes.1
 
 -- An order that goes on by a call that needn't be tried goes on by fewer places.
@@ -187,24 +187,24 @@ needless_is_left_out reading held next is book cut list place rest wide one need
     let call : call_at place ≡ next_call cut place.caller = same_call (call_at place) (next_call cut place.caller) refl goes.0.may_come.next in
     elim needless [
       | inl over ↦
-          let kept = over.0 in
+          let irreplaceable = over.0 in
           let writes = over.1 in
           let word : op ≡ writes.1.0 = word_is book place writes.1.0 (ap (operation_of book) call ∙ writes.1.1) in
           let holds : held (next list op).0 ≡ writes.0 = is.write list op writes.0 (ap reading.deed word ∙ writes.1.2) in
-          let read : Call = kept.0.0 in
+          let read : Call = irreplaceable.0.0 in
           let apart : (read ≡ call_at place) → ⊥ = λ (e : read ≡ call_at place).
-          let words : kept.0.1.0.0 ≡ writes.1.0 = same_Some kept.0.1.0.0 writes.1.0 (sym kept.0.1.0.2 ∙ (ap (operation_of book) (e ∙ call) ∙ writes.1.1)) in
-          let both : Takes ≡ Puts writes.0 = sym kept.0.1.0.4 ∙ (ap reading.deed words ∙ writes.1.2) in cc in
+          let words : irreplaceable.0.1.0.0 ≡ writes.1.0 = same_Some irreplaceable.0.1.0.0 writes.1.0 (sym irreplaceable.0.1.0.2 ∙ (ap (operation_of book) (e ∙ call) ∙ writes.1.1)) in
+          let both : Takes ≡ Puts writes.0 = sym irreplaceable.0.1.0.4 ∙ (ap reading.deed words ∙ writes.1.2) in cc in
           let later : get_or (raised cut place.caller) read.caller 0 ≤ read.number = elim (cases_eq read.caller place.caller) [
-            | inr other ↦ omega (arith, kept.0.1.1, raised_other cut place.caller read.caller other)
+            | inr other ↦ omega (arith, irreplaceable.0.1.1, raised_other cut place.caller read.caller other)
             | inl same ↦ elim (cases_eq read.number place.number) [
               | inl here ↦ absurd (apart (same_call read (call_at place) same here))
               | inr further ↦
-                  omega (arith, kept.0.1.1, further, goes.0.may_come.next, raised_same cut place.caller inside, ap (λ (i : ℕ). get_or (raised cut place.caller) i 0) same, ap (λ (i : ℕ). get_or cut i 0) same)
+                  omega (arith, irreplaceable.0.1.1, further, goes.0.may_come.next, raised_same cut place.caller inside, ap (λ (i : ℕ). get_or (raised cut place.caller) i 0) same, ap (λ (i : ℕ). get_or cut i 0) same)
             ]
           ] in
-          absurd (kept_is_held reading held next is book (held list) read kept.0.1.0 rest (raised cut place.caller) (next list op).0 wider later
-          (unwritten_later reading book cut (held list) place.caller inside kept.1) (λ (e : held (next list op).0 ≡ held list). writes.2 (sym holds ∙ e)) goes.1)
+          absurd (irreplaceable_is_held reading held next is book (held list) read irreplaceable.0.1.0 rest (raised cut place.caller) (next list op).0 wider later
+          (unwritten_later reading book cut (held list) place.caller inside irreplaceable.1) (λ (e : held (next list op).0 ≡ held list). writes.2 (sym holds ∙ e)) goes.1)
       | inr idle ↦
           let writes = idle.1 in
           let word : op ≡ writes.1.0 = word_is book place writes.1.0 (ap (operation_of book) call ∙ writes.1.1) in

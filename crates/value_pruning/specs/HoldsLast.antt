@@ -30,8 +30,8 @@ abbrev pub IsWritten : Reading → List Page → List ℕ → ℕ → Type 0
 IsWritten reading book cut v = (call : Call) × WritesOutside reading book cut v call
 
 -- The value held is read by a call outside a cut, and written by none: it may not be lost yet.
-abbrev pub IsKept : Reading → List Page → List ℕ → ℕ → Type 0
-IsKept reading book cut held = IsRead reading book cut held × (IsWritten reading book cut held → ⊥)
+abbrev pub IsIrreplaceable : Reading → List Page → List ℕ → ℕ → Type 0
+IsIrreplaceable reading book cut held = IsRead reading book cut held × (IsWritten reading book cut held → ⊥)
 
 -- a call writes what no answered call outside a cut reads
 abbrev pub IsUnreadWrite : Reading → List Page → List ℕ → Call → Type 0
@@ -51,5 +51,5 @@ pub record WritesUnread (reading : Reading) (book : List Page) (cut : List ℕ) 
 -- call outside reads.
 abbrev pub IsNeedless : Reading → List Page → List ℕ → ℕ → ℕ → Type 0
 IsNeedless reading book cut held caller =
-    (IsKept reading book cut held × WritesAnother reading book (next_call cut caller) held)
+    (IsIrreplaceable reading book cut held × WritesAnother reading book (next_call cut caller) held)
     ⊎ ((IsAnswered book (next_call cut caller) → ⊥) × IsUnreadWrite reading book cut (next_call cut caller))

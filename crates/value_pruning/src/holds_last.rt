@@ -3,7 +3,7 @@ ghost use Rattle.book_base.specs.Book.{IsCall, IsAnswered};
 ghost use Rattle.book_base.specs.Next.{next_call};
 ghost use Rattle.book_base.specs.Pruning.{HasOneOpen, IsForced, IsMarked, IsMarkedWithin, MarksAllNext, MarksSuffice};
 ghost use Rattle.value_pruning.specs.Sights.{ListsValues};
-ghost use Rattle.value_pruning.specs.HoldsLast.{HoldsLast, IsKept, IsNeedless, IsRead, IsUnreadWrite, IsWritten, WritesAnother, WritesUnread};
+ghost use Rattle.value_pruning.specs.HoldsLast.{HoldsLast, IsIrreplaceable, IsNeedless, IsRead, IsUnreadWrite, IsWritten, WritesAnother, WritesUnread};
 
 use crate::outside::{is_read, is_written};
 use crate::values::value_put;
@@ -96,37 +96,37 @@ fn without_needless<R: Reader>(
     ensures fewer { IsMarkedWithin result marks }
     ensures needless { (i : ℕ) → IsMarked marks i → IsMarked result i ⊎ IsNeedless (R.reading reader.now) book.now cut.now held i }
 {
-    let kept = is_kept(reader, sight, book, cut, held);
+    let irreplaceable = is_irreplaceable(reader, sight, book, cut, held);
     let mut left = marks;
     for caller in 0..book.callers() {
-        if marks.has(caller) && is_needless(reader, sight, book, cut, held, kept, caller) {
+        if marks.has(caller) && is_needless(reader, sight, book, cut, held, irreplaceable, caller) {
             left = left.without(caller);
         }
     }
     left
 }
 
-// Whether a caller's next call writes over a value that is kept, or is unanswered and writes what no call
-// outside reads.
+// Whether a caller's next call writes over a value that is irreplaceable, or is unanswered and writes what
+// no call outside reads.
 fn is_needless<R: Reader>(
     reader: &R,
     sight: &Sight,
     book: &Book,
     cut: &Cut,
     held: u64,
-    kept: bool,
+    irreplaceable: bool,
     caller: u32,
 ) -> bool
     requires sight { ListsValues (R.reading reader.now) book.now sight.now }
     requires wide { length cut.now ≡ length book.now }
-    requires kept { IsTrue kept → IsKept (R.reading reader.now) book.now cut.now held }
+    requires irreplaceable { IsTrue irreplaceable → IsIrreplaceable (R.reading reader.now) book.now cut.now held }
     requires caller { caller < length book.now }
     requires call { IsCall book.now (next_call cut.now caller) }
     ensures { IsTrue result → IsNeedless (R.reading reader.now) book.now cut.now held caller }
 {
     let number = cut.get(caller);
     let call = Call { caller, number };
-    if kept && writes_another(reader, book, call, held) {
+    if irreplaceable && writes_another(reader, book, call, held) {
         return true;
     }
     if number < book.answers(caller) {
@@ -160,10 +160,16 @@ fn is_unread_write<R: Reader>(reader: &R, sight: &Sight, book: &Book, cut: &Cut,
 }
 
 // Whether a value is read by a call outside a cut, and written by none.
-fn is_kept<R: Reader>(reader: &R, sight: &Sight, book: &Book, cut: &Cut, value: u64) -> bool
+fn is_irreplaceable<R: Reader>(
+    reader: &R,
+    sight: &Sight,
+    book: &Book,
+    cut: &Cut,
+    value: u64,
+) -> bool
     requires sight { ListsValues (R.reading reader.now) book.now sight.now }
     requires wide { length cut.now ≡ length book.now }
-    ensures { IsTrue result ↔ IsKept (R.reading reader.now) book.now cut.now value }
+    ensures { IsTrue result ↔ IsIrreplaceable (R.reading reader.now) book.now cut.now value }
 {
     is_read(reader, sight, book, cut, value) && !is_written(reader, sight, book, cut, value)
 }

@@ -7,7 +7,7 @@ returns-then-writes_another g c is =
     let reading = g.R.Reader.reading c.args.reader.now in
     let caller : ℕ = c.args.caller in
     inl (
-      c.requires.kept c.if-kept.true,
+      c.requires.irreplaceable c.if-irreplaceable.true,
       subst (λ (n : ℕ). WritesAnother reading c.args.book.now (record { caller = caller; number = n }) c.args.held) c.get-number.ensures (c.writes_another.ensures c.if-writes_another.true),
     )
 
