@@ -16,7 +16,8 @@ pub struct Kept {
     pub stance: Stance,
 }
 
-/// The callers of a table that are with no thread, each with its local.
+/// The callers of a table that are with no thread, each with its local. Those of one that is let go make no more
+/// steps.
 #[derive(Drop)]
 pub struct Bench<P = Outside> {
     pub(crate) callers: u32,
