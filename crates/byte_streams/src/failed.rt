@@ -2,17 +2,21 @@ ghost use Rattle.std.specs.Prelude.{◌≡◌};
 ghost use Rattle.byte_streams.specs.declared.failed.ReadAllError.TheVariants.{Fault, NoMemory};
 
 use std::alloc::AllocError;
+use thiserror::Error;
 
 /// A read or a write failed. Its source or sink has counted the fault.
-#[derive(Clone, Copy, Debug, PartialEq, Eq)]
+#[derive(Clone, Copy, Debug, PartialEq, Eq, Error)]
+#[error("a read or a write failed")]
 pub struct Failed;
 
 /// Why a source was not read to its end.
-#[derive(Clone, Copy, Debug, PartialEq, Eq)]
+#[derive(Clone, Copy, Debug, PartialEq, Eq, Error)]
 pub enum ReadAllError {
     /// A read failed.
+    #[error("a read failed")]
     Fault,
     /// Want of memory.
+    #[error("out of memory")]
     NoMemory,
 }
 
