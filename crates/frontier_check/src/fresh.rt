@@ -118,8 +118,21 @@ fn reply_of(book: &Book, later: &[Place], call: Call, turn: u64) -> Option<u64>
     }
 }
 
-// Of the callers' first calls outside a front the one to put next: one that the least view of all such calls holds, with
-// the reply that the object gives, and among those the one with the least turn. There may be none.
+// How many callers' first calls outside a cut a view holds.
+fn held_after(cut: &Cut, view: &Cut) -> u32
+    requires { length cut.now ≡ length view.now }
+{
+    let mut held: u32 = 0;
+    for caller in 0..cut.n() {
+        if cut.get(caller) < view.get(caller) {
+            held = held.saturating_add(1);
+        }
+    }
+    held
+}
+
+// Of the callers' first calls outside a front the one to put next, where the least view of all such calls holds one alone,
+// and the object gives its reply: what else may stand next is left to a search, which can go back.
 fn next_place<S: SeqObject>(
     object: &S,
     book: &Book,
@@ -144,6 +157,9 @@ fn next_place<S: SeqObject>(
         return None;
     }
     let view = book.record(first).view;
+    if held_after(&front.cut, &view) > 1 {
+        return None;
+    }
     let mut best: Option<Place> = None;
     let mut least = u64::MAX;
     for caller in 0..book.callers() {

@@ -115,7 +115,10 @@ fn check_on<S: SeqObject>(
         return check_anew(alloc, object, book, &front.places);
     }
     match rest_after(alloc, object, book, &later, &front)? {
-        None => check_anew(alloc, object, book, &front.places),
+        None => {
+            let fewer = front.places.len().saturating_sub(book.callers() as usize);
+            check_anew(alloc, object, book, &front.places[..fewer])
+        }
         Some(rest) => {
             let Front {
                 places,
