@@ -1,5 +1,5 @@
 -- What is written of a run: its report in one of three forms, and the status that comes with it.
-use Rattle.std.specs.Prelude.{◌≡◌, ◌≢◌, ◌⊎◌, ℕ, List, [], ◌++◌, false, codes, decimal, Option, if◌then◌else◌}
+use Rattle.std.specs.Prelude.{◌≡◌, ◌≢◌, ◌⊎◌, ℕ, List, [], ◌++◌, true, false, codes, decimal, Option, if◌then◌else◌}
 use Rattle.std.specs.List.{list_any}
 use Rattle.book_base.specs.declared.call.Place.{Place}
 use Rattle.book_base.specs.Book.{Page}
@@ -62,6 +62,11 @@ IsRunOutput object IsReportOf form status text = (report : Findings) × IsReport
 -- that the sink had taken.
 abbrev pub RunEnds : Sequential → (Findings → Type 0) → Form → Status → Option (List ℕ) → Option (List ℕ) → Type 0
 RunEnds object IsReportOf form status taken taken' = EndsWriting (IsRunOutput object IsReportOf form) status taken taken'
+
+-- The status of an output tells whether a line of its report is an error.
+abbrev pub StatusesTellErrors : Type 0
+StatusesTellErrors = (object : Sequential) (report : Findings) (form : Form) (status : Status) (text : List ℕ) → IsRunOutput object (λ other. other ≡ report) form status text
+    → ((status ≡ Found) × (list_any any_error report.lines ≡ true)) ⊎ ((status ≡ Fine) × (list_any any_error report.lines ≡ false))
 
 -- A form but the certificate writes one text of a report.
 abbrev pub FormsWriteOneText : Type 0

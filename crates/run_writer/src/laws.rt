@@ -1,6 +1,12 @@
 //! Laws of what is written of a run.
 
-ghost use Rattle.run_writer.specs.Runs.{FormsWriteOneText, CertificatesAreLegal, CertificatesAreOfTheirKind, CertificatesTellOneBook};
+ghost use Rattle.std.specs.Prelude.{◌≡◌, ◌∷◌, []};
+ghost use Rattle.byte_streams.specs.declared.status.Status.TheVariants.{Fine, Found};
+ghost use Rattle.seq_objects.specs.declared.kind.Kind.TheVariants.{Queue};
+ghost use Rattle.call_lines.specs.Cases.{pending};
+ghost use Rattle.reports.specs.Cases.{of_queue, worked};
+ghost use Rattle.run_writer.specs.declared.form.Form.TheVariants.{Counts as Numbers};
+ghost use Rattle.run_writer.specs.Runs.{IsRunOutput, counts_text, object_of_kind, StatusesTellErrors, FormsWriteOneText, CertificatesAreLegal, CertificatesAreOfTheirKind, CertificatesTellOneBook};
 
 /// A report has one text, and so have its counts.
 pub fn a_report_and_its_counts_have_one_text()
@@ -14,4 +20,29 @@ pub fn certificates_are_legal_and_tell_one_book()
     ensures legal { CertificatesAreLegal }
     ensures of_their_kind { CertificatesAreOfTheirKind }
     ensures one_book { CertificatesTellOneBook }
+{}
+
+/// An output has the status `Found` where a line of its report is an error, and else `Fine`.
+#[tactic(auto, using(crate::proofs::Statuses::statuses_tell_errors))]
+pub fn statuses_tell_errors()
+    ensures { StatusesTellErrors }
+{}
+
+/// Worked outputs: the counts of a report with an error, and of one without, each with its status and
+/// with no other; no other text; and nothing where there is no report.
+#[tactic(auto, using(crate::proofs::Statuses::found, crate::proofs::Statuses::not_fine, crate::proofs::Statuses::fine, crate::proofs::Statuses::not_found, crate::proofs::Statuses::no_text, crate::proofs::Statuses::no_report))]
+pub fn outputs_have_their_status()
+    ensures found { IsRunOutput (object_of_kind Queue) (λ report. report ≡ worked) Numbers Found
+        (counts_text (record { calls = 4; delivered = 1; errors = 1 })) }
+    ensures not_fine { ¬ IsRunOutput (object_of_kind Queue) (λ report. report ≡ worked) Numbers Fine
+        (counts_text (record { calls = 4; delivered = 1; errors = 1 })) }
+    ensures fine { IsRunOutput (object_of_kind Queue)
+        (λ report. report ≡ of_queue ((pending 5 ∷ []) ∷ [])) Numbers Fine
+        (counts_text (record { calls = 1; delivered = 0; errors = 0 })) }
+    ensures not_found { ¬ IsRunOutput (object_of_kind Queue)
+        (λ report. report ≡ of_queue ((pending 5 ∷ []) ∷ [])) Numbers Found
+        (counts_text (record { calls = 1; delivered = 0; errors = 0 })) }
+    ensures no_text { ¬ IsRunOutput (object_of_kind Queue) (λ report. report ≡ worked) Numbers Found [] }
+    ensures no_report { ¬ IsRunOutput (object_of_kind Queue) (λ report. ⊥) Numbers Fine
+        (counts_text (record { calls = 0; delivered = 0; errors = 0 })) }
 {}
