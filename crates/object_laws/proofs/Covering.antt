@@ -148,7 +148,7 @@ found list (step ∷ steps) run above v below e = elim (found (next list step.0)
 even : (steps : List (ℕ × ℕ)) → Covers 0 0 steps → AreEven steps
 even steps h = record { all = omega (arith, h.all); first = λ front rest e. omega (arith, h.first front rest e) }
 
-after_push : (list : List ℕ) (word : ℕ) → is_operation_of word words.push ≡ true → next list word ≡ (list ++ argument_of word ∷ [], reply_done)
+pub after_push : (list : List ℕ) (word : ℕ) → is_operation_of word words.push ≡ true → next list word ≡ (list ++ argument_of word ∷ [], reply_done)
 after_push list word is = ap (stack_after list) (cond-true (is_operation_of word words.push) _ _ is)
 
 pop_asked : (word : ℕ) → is_operation_of word words.pop ≡ true → stack_reading.deed word ≡ Takes
@@ -156,7 +156,7 @@ pop_asked word is =
     ap stack_deed
     (cond-false (is_operation_of word words.push) _ _ (apart word words.pop words.push (omega arith) is) ∙ cond-true (is_operation_of word words.pop) _ _ is)
 
-after_pop : (list : List ℕ) (word : ℕ) → is_operation_of word words.pop ≡ true → next list word ≡ last_taken list
+pub after_pop : (list : List ℕ) (word : ℕ) → is_operation_of word words.pop ≡ true → next list word ≡ last_taken list
 after_pop list word is =
     ap (stack_after list)
     (cond-false (is_operation_of word words.push) _ _ (apart word words.pop words.push (omega arith) is) ∙ cond-true (is_operation_of word words.pop) _ _ is)

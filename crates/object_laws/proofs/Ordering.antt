@@ -20,10 +20,10 @@ use Rattle.object_laws.proofs.Stepping.{replied, runs_before, apart}
 abbrev next : List ℕ → ℕ → List ℕ × ℕ
 next list word = queue_after list (queue_operation word)
 
-after_enq : (list : List ℕ) (word : ℕ) → is_operation_of word words.enq ≡ true → next list word ≡ (list ++ argument_of word ∷ [], reply_done)
+pub after_enq : (list : List ℕ) (word : ℕ) → is_operation_of word words.enq ≡ true → next list word ≡ (list ++ argument_of word ∷ [], reply_done)
 after_enq list word is = ap (queue_after list) (cond-true (is_operation_of word words.enq) _ _ is)
 
-after_deq : (list : List ℕ) (word : ℕ) → is_operation_of word words.deq ≡ true → next list word ≡ first_taken list
+pub after_deq : (list : List ℕ) (word : ℕ) → is_operation_of word words.deq ≡ true → next list word ≡ first_taken list
 after_deq list word is =
     ap (queue_after list)
     (cond-false (is_operation_of word words.enq) _ _ (apart word words.deq words.enq (omega arith) is) ∙ cond-true (is_operation_of word words.deq) _ _ is)

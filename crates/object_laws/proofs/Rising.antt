@@ -25,14 +25,14 @@ next list word = pqueue_after list (pqueue_operation word)
 
 -- ---- the step of each operation
 
-after_insert : (list : List ℕ) (word : ℕ) → is_operation_of word words.insert ≡ true → next list word ≡ (inserted list (argument_of word), reply_done)
+pub after_insert : (list : List ℕ) (word : ℕ) → is_operation_of word words.insert ≡ true → next list word ≡ (inserted list (argument_of word), reply_done)
 after_insert list word is = ap (pqueue_after list) (cond-true (is_operation_of word words.insert) _ _ is)
 
-after_min : (list : List ℕ) (word : ℕ) → is_operation_of word words.insert ≡ false → is_operation_of word words.min ≡ true → next list word ≡ first_taken list
+pub after_min : (list : List ℕ) (word : ℕ) → is_operation_of word words.insert ≡ false → is_operation_of word words.min ≡ true → next list word ≡ first_taken list
 after_min list word other is =
     ap (pqueue_after list) (cond-false (is_operation_of word words.insert) _ _ other ∙ cond-true (is_operation_of word words.min) _ _ is)
 
-after_other : (list : List ℕ) (word : ℕ) → is_operation_of word words.insert ≡ false → is_operation_of word words.min ≡ false → next list word ≡ (list, reply_bad)
+pub after_other : (list : List ℕ) (word : ℕ) → is_operation_of word words.insert ≡ false → is_operation_of word words.min ≡ false → next list word ≡ (list, reply_bad)
 after_other list word other none =
     ap (pqueue_after list) (cond-false (is_operation_of word words.insert) _ _ other ∙ cond-false (is_operation_of word words.min) _ _ none)
 
@@ -111,7 +111,7 @@ IsRising [] = Unit {0}
 IsRising (x ∷ xs) = Above x xs × IsRising xs
 
 -- the list with a value before the first greater item
-abbrev placed : ℕ → List ℕ → List ℕ
+abbrev pub placed : ℕ → List ℕ → List ℕ
 placed v [] = v ∷ []
 placed v (x ∷ xs) = if nat_lt v x then v ∷ x ∷ xs else x ∷ placed v xs
 
@@ -144,7 +144,7 @@ insert_is v (x ∷ xs) =
           ap (λ (i : ℕ). insert (x ∷ xs) i v) next_place ∙ ap (λ (ys : List ℕ). x ∷ ys) (insert_is v xs) ∙ sym (cond-false (nat_lt v x) (v ∷ x ∷ xs) (x ∷ placed v xs) ge)
     ]
 
-inserted_is : (v : ℕ) (xs : List ℕ) → inserted xs v ≡ placed v xs
+pub inserted_is : (v : ℕ) (xs : List ℕ) → inserted xs v ≡ placed v xs
 inserted_is v xs = ap (λ (i : ℕ). insert xs i v) (place_is v xs) ∙ insert_is v xs
 
 above_placed : (x v : ℕ) (xs : List ℕ) → x ≤ v → Above x xs → Above x (placed v xs)

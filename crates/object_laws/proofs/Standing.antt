@@ -30,7 +30,7 @@ times-insert v x [] (suc i) = refl
 times-insert v x (y ∷ xs) zero = refl
 times-insert v x (y ∷ xs) (suc i) = omega (arith, times-insert v x xs i)
 
-times-remove : (v : ℕ) (xs : List ℕ) (i : ℕ) → i < length xs → times v xs ≡ one_if (get_or xs i 0 == v) + times v (remove xs i)
+pub times-remove : (v : ℕ) (xs : List ℕ) (i : ℕ) → i < length xs → times v xs ≡ one_if (get_or xs i 0 == v) + times v (remove xs i)
 times-remove v [] i inside = absurd (omega arith)
 times-remove v (x ∷ xs) zero inside = refl
 times-remove v (x ∷ xs) (suc i) inside = omega (arith, times-remove v xs i (omega arith))
@@ -51,13 +51,13 @@ times-unplaced v xs none =
     ] in
     times-nowhere v xs (λ k inside. fails_before_first p xs k 0 (omega (arith, ltb-false n (length xs) past)))
 
-times-placed : (v : ℕ) (xs : List ℕ) (i : ℕ) → place_of xs v ≡ Some i → (i < length xs) × (get_or xs i 0 ≡ v)
+pub times-placed : (v : ℕ) (xs : List ℕ) (i : ℕ) → place_of xs v ≡ Some i → (i < length xs) × (get_or xs i 0 ≡ v)
 times-placed v xs i at =
     let first = position-Some (λ x. x == v) xs i 0 at in
     (first.0, eqb-true (get_or xs i 0) v first.1)
 
 -- whether a value has a place is whether it is in the list
-is_there : (v : ℕ) (xs : List ℕ) → ((is_some (place_of xs v) ≡ true) × (1 ≤ times v xs)) ⊎ ((is_some (place_of xs v) ≡ false) × (times v xs ≡ 0))
+pub is_there : (v : ℕ) (xs : List ℕ) → ((is_some (place_of xs v) ≡ true) × (1 ≤ times v xs)) ⊎ ((is_some (place_of xs v) ≡ false) × (times v xs ≡ 0))
 is_there v xs = elim (cases_Option (place_of xs v)) [
   | inl none ↦ inr (ap is_some none, times-unplaced v xs none)
   | inr some ↦
@@ -75,7 +75,7 @@ added_same v xs once = elim (is_there v xs) [
       omega (arith, ap (times v) list, times-insert v v xs (place_for xs v), absent.1, ap one_if (eq-eqb v v refl))
 ]
 
-added_other : (w v : ℕ) (xs : List ℕ) → w ≢ v → times v (added xs w).0 ≡ times v xs
+pub added_other : (w v : ℕ) (xs : List ℕ) → w ≢ v → times v (added xs w).0 ≡ times v xs
 added_other w v xs other = elim (cases_Bool (is_some (place_of xs w))) [
   | inl there ↦ ap (λ (r : List ℕ × ℕ). times v r.0) (cond-true (is_some (place_of xs w)) (xs, reply_no) (inserted xs w, reply_yes) there)
   | inr absent ↦
@@ -92,7 +92,7 @@ removed_same v xs once = elim (cases_Option (place_of xs v)) [
       omega (arith, list, times-remove v xs some.0 first.0, ap one_if (eq-eqb (get_or xs some.0 0) v first.1))
 ]
 
-removed_other : (w v : ℕ) (xs : List ℕ) → w ≢ v → times v (removed xs w).0 ≡ times v xs
+pub removed_other : (w v : ℕ) (xs : List ℕ) → w ≢ v → times v (removed xs w).0 ≡ times v xs
 removed_other w v xs other = elim (cases_Option (place_of xs w)) [
   | inl none ↦ ap (λ (o : Option ℕ). times v (taken_out xs o).0) none
   | inr some ↦
@@ -103,15 +103,15 @@ removed_other w v xs other = elim (cases_Option (place_of xs w)) [
 
 -- ---- the step of each operation
 
-after_add : (list : List ℕ) (word : ℕ) → is_operation_of word words.add ≡ true → next list word ≡ added list (argument_of word)
+pub after_add : (list : List ℕ) (word : ℕ) → is_operation_of word words.add ≡ true → next list word ≡ added list (argument_of word)
 after_add list word is = ap (set_after list) (cond-true (is_operation_of word words.add) _ _ is)
 
-after_remove : (list : List ℕ) (word : ℕ) → is_operation_of word words.remove ≡ true → next list word ≡ removed list (argument_of word)
+pub after_remove : (list : List ℕ) (word : ℕ) → is_operation_of word words.remove ≡ true → next list word ≡ removed list (argument_of word)
 after_remove list word is =
     ap (set_after list)
     (cond-false (is_operation_of word words.add) _ _ (apart word words.remove words.add (omega arith) is) ∙ cond-true (is_operation_of word words.remove) _ _ is)
 
-after_has : (list : List ℕ) (word : ℕ) → is_operation_of word words.has ≡ true
+pub after_has : (list : List ℕ) (word : ℕ) → is_operation_of word words.has ≡ true
     → next list word ≡ (list, if is_some (place_of list (argument_of word)) then reply_yes else reply_no)
 after_has list word is =
     ap (set_after list)
@@ -282,7 +282,7 @@ has_tells before rest step value run is =
     ∙ ap (λ (v : ℕ). if is_some (place_of list v) then reply_yes else reply_no) parts.1 in
     yes_tells step.1 (is_some (place_of list value)) (AddStands value before) reply (place_tells value before)
 
-taken_out_tells : (list : List ℕ) (o : Option ℕ) → (taken_out list o).1 ≡ (if is_some o then reply_yes else reply_no)
+pub taken_out_tells : (list : List ℕ) (o : Option ℕ) → (taken_out list o).1 ≡ (if is_some o then reply_yes else reply_no)
 taken_out_tells list None = refl
 taken_out_tells list (Some place) = refl
 
@@ -296,7 +296,7 @@ remove_tells before rest step value run is =
     ∙ ap (λ (v : ℕ). (removed list v).1) parts.1 ∙ taken_out_tells list (place_of list value) in
     yes_tells step.1 (is_some (place_of list value)) (AddStands value before) reply (place_tells value before)
 
-added_tells : (list : List ℕ) (v : ℕ) → (added list v).1 ≡ (if is_some (place_of list v) then reply_no else reply_yes)
+pub added_tells : (list : List ℕ) (v : ℕ) → (added list v).1 ≡ (if is_some (place_of list v) then reply_no else reply_yes)
 added_tells list v = elim (cases_Bool (is_some (place_of list v))) [
   | inl there ↦
       ap (λ (r : List ℕ × ℕ). r.1) (cond-true (is_some (place_of list v)) (list, reply_no) (inserted list v, reply_yes) there) ∙ sym (cond-true (is_some (place_of list v)) reply_no reply_yes there)

@@ -17,19 +17,8 @@ use Rattle.book_base.proofs.GrowthLemmas.{page_of-unanswered_book, page_of-set_s
 use Rattle.book_laws.proofs.LegalOrder.{same_call}
 use Rattle.smaller_book.specs.Part.{numbers_of, AreRising, count_below, original, IsRenumbered, IsPart}
 use Rattle.smaller_book.specs.Numbers.{numbers_in}
-use Rattle.smaller_book.proofs.Counts.{counted_from_below, below_from_counted, count_below-within, count_below-past}
-use Rattle.smaller_book.proofs.Leaving.{record_was}
-
--- more numbers are below a greater bound
-pub count_below-monotone : (xs : List ℕ) (a b : ℕ) → AreRising xs → a ≤ b → count_below xs a ≤ count_below xs b
-count_below-monotone xs a b rising few =
-    elim (cases_lt (count_below xs b) (count_below xs a)) [
-      | inl less ↦
-          let below : get_or xs (count_below xs b) 0 < a = below_from_counted xs a (count_below xs b) less in
-          let inside : count_below xs b < length xs = omega (arith, less, count_below-within xs a) in
-          absurd (omega (arith, counted_from_below xs b (count_below xs b) rising inside (omega arith)))
-      | inr most ↦ most
-    ]
+use Rattle.smaller_book.proofs.Counts.{count_below-within, count_below-past, count_below-monotone}
+use Rattle.smaller_book.proofs.Following.{record_was}
 
 -- the operations of a book with one more answer are the book's
 operations-with_answer : (book : List Page) (i : ℕ) (r : Record) (j : ℕ) → i < length book → (page_of (with_answer book i r) j).operations ≡ (page_of book j).operations

@@ -27,6 +27,17 @@ below_from_counted xs bound k less = ltb-true (get_or xs k 0) bound (prefix_len_
 pub count_below-within : (xs : List ℕ) (bound : ℕ) → count_below xs bound ≤ length xs
 count_below-within xs bound = prefix_len-le-length (λ (number : ℕ). ltb number bound) xs
 
+-- more numbers are below a greater bound
+pub count_below-monotone : (xs : List ℕ) (a b : ℕ) → AreRising xs → a ≤ b → count_below xs a ≤ count_below xs b
+count_below-monotone xs a b rising few =
+    elim (cases_lt (count_below xs b) (count_below xs a)) [
+      | inl less ↦
+          let below : get_or xs (count_below xs b) 0 < a = below_from_counted xs a (count_below xs b) less in
+          let inside : count_below xs b < length xs = omega (arith, less, count_below-within xs a) in
+          absurd (omega (arith, counted_from_below xs b (count_below xs b) rising inside (omega arith)))
+      | inr most ↦ most
+    ]
+
 -- as many numbers are below one of them as stand before it
 pub count_below-at : (xs : List ℕ) (k : ℕ) → AreRising xs → k < length xs → count_below xs (get_or xs k 0) ≡ k
 count_below-at xs k rising inside =

@@ -1,5 +1,10 @@
 pub mod Counts
+pub mod Following
 pub mod Leaving
+pub mod Filtering
+pub mod KeySteps
+pub mod KeyRows
+pub mod KeyLaw
 pub mod LeastCuts
 pub mod Building
 pub mod Removing

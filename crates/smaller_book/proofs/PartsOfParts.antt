@@ -13,7 +13,7 @@ use Rattle.book_laws.proofs.LegalOrder.{same_call}
 use Rattle.smaller_book.specs.Part.{numbers_of, AreRising, count_below, original, IsRenumbered, IsPart, CarriesOver}
 use Rattle.smaller_book.specs.Minimal.{picked, composed, IsShrunk}
 use Rattle.smaller_book.proofs.Counts.{counted_from_below, below_from_counted, count_below-within}
-use Rattle.smaller_book.proofs.Leaving.{call_from_answer, record_was}
+use Rattle.smaller_book.proofs.Following.{call_from_answer, record_was}
 use Rattle.smaller_book.proofs.Removing.{original_is_call}
 
 -- the numbers of a caller

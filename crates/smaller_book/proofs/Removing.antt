@@ -10,7 +10,7 @@ use Rattle.list_laws.proofs.Totals.{sum-within}
 use Rattle.book_base.specs.declared.call.Call.{Call}
 use Rattle.book_base.specs.declared.call.Record.{Record}
 use Rattle.book_base.specs.Foresight.{Leaves}
-use Rattle.smaller_book.proofs.Leaving.{some_that}
+use Rattle.smaller_book.proofs.Following.{some_that}
 use Rattle.book_base.specs.Book.{Page, page_of, calls_of, IsCall, IsAnswered, operation_of, record_of, announced, IsValid}
 use Rattle.book_base.proofs.PageLemmas.{caller_from_call}
 use Rattle.book_base.proofs.GrowthLemmas.{announced_at}

@@ -2,4 +2,6 @@ pub mod Part
 pub mod Numbers
 pub mod Leaving
 pub mod Earliest
+pub mod Keys
 pub mod Minimal
+pub mod Worked

@@ -1,11 +1,19 @@
 //! Worked cases: which calls a part has, what its views count, and which calls may be left out.
 
-ghost use Rattle.std.specs.Prelude.{◌≡◌, [], ◌∷◌};
+ghost use Rattle.std.specs.Prelude.{◌≡◌, [], ◌∷◌, Some, None};
 ghost use Rattle.book_base.specs.Foresight.{Leaves};
+ghost use Rattle.book_base.specs.Pruning.{HasOneOpen};
 ghost use Rattle.book_laws.specs.Cases.{line_next, tenfold_next, mistaken, overtaken};
+ghost use Rattle.seq_objects.specs.declared.kind.Kind.TheVariants as kinds;
+ghost use Rattle.seq_objects.specs.Words as words;
+ghost use Rattle.seq_objects.specs.Replies.{reply_done, reply_none, reply_value, reply_yes};
+ghost use Rattle.seq_objects.specs.Objects.{kind_next};
+ghost use Rattle.object_laws.specs.Worked.{operation};
 ghost use Rattle.smaller_book.specs.Part.{count_below};
 ghost use Rattle.smaller_book.specs.Leaving.{LeavesEveryList};
 ghost use Rattle.smaller_book.specs.Minimal.{numbers_except, all_but, composed};
+ghost use Rattle.smaller_book.specs.Keys.{key_of_step, keys_from_to, all_without, items_without};
+ghost use Rattle.smaller_book.specs.Worked.{put_twice, of_two_keys, two_open, one_open};
 
 /// A view counts the calls that a part has: of calls 0, 2 and 5 two are among the first three, and all
 /// are among the first six.
@@ -34,4 +42,46 @@ pub fn calls_that_leave()
     ensures unanswered { ¬ LeavesEveryList line_next overtaken (record { caller = 0; number = 2 }) }
     ensures takes { ¬ Leaves line_next 0 6 }
     ensures takes_none { ¬ Leaves line_next 0 0 }
+{}
+
+/// A read of a register may be left out with whatever reply, and a write may not.
+pub fn reads_leave()
+    ensures reads { Leaves (kind_next kinds.Register) (operation words.read 0) (reply_value 9) }
+    ensures writes { ¬ Leaves (kind_next kinds.Register) (operation words.write 9) reply_done }
+{}
+
+/// The keys that operations are about: a put and a take that shows the value are about it, and a take that
+/// finds nothing or has no reply is about none.
+pub fn keys_of_operations()
+    ensures puts { key_of_step kinds.Queue (operation words.enq 5) None ≡ Some 5 }
+    ensures takes { key_of_step kinds.Queue (operation words.deq 0) (Some (reply_value 5)) ≡ Some 5 }
+    ensures finds_none { key_of_step kinds.Queue (operation words.deq 0) (Some reply_none) ≡ None }
+    ensures unanswered { key_of_step kinds.Queue (operation words.deq 0) None ≡ None }
+    ensures of_a_set { key_of_step kinds.IntSet (operation words.has 3) (Some reply_yes) ≡ Some 3 }
+    ensures of_a_map { key_of_step kinds.Map (operation words.get 3) (Some (reply_value 5)) ≡ Some 3 }
+    ensures of_a_register { key_of_step kinds.Register (operation words.write 5) (Some reply_done) ≡ None }
+    ensures unknown { key_of_step kinds.Queue (operation words.has 5) (Some (reply_value 5)) ≡ None }
+{}
+
+/// All calls of a key go together: both puts of a value that is put twice and the take that shows it, and of
+/// a set the answered calls and the unanswered one. A take without an answer stays.
+pub fn calls_without_a_key()
+    ensures value { all_without kinds.Queue (keys_from_to 5 5) put_twice ≡ (1 ∷ []) ∷ (1 ∷ 2 ∷ []) ∷ [] }
+    ensures values { all_without kinds.Queue (keys_from_to 5 6) put_twice ≡ [] ∷ (1 ∷ 2 ∷ []) ∷ [] }
+    ensures no_call { all_without kinds.Queue (keys_from_to 7 9) put_twice ≡ (0 ∷ 1 ∷ 2 ∷ []) ∷ (0 ∷ 1 ∷ 2 ∷ []) ∷ [] }
+    ensures of_a_set { all_without kinds.IntSet (keys_from_to 4 4) of_two_keys ≡ (0 ∷ []) ∷ (0 ∷ []) ∷ [] }
+    ensures other_of_a_set { all_without kinds.IntSet (keys_from_to 3 3) of_two_keys ≡ (1 ∷ []) ∷ (1 ∷ []) ∷ [] }
+{}
+
+/// The items of a list without a key: values by their low 32 bits, and items of a map by their keys.
+pub fn items_without_a_key()
+    ensures values { items_without kinds.Queue (keys_from_to 5 5) (5 ∷ 6 ∷ 4294967301 ∷ []) ≡ 6 ∷ [] }
+    ensures keys { items_without kinds.Map (keys_from_to 1 1) (4294967301 ∷ 8589934592 ∷ []) ≡ 8589934592 ∷ [] }
+    ensures no_keys { items_without kinds.Register (keys_from_to 0 9) (5 ∷ []) ≡ 5 ∷ [] }
+{}
+
+/// A view that holds two unanswered calls of a caller keeps all keys in, and one that holds one doesn't.
+pub fn open_calls()
+    ensures two { ¬ HasOneOpen two_open }
+    ensures one { HasOneOpen one_open }
 {}

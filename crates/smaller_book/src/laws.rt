@@ -1,9 +1,16 @@
 //! Laws of parts of a book. Each is the contract of a function with nothing in it.
 
 ghost use Rattle.smaller_book.specs.Leaving.{HasOneWithoutLeaving};
+ghost use Rattle.smaller_book.specs.Keys.{HasOneWithoutKeys};
 
 /// Calls that leave every list with their reply may be left out: what is left of a legal order is one of
 /// what is left of the book.
 pub fn leaving_calls_may_be_left_out()
     ensures { HasOneWithoutLeaving }
+{}
+
+/// All calls of some keys may be left out, where each view holds at most one unanswered call of each caller:
+/// what is left of a legal order, up to the last answered call, is one of what is left of the book.
+pub fn calls_of_keys_may_be_left_out()
+    ensures { HasOneWithoutKeys }
 {}

@@ -1,0 +1,13 @@
+use Rattle.std.proofs.Common.{◌≡◌, ℕ, List, [], refl, ap, length, arith}
+use Rattle.seq_objects.specs.Objects.{kind_next}
+use Rattle.smaller_book.proofs.cases.reads_leave.Goals as goal
+
+pub returns-clause-reads : goal.returns-clause-reads
+unfolding kind_next
+returns-clause-reads c = λ list replied. refl
+
+pub returns-clause-writes : goal.returns-clause-writes
+unfolding kind_next
+returns-clause-writes c = λ leaves.
+    let long : ◌≡◌ {A = ℕ} 1 0 = ap length (leaves [] refl) in
+    omega (arith, long)
