@@ -3,8 +3,8 @@
 
 ghost use Rattle.logged_calls.specs.Runs.{RunsOfLogsAreLogged, RunsOfTalliesAreFormed, RunsOfCellsAreFormed};
 
-/// The calls of every run of a log are in one log, that of its tickets in their order: a call that was announced and
-/// not asked isn't in it, and one that was asked is, whether or not its caller has its record.
+/// The calls of every run of a log are in one log, from which all of them were answered: a call that was announced
+/// and not asked isn't in it, and one that was asked is, whether or not its caller has its record.
 pub fn runs_of_logs_are_logged()
     ensures { RunsOfLogsAreLogged }
 {}
