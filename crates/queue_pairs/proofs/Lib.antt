@@ -1,2 +1,4 @@
 pub mod Moments
 pub mod Walking
+pub mod Serving
+pub mod Swapping

@@ -2,6 +2,7 @@
 
 ghost use Rattle.queue_pairs.specs.Moments.{PrecedesByMoments, MomentsKeepPrecedence};
 ghost use Rattle.queue_pairs.specs.PairLaws.{LegalOrdersHavePairs};
+ghost use Rattle.queue_pairs.specs.Serving.{EarlierPutServes, EarlierTakeServes};
 
 /// Precedence is a matter of moments: a call precedes those that no view holds up to its own moment, and calls
 /// keep precedence exactly where each has a moment, from the first view that holds it up to its own view, and
@@ -15,4 +16,11 @@ pub fn moments_keep_precedence()
 /// after another. So one without such pairs has none.
 pub fn legal_orders_have_pairs()
     ensures { LegalOrdersHavePairs }
+{}
+
+/// Of two puts of one value, and of two takes of one deal, the one that may take effect no later and is due no later serves for
+/// the other.
+pub fn choices_serve_for_one_another()
+    ensures puts { EarlierPutServes }
+    ensures takes { EarlierTakeServes }
 {}
