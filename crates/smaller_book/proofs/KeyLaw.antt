@@ -1,5 +1,5 @@
 -- All calls of some keys may be left out together.
-use Rattle.std.proofs.Common.{◌≡◌, ℕ, ◌∙◌, Bool, true, false, List, Option, Some, None, option_map, if◌then◌else◌, refl, sym, ap, subst, inl, inr}
+use Rattle.std.proofs.Common.{◌≡◌, ℕ, ◌∙◌, Bool, true, List, Option, Some, None, option_map, sym, ap, inl, inr}
 use Rattle.std.proofs.lemmas.Bool.{cases_Bool, cond-true, cond-false, true≢false}
 use Rattle.list_laws.proofs.Options.{cases_Option}
 use Rattle.book_base.specs.declared.call.Call.{Call}

@@ -1,7 +1,7 @@
 -- What a step does to a list with all items and to one with those of the keys that stay, by the kind of the object.
-use Rattle.std.proofs.Common.{◌≡◌, ◌≢◌, ℕ, zero, suc, ◌+◌, ◌%◌, ◌^◌, ◌<◌, ◌≤◌, ◌⊎◌, ◌∙◌, Bool, true, false, not, ◌==◌, nat_lt, List, [], ◌∷◌, ◌++◌, length, filter, find, take, get_or, position, remove, Option, Some, None, option_map, is_some, if◌then◌else◌, refl, sym, ap, subst, inl, inr, arith}
+use Rattle.std.proofs.Common.{◌≡◌, ◌≢◌, ℕ, suc, ◌+◌, ◌^◌, ◌<◌, ◌≤◌, ◌⊎◌, ◌∙◌, Bool, true, false, not, ◌==◌, nat_lt, List, [], ◌∷◌, ◌++◌, length, filter, find, take, get_or, position, remove, Option, Some, None, is_some, if◌then◌else◌, refl, sym, ap, subst, inl, inr, arith}
 use Rattle.std.specs.List.{AllByRecursion, position_or_len}
-use Rattle.std.proofs.lemmas.Bool.{cases_Bool, cases_eq, cases_lt, cond-true, cond_both, cond-false, true≢false, and_parts, eqb-true, eqb-false, eq-eqb, ne_eqb, ltb-true, ltb-false, lt-ltb, le-ltb}
+use Rattle.std.proofs.lemmas.Bool.{cases_Bool, cases_eq, cases_lt, cond-true, cond-false, true≢false, and_parts, eq-eqb, ne_eqb, ltb-true, ltb-false, lt-ltb, le-ltb}
 use Rattle.std.proofs.lemmas.List.{length_push, get_or_push, take_all, take_more, take-append-le}
 use Rattle.std.proofs.lemmas.List.Elements.{filter-append}
 use Rattle.list_laws.proofs.Options.{cases_Option, pair_is}
@@ -12,10 +12,9 @@ use Rattle.seq_objects.specs.Words as words
 use Rattle.seq_objects.specs.Words.{Entry, entries, entry_of, is_known_word, is_operation_of, code_of, has_arguments, argument_of, extra_of}
 use Rattle.seq_objects.specs.Replies.{reply_done, reply_none, reply_value, reply_bad, reply_no, reply_yes}
 use Rattle.seq_objects.specs.Items.{first_taken, last_taken, inserted, place_of, place_for}
-use Rattle.seq_objects.specs.QueueSteps.{queue_operation, queue_after}
-use Rattle.seq_objects.specs.StackSteps.{stack_operation, stack_after}
-use Rattle.seq_objects.specs.PqueueSteps.{pqueue_operation, pqueue_after}
-use Rattle.seq_objects.specs.IntSetSteps.{set_operation, set_after, added, removed, taken_out}
+use Rattle.seq_objects.specs.QueueSteps.{queue_after}
+use Rattle.seq_objects.specs.StackSteps.{stack_after}
+use Rattle.seq_objects.specs.IntSetSteps.{set_after, added, removed, taken_out}
 use Rattle.seq_objects.specs.MapSteps.{map_operation, map_after, item_of, key_of, place_of_key, put_at, put_in, value_at, without}
 use Rattle.seq_objects.specs.MapLaws.{HasKeysOnce, got}
 use Rattle.seq_objects.specs.Readings.{value_of, shown_value}
@@ -26,8 +25,8 @@ use Rattle.object_laws.proofs.Ordering.{after_enq, after_deq}
 use Rattle.object_laws.proofs.Covering.{after_push, after_pop}
 use Rattle.object_laws.proofs.Rising.{placed, inserted_is, after_insert, after_min, after_other}
 use Rattle.object_laws.proofs.Standing.{times-insert, times-remove, times-placed, is_there, added_other, removed_other, taken_out_tells, added_tells, after_add, after_remove, after_has}
-use Rattle.smaller_book.specs.Keys.{value_shown, value_moved, key_by_kind, key_of_step, key_of_item, is_among, items_without, Rises, IsWellFormed}
-use Rattle.smaller_book.proofs.Filtering.{filter-kept, filter-gone, filter-all, above-filter, rises-filter, keys_once-filter, times-filter}
+use Rattle.smaller_book.specs.Keys.{value_shown, key_by_kind, key_of_step, key_of_item, is_among, items_without, Rises, IsWellFormed}
+use Rattle.smaller_book.proofs.Filtering.{filter-kept, filter-gone, filter-all, above-filter, keys_once-filter, times-filter}
 
 -- A step on a list with all items, and on one with those of the keys that stay.
 pub record KeepsKeys (kind : Kind) (keys : ℕ → Bool) (R : List ℕ → List ℕ → Type 0) : Type 0 where

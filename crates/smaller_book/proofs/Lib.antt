@@ -1,11 +1,15 @@
 pub mod Counts
 pub mod Following
 pub mod Leaving
+pub mod Slices
 pub mod Filtering
+pub mod Evidence
 pub mod KeySteps
 pub mod KeyRows
+pub mod KeyCodes
 pub mod KeyLaw
 pub mod LeastCuts
 pub mod Building
 pub mod Removing
 pub mod PartsOfParts
+pub mod KeyRemoval

@@ -10,10 +10,13 @@ use Rattle.book_base.specs.declared.call.Call.{Call}
 use Rattle.book_base.specs.declared.call.Record.{Record}
 use Rattle.book_base.specs.Book.{Page, calls_of, IsCall, operation_of, record_of}
 use Rattle.book_laws.proofs.LegalOrder.{same_call}
-use Rattle.smaller_book.specs.Part.{numbers_of, AreRising, count_below, original, IsRenumbered, IsPart, CarriesOver}
-use Rattle.smaller_book.specs.Minimal.{picked, composed, IsShrunk}
+use Rattle.seq_objects.specs.declared.kind.Kind.{Kind}
+use Rattle.smaller_book.specs.Part.{numbers_of, AreRising, count_below, original, IsRenumbered, IsPart}
+use Rattle.smaller_book.specs.Keys.{IsEvidence}
+use Rattle.smaller_book.specs.Minimal.{picked, composed, IsSmaller, IsShrunk}
 use Rattle.smaller_book.proofs.Counts.{counted_from_below, below_from_counted, count_below-within}
 use Rattle.smaller_book.proofs.Following.{call_from_answer, record_was}
+use Rattle.smaller_book.proofs.Evidence.{evidence_twice}
 use Rattle.smaller_book.proofs.Removing.{original_is_call}
 
 -- the numbers of a caller
@@ -81,6 +84,12 @@ original-composed book mid part first second outer inner call inside =
     same_call (original (composed first second) call) (original first (original second call)) refl
     (ap (λ (xs : List ℕ). get_or xs call.number 0) (numbers_of-composed first second i) ∙ get_or-picked (numbers_of first i) (numbers_of second i) call.number few)
 
+-- there is a list of them for each caller
+wide-composed : (book mid : List Page) (first second : List (List ℕ)) → IsPart book first mid → length second ≡ length mid → length (composed first second) ≡ length book
+wide-composed book mid first second outer wide =
+    let kept_by : ℕ → List ℕ = λ i. picked (numbers_of first i) (numbers_of second i) in
+    length-map-range_with_len kept_by 0 (length second) ∙ (wide ∙ outer.callers)
+
 -- A part of a part is a part, by the first numbers at the second ones.
 pub part_of_part : (book mid part : List Page) (first second : List (List ℕ)) → IsPart book first mid → IsPart mid second part → IsPart book (composed first second) part
 part_of_part book mid part first second outer inner = record {
@@ -110,19 +119,24 @@ part_of_part book mid part first second outer inner = record {
       subst (λ o. IsSomeAnd o (λ (w : Record). IsRenumbered (composed first second) w small)) (sym found) kept;
 }
 
--- And what is carried over twice is carried over.
-pub carried_twice : (next : List ℕ → ℕ → List ℕ × ℕ) (book mid part : List Page) → CarriesOver next book mid → CarriesOver next mid part → CarriesOver next book part
-carried_twice next book mid part outer inner init legal = inner init (outer init legal)
-
 -- What is shrunk twice is shrunk.
-pub shrunk_twice : (init : List ℕ) (next : List ℕ → ℕ → List ℕ × ℕ) (book mid part : List Page) (first second : List (List ℕ)) → IsPart book first mid → CarriesOver next book mid
-    → IsShrunk init next mid second part → IsShrunk init next book (composed first second) part
-shrunk_twice init next book mid part first second outer evidence inner = record {
+pub shrunk_twice : (kind : Kind) (book mid part : List Page) (first second : List (List ℕ)) → IsPart book first mid → IsEvidence kind book mid
+    → IsShrunk kind mid second part → IsShrunk kind book (composed first second) part
+shrunk_twice kind book mid part first second outer evidence inner = record {
   is_part = part_of_part book mid part first second outer inner.is_part;
-  wide =
-      let kept_by : ℕ → List ℕ = λ i. picked (numbers_of first i) (numbers_of second i) in
-      length-map-range_with_len kept_by 0 (length second) ∙ (inner.wide ∙ outer.callers);
-  evidence = carried_twice next book mid part evidence inner.evidence;
+  wide = wide-composed book mid first second outer inner.wide;
+  evidence = evidence_twice kind book mid part evidence inner.evidence;
   illegal = inner.illegal;
   earliest = inner.earliest;
+}
+
+-- And a smaller book of a smaller book is smaller.
+pub smaller_twice : (kind : Kind) (book mid part : List Page) (first second : List (List ℕ)) → IsSmaller kind book first mid → IsSmaller kind mid second part
+    → IsSmaller kind book (composed first second) part
+smaller_twice kind book mid part first second outer inner = record {
+  is_part = part_of_part book mid part first second outer.is_part inner.is_part;
+  wide = wide-composed book mid first second outer.is_part inner.wide;
+  evidence = evidence_twice kind book mid part outer.evidence inner.evidence;
+  illegal = inner.illegal;
+  fewer = omega (arith, outer.fewer, inner.fewer);
 }

@@ -161,16 +161,21 @@ sum-less (x ∷ xs) (y ∷ ys) (suc i) long within less =
     let rest : sum xs < sum ys = sum-less xs ys i (omega arith) (λ j. within (suc j)) less in
     omega (arith, sum_by-cons (λ (n : ℕ). n) x xs, sum_by-cons (λ (n : ℕ). n) y ys, rest, within 0)
 
+-- fewer, where it has fewer of one caller
+pub size-less_at : (book : List Page) (names : List (List ℕ)) (part : List Page) (i : ℕ) → IsPart book names part → calls_of part i < calls_of book i → size_of part < size_of book
+size-less_at book names part i is less =
+    sum-less (announced part) (announced book) i
+    (length-map part (λ (p : Page). length p.operations) ∙ (is.callers ∙ sym (length-map book (λ (p : Page). length p.operations))))
+    (λ (j : ℕ). omega (arith, announced_at part j, announced_at book j, calls-within book names part is j))
+    (omega (arith, less, announced_at part i, announced_at book i))
+
 -- A book without a call has fewer calls.
 pub size-less : (book : List Page) (call : Call) (part : List Page) → IsCall book call → IsPart book (all_but book call) part → size_of part < size_of book
 size-less book call part inside is =
     let i : ℕ = call.caller in
     let own : length (numbers_of (all_but book call) i) + 1 ≡ calls_of book i
     = ap (λ (xs : List ℕ). length xs + 1) (numbers_of-own book call inside) ∙ length-numbers_except (calls_of book i) call.number inside in
-    let less : get_or (announced part) i 0 < get_or (announced book) i 0 = omega (arith, own, is.calls i, announced_at part i, announced_at book i) in
-    sum-less (announced part) (announced book) i
-    (length-map part (λ (p : Page). length p.operations) ∙ (is.callers ∙ sym (length-map book (λ (p : Page). length p.operations))))
-    (λ (j : ℕ). omega (arith, announced_at part j, announced_at book j, calls-within book (all_but book call) part is j)) less
+    size-less_at book (all_but book call) part i is (omega (arith, own, is.calls i))
 
 -- A call that leaves every list is an answered call of the book.
 pub leaving_is_answered : (next : List ℕ → ℕ → List ℕ × ℕ) (book : List Page) (call : Call) → LeavesEveryList next book call → IsAnswered book call

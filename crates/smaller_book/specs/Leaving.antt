@@ -1,9 +1,9 @@
 -- The rule of calls that leave every list: they may be left out.
-use Rattle.std.specs.Prelude.{ℕ, List, unwrap_or, IsSomeAnd}
+use Rattle.std.specs.Prelude.{◌≡◌, ℕ, ◌<◌, ◌⊎◌, List, length, slice_index, unwrap_or, IsSomeAnd}
 use Rattle.book_base.specs.declared.call.Call.{Call}
 use Rattle.book_base.specs.Book.{Page, IsCall, operation_of, record_of}
 use Rattle.book_base.specs.Foresight.{Leaves}
-use Rattle.smaller_book.specs.Part.{IsNamed, IsPart, CarriesOver}
+use Rattle.smaller_book.specs.Part.{AreRising, IsNamed, IsPart, CarriesOver}
 
 -- The call is answered, and its operation leaves every list of the object with this reply.
 abbrev pub LeavesEveryList : (List ℕ → ℕ → List ℕ × ℕ) → List Page → Call → Type 0
@@ -12,6 +12,13 @@ LeavesEveryList next book call = IsSomeAnd (record_of book call) (λ r. Leaves n
 -- Each call of the book that isn't named leaves every list.
 abbrev pub LacksLeavingAlone : (List ℕ → ℕ → List ℕ × ℕ) → List Page → List (List ℕ) → Type 0
 LacksLeavingAlone next book names = (call : Call) → IsCall book call → ¬ IsNamed names call → LeavesEveryList next book call
+
+-- These are rising numbers of a caller's first calls, and each of those calls that isn't among them leaves every list.
+pub record LacksLeavingOf (next : List ℕ → ℕ → List ℕ × ℕ) (book : List Page) (i below : ℕ) (numbers : List ℕ) : Type 0 where
+  pub rising : AreRising numbers
+  pub inside : (k : ℕ) → k < length numbers → slice_index numbers k < below
+  pub lacks : (number : ℕ) → number < below
+      → ((k : ℕ) × (k < length numbers) × (slice_index numbers k ≡ number)) ⊎ LeavesEveryList next book (record { caller = i; number = number })
 
 -- A part that lacks only calls that leave every list has a legal order where the book has one.
 abbrev pub HasOneWithoutLeaving : Type 0

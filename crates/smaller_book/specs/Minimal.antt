@@ -1,12 +1,16 @@
 -- A book that no rule makes smaller.
-use Rattle.std.specs.Prelude.{◌≡◌, ℕ, ◌+◌, ◌-◌, ◌<◌, ◌++◌, cond, nat_eq, List, length, map, sum, slice_index}
+use Rattle.std.specs.Prelude.{◌≡◌, ℕ, ◌+◌, ◌-◌, ◌<◌, ◌++◌, cond, nat_eq, List, length, map, sum, slice_index, Some}
 use Rattle.std.specs.List.{range_with_len}
 use Rattle.book_base.specs.declared.call.Call.{Call}
-use Rattle.book_base.specs.Book.{Page, calls_of, announced}
+use Rattle.book_base.specs.Book.{Page, calls_of, IsCall, announced}
 use Rattle.book_base.specs.Order.{HasLegalOrder}
-use Rattle.smaller_book.specs.Part.{numbers_of, IsPart, KeepsAnswers, CarriesOver}
+use Rattle.book_base.specs.Pruning.{HasOneOpen}
+use Rattle.seq_objects.specs.declared.kind.Kind.{Kind}
+use Rattle.seq_objects.specs.Objects.{kind_init, kind_next}
+use Rattle.smaller_book.specs.Part.{numbers_of, IsPart, KeepsAnswers}
 use Rattle.smaller_book.specs.Leaving.{LeavesEveryList}
 use Rattle.smaller_book.specs.Earliest.{IsEarliest}
+use Rattle.smaller_book.specs.Keys.{key_of_call, keys_from_to, all_without, IsEvidence}
 
 -- the numbers below a count, but this one
 abbrev pub numbers_except : ℕ → ℕ → List ℕ
@@ -20,28 +24,38 @@ row_but book call i = cond (nat_eq i call.caller) (numbers_except (calls_of book
 abbrev pub all_but : List Page → Call → List (List ℕ)
 all_but book call = map (row_but book call) (range_with_len 0 (length book))
 
+-- The part of the book that has these calls alone has a legal order.
+abbrev pub HasOneWith : Kind → List Page → List (List ℕ) → Type 0
+HasOneWith kind book names =
+    (part : List Page) × IsPart book names part × KeepsAnswers book names part × HasLegalOrder (kind_init kind) (kind_next kind) part
+
 -- The part of the book without this call has a legal order.
-abbrev pub IsNeeded : List ℕ → (List ℕ → ℕ → List ℕ × ℕ) → List Page → Call → Type 0
-IsNeeded init next book call =
-    (part : List Page) × IsPart book (all_but book call) part × KeepsAnswers book (all_but book call) part × HasLegalOrder init next part
+abbrev pub IsNeeded : Kind → List Page → Call → Type 0
+IsNeeded kind book call = HasOneWith kind book (all_but book call)
+
+-- The part of the book without the calls of this key has a legal order.
+abbrev pub IsKeyNeeded : Kind → List Page → ℕ → Type 0
+IsKeyNeeded kind book key = HasOneWith kind book (all_without kind (keys_from_to key key) book)
 
 -- No rule makes the book smaller and leaves it without a legal order.
-pub record IsMinimal (init : List ℕ) (next : List ℕ → ℕ → List ℕ × ℕ) (book : List Page) : Type 0 where
+pub record IsMinimal (kind : Kind) (book : List Page) : Type 0 where
   -- the book at each earlier cut has a legal order
-  pub earliest : IsEarliest init next book
+  pub earliest : IsEarliest (kind_init kind) (kind_next kind) book
   -- and so does the book without a call that leaves every list
-  pub leaving : (call : Call) → LeavesEveryList next book call → IsNeeded init next book call
+  pub leaving : (call : Call) → LeavesEveryList (kind_next kind) book call → IsNeeded kind book call
+  -- and, where each view holds at most one unanswered call of each caller, the book without all calls of one key
+  pub keys : HasOneOpen book → (call : Call) (key : ℕ) → IsCall book call → key_of_call kind book call ≡ Some key → IsKeyNeeded kind book key
 
 -- how many calls a book has
 abbrev pub size_of : List Page → ℕ
 size_of book = sum (announced book)
 
 -- A part of a book that has no legal order, and lacks a call.
-pub record IsSmaller (init : List ℕ) (next : List ℕ → ℕ → List ℕ × ℕ) (book : List Page) (names : List (List ℕ)) (part : List Page) : Type 0 where
+pub record IsSmaller (kind : Kind) (book : List Page) (names : List (List ℕ)) (part : List Page) : Type 0 where
   pub is_part : IsPart book names part
   pub wide : length names ≡ length book
-  pub evidence : CarriesOver next book part
-  pub illegal : ¬ HasLegalOrder init next part
+  pub evidence : IsEvidence kind book part
+  pub illegal : ¬ HasLegalOrder (kind_init kind) (kind_next kind) part
   pub fewer : size_of part < size_of book
 
 -- the numbers at these places
@@ -53,9 +67,9 @@ abbrev pub composed : List (List ℕ) → List (List ℕ) → List (List ℕ)
 composed first second = map (λ i. picked (numbers_of first i) (numbers_of second i)) (range_with_len 0 (length second))
 
 -- A part of a book that has no legal order, while each earlier cut of it has one.
-pub record IsShrunk (init : List ℕ) (next : List ℕ → ℕ → List ℕ × ℕ) (book : List Page) (names : List (List ℕ)) (part : List Page) : Type 0 where
+pub record IsShrunk (kind : Kind) (book : List Page) (names : List (List ℕ)) (part : List Page) : Type 0 where
   pub is_part : IsPart book names part
   pub wide : length names ≡ length book
-  pub evidence : CarriesOver next book part
-  pub illegal : ¬ HasLegalOrder init next part
-  pub earliest : IsEarliest init next part
+  pub evidence : IsEvidence kind book part
+  pub illegal : ¬ HasLegalOrder (kind_init kind) (kind_next kind) part
+  pub earliest : IsEarliest (kind_init kind) (kind_next kind) part

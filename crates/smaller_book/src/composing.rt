@@ -3,11 +3,35 @@ ghost use Rattle.std.specs.Prelude.{◌≡◌, ℕ, ◌<◌, length, slice_index
 ghost use Rattle.smaller_book.specs.Part.{numbers_of};
 ghost use Rattle.smaller_book.specs.Numbers.{numbers_in};
 ghost use Rattle.smaller_book.specs.Earliest.{all_numbers};
-ghost use Rattle.smaller_book.specs.Minimal.{picked, composed};
+ghost use Rattle.smaller_book.specs.Minimal.{picked, composed, IsSmaller};
 
-use crate::removal::numbers_below;
+use crate::removal::{Smaller, numbers_below};
 use book_base::{Book, NoMemory};
+use seq_objects::Kind;
 use std::alloc::Global;
+
+/// A smaller book of a smaller book, with the numbers that its calls have in the first book.
+pub fn smaller_still(
+    alloc: Global,
+    kind: Kind,
+    book: &Book,
+    smaller: Smaller,
+    next: Smaller,
+) -> Result<Smaller, NoMemory>
+    requires first { IsSmaller kind book.now (numbers_in smaller.numbers.items) smaller.book }
+    requires second { IsSmaller kind smaller.book (numbers_in next.numbers.items) next.book }
+    ensures smaller { IfOk result (λ whole.
+        IsSmaller kind book.now (numbers_in whole.numbers.items) whole.book) }
+    ensures last { IfOk result (λ whole. whole.book ≡ next.book) }
+{
+    let _kind = kind;
+    let _callers = book.callers();
+    let numbers = numbers_through(alloc, &smaller.numbers, &next.numbers)?;
+    Ok(Smaller {
+        book: next.book,
+        numbers,
+    })
+}
 
 /// The numbers of all calls of a book.
 pub fn numbers_of_all(alloc: Global, book: &Book) -> Result<Vec<Vec<u64>>, NoMemory>

@@ -5,8 +5,12 @@ pub mod cases;
 mod composing;
 mod cuts;
 mod judging;
+mod keyless;
+mod keys;
 pub mod laws;
+mod leaving_calls;
 mod numbered;
+mod one_open;
 mod removal;
 mod shrinking;
 

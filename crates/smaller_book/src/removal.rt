@@ -1,9 +1,9 @@
 //! Calls that leave every list, taken out of a book.
-ghost use Rattle.std.specs.Prelude.{◌≡◌, ℕ, ◌+◌, ◌-◌, ◌<◌, ◌≤◌, ◌++◌, ◌↔◌, length, IfOk, IfSome, IfNone, IsTrue};
+ghost use Rattle.std.specs.Prelude.{◌≡◌, ℕ, ◌+◌, ◌-◌, ◌<◌, ◌≤◌, ◌++◌, [], ◌∷◌, ◌↔◌, length, if◌then◌else◌, IfOk, IfSome, IfNone, OnOk, IsTrue};
 ghost use Rattle.std.specs.List.{range_with_len};
 ghost use Rattle.book_base.specs.declared.call.Call.{Call};
-ghost use Rattle.book_base.specs.Book.{IsAnswered, IsCall};
-ghost use Rattle.seq_objects.specs.Objects.{kind_init, kind_next};
+ghost use Rattle.book_base.specs.Book.{calls_of, IsAnswered, IsCall};
+ghost use Rattle.seq_objects.specs.Objects.{kind_next};
 ghost use Rattle.smaller_book.specs.Numbers.{numbers_in};
 ghost use Rattle.smaller_book.specs.Leaving.{LeavesEveryList};
 ghost use Rattle.smaller_book.specs.Minimal.{numbers_except, row_but, all_but, IsNeeded, IsSmaller};
@@ -30,10 +30,10 @@ pub fn without_one(
     from: u32,
 ) -> Result<Option<(Smaller, u32)>, NoMemory>
     ensures smaller { IfOk result (λ found. IfSome found (λ (smaller, caller).
-        IsSmaller (kind_init kind) (kind_next kind) book.now (numbers_in smaller.numbers.items) smaller.book)) }
+        IsSmaller kind book.now (numbers_in smaller.numbers.items) smaller.book)) }
     ensures none { IfOk result (λ found. IfNone found ((call : Call) → from ≤ call.caller
         → LeavesEveryList (kind_next kind) book.now call
-        → IsNeeded (kind_init kind) (kind_next kind) book.now call)) }
+        → IsNeeded kind book.now call)) }
 {
     for caller in from..book.callers() {
         let found = without_one_of(alloc, kind, book, caller)?;
@@ -54,10 +54,10 @@ fn without_one_of(
 ) -> Result<Option<Smaller>, NoMemory>
     requires { caller < length book.now }
     ensures smaller { IfOk result (λ found. IfSome found (λ smaller.
-        IsSmaller (kind_init kind) (kind_next kind) book.now (numbers_in smaller.numbers.items) smaller.book)) }
+        IsSmaller kind book.now (numbers_in smaller.numbers.items) smaller.book)) }
     ensures none { IfOk result (λ found. IfNone found ((number : ℕ)
         → LeavesEveryList (kind_next kind) book.now (record { caller = caller; number = number })
-        → IsNeeded (kind_init kind) (kind_next kind) book.now (record { caller = caller; number = number }))) }
+        → IsNeeded kind book.now (record { caller = caller; number = number }))) }
 {
     for number in 0..book.answers(caller) {
         let call = Call { caller, number };
@@ -74,9 +74,9 @@ fn without_one_of(
 fn without(alloc: Global, kind: Kind, book: &Book, call: Call) -> Result<Option<Smaller>, NoMemory>
     requires { LeavesEveryList (kind_next kind) book.now call }
     ensures smaller { IfOk result (λ found. IfSome found (λ smaller.
-        IsSmaller (kind_init kind) (kind_next kind) book.now (numbers_in smaller.numbers.items) smaller.book)) }
+        IsSmaller kind book.now (numbers_in smaller.numbers.items) smaller.book)) }
     ensures none { IfOk result (λ found. IfNone found
-        (IsNeeded (kind_init kind) (kind_next kind) book.now call)) }
+        (IsNeeded kind book.now call)) }
 {
     let _callers = book.callers();
     let numbers = all_numbers_but(alloc, book, call)?;
@@ -91,8 +91,8 @@ fn without(alloc: Global, kind: Kind, book: &Book, call: Call) -> Result<Option<
     }
 }
 
-// Whether a call is answered, and its operation leaves every list with this reply.
-fn leaves_every_list(kind: Kind, book: &Book, call: Call) -> bool
+/// Whether an answered call's operation leaves every list with its reply.
+pub fn leaves_every_list(kind: Kind, book: &Book, call: Call) -> bool
     requires { IsAnswered book.now call }
     ensures { IsTrue result ↔ LeavesEveryList (kind_next kind) book.now call }
 {
@@ -152,4 +152,29 @@ pub fn numbers_below(alloc: Global, count: u64) -> Result<Vec<u64>, NoMemory>
         numbers.push(number)?;
     }
     Ok(numbers)
+}
+
+/// Whether a book has fewer calls of some caller than another book.
+pub fn has_fewer(few: &Book, book: &Book) -> bool
+    requires { length few.now ≡ length book.now }
+    ensures { IsTrue result → (i : ℕ) × (calls_of few.now i < calls_of book.now i) }
+{
+    for caller in 0..book.callers() {
+        if few.calls(caller) < book.calls(caller) {
+            return true;
+        }
+    }
+    false
+}
+
+/// Appends a number that is kept.
+pub fn push_if(numbers: &mut Vec<u64>, keeps: bool, number: u64) -> Result<(), NoMemory>
+    ensures { OnOk result (numbers.new.items
+        ≡ numbers.old.items ++ (if keeps then number ∷ [] else [])) }
+{
+    if keeps {
+        Ok(numbers.push(number)?)
+    } else {
+        Ok(())
+    }
 }

@@ -14,7 +14,8 @@ use Rattle.byte_streams.specs.Writing.{EndsWriting}
 use Rattle.given_book.specs.Given.{IsGiven, IsFirstGivenFault}
 use Rattle.seq_objects.specs.declared.kind.Kind.{Kind}
 use Rattle.seq_objects.specs.Objects.{kind_init, kind_next}
-use Rattle.smaller_book.specs.Part.{IsPart, CarriesOver}
+use Rattle.smaller_book.specs.Part.{IsPart}
+use Rattle.smaller_book.specs.Keys.{IsEvidence}
 use Rattle.smaller_book.specs.Minimal.{IsMinimal}
 use Rattle.text_fields.specs.declared.version.Version.TheVariants.{Second}
 use Rattle.text_refusals.specs.Refusal.{refusal_text}
@@ -35,9 +36,9 @@ pub record IsSmallerWitness (bytes text : List ℕ) : Type 0 where
   pub names : List (List ℕ)
   pub told : IsGiven bytes kind book
   pub is_part : IsPart book names part
-  pub evidence : CarriesOver (kind_next kind) book part
+  pub evidence : IsEvidence kind book part
   pub illegal : ¬ (HasLegalOrder (kind_init kind) (kind_next kind) part)
-  pub minimal : IsMinimal (kind_init kind) (kind_next kind) part
+  pub minimal : IsMinimal kind part
   pub written : IsBookText Second text kind part
 
 -- The input is refused for this fault: there are too many bytes, or else it is the first fault of the input.

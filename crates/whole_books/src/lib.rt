@@ -14,4 +14,6 @@ mod searches;
 #[cfg(test)]
 mod sets;
 #[cfg(test)]
+mod shrinks;
+#[cfg(test)]
 mod words;

@@ -1,4 +1,4 @@
-use Rattle.std.proofs.Common.{◌≡◌, ℕ, List, [], refl, ap, length, arith}
+use Rattle.std.proofs.Common.{◌≡◌, ℕ, [], refl, ap, length, arith}
 use Rattle.seq_objects.specs.Objects.{kind_next}
 use Rattle.smaller_book.proofs.cases.reads_leave.Goals as goal
 

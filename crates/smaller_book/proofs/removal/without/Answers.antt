@@ -4,6 +4,7 @@ use Rattle.seq_objects.specs.Objects.{kind_next}
 use Rattle.smaller_book.specs.Part.{IsPart}
 use Rattle.smaller_book.specs.Numbers.{numbers_in, AreNumbersOf}
 use Rattle.smaller_book.specs.Minimal.{all_but}
+use Rattle.smaller_book.proofs.Evidence.{evidence_from_all}
 use Rattle.smaller_book.proofs.Leaving.{has_one_without_leaving}
 use Rattle.smaller_book.proofs.Removing.{all_but_are_numbers, lacks_one_alone, leaving_is_call, size-less}
 use Rattle.smaller_book.proofs.removal.without.Goals as goal
@@ -29,7 +30,8 @@ returns-then-branch-clause-smaller c =
     record {
       is_part = is;
       wide = ap length c.in_ok-numbers.ensures ∙ (all_but_are_numbers book call inside).wide;
-      evidence = has_one_without_leaving (kind_next c.args.kind) book (all_but book call) small but (lacks_one_alone (kind_next c.args.kind) book call inside c.requires);
+      evidence = evidence_from_all c.args.kind book small
+          (has_one_without_leaving (kind_next c.args.kind) book (all_but book call) small but (lacks_one_alone (kind_next c.args.kind) book call inside c.requires));
       illegal = c.in_ok-is_illegal.ensures.illegal c.if-branch.true;
       fewer = size-less book call small inside but;
     }

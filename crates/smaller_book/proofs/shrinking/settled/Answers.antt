@@ -1,5 +1,4 @@
 use Rattle.std.proofs.Common.{◌≡◌, ℕ, ◌<◌, List, length, get_or, sym, ap, subst, ◌∙◌, arith}
-use Rattle.seq_objects.specs.Objects.{kind_init, kind_next}
 use Rattle.smaller_book.specs.Part.{numbers_of}
 use Rattle.smaller_book.specs.Numbers.{numbers_in}
 use Rattle.smaller_book.specs.Minimal.{composed, IsShrunk}
@@ -18,20 +17,19 @@ numbers_through-requires-clause-inside c =
 
 pub returns-clause-shrunk : goal.returns-clause-shrunk
 returns-clause-shrunk c =
-    let init = kind_init c.args.kind in
-    let next = kind_next c.args.kind in
+    let kind = c.args.kind in
     let book = c.args.book.now in
     let without = c.args.without in
     let part = c.in_ok-part.part in
     let first : List (List ℕ) = numbers_in without.numbers.items in
     let second : List (List ℕ) = numbers_in part.numbers.items in
-    let whole : IsShrunk init next book (composed first second) part.book
-    = shrunk_twice init next book without.book part.book first second c.requires.is_part c.requires.evidence c.in_ok-part.ensures in
+    let whole : IsShrunk kind book (composed first second) part.book
+    = shrunk_twice kind book without.book part.book first second c.requires.is_part c.requires.evidence c.in_ok-part.ensures in
     let same : numbers_in c.in_ok-numbers.numbers.items ≡ composed first second
     = c.in_ok-numbers.ensures
     ∙ (ap (λ rows. composed (numbers_in rows) (numbers_in c.deref-2.result.now)) c.deref.ensures.value
     ∙ ap (λ rows. composed first (numbers_in rows)) c.deref-2.ensures.value) in
-    subst (λ names. IsShrunk init next book names part.book) (sym same) whole
+    subst (λ names. IsShrunk kind book names part.book) (sym same) whole
 
 pub returns-clause-fewer : goal.returns-clause-fewer
 returns-clause-fewer c =

@@ -1,5 +1,4 @@
 use Rattle.std.proofs.Common.{rules, ◌≡◌, ℕ, ◌<◌, List, length, get_or, sym, ap, subst, ◌∙◌}
-use Rattle.seq_objects.specs.Objects.{kind_init, kind_next}
 use Rattle.smaller_book.specs.Part.{numbers_of}
 use Rattle.smaller_book.specs.Numbers.{numbers_in}
 use Rattle.smaller_book.specs.Minimal.{composed, IsShrunk}
@@ -10,7 +9,7 @@ pub numbers_through-requires-clause-inside : goal.numbers_through-requires-claus
 numbers_through-requires-clause-inside c =
     let smaller = c.shrinking.smaller in
     let found = c.in-Some.next in
-    let shrunk : IsShrunk (kind_init c.args.kind) (kind_next c.args.kind) smaller.book (numbers_in found.numbers.items) found.book = search rules in
+    let shrunk : IsShrunk c.args.kind smaller.book (numbers_in found.numbers.items) found.book = search rules in
     let all = places_inside c.args.book.now smaller.book found.book (numbers_in smaller.numbers.items) (numbers_in found.numbers.items) c.shrinking.invariant.is_part shrunk.is_part in
     let P : List (List ℕ) → List (List ℕ) → Type 0 = λ first second. (i k : ℕ) → k < length (numbers_of second i) → get_or (numbers_of second i) k 0 < length (numbers_of first i) in
     subst (λ rows. P (numbers_in rows) (numbers_in c.deref-in-Some.result.now)) (sym c.deref.ensures.value)
@@ -18,18 +17,17 @@ numbers_through-requires-clause-inside c =
 
 pub shrinking-preserved : goal.shrinking-preserved
 shrinking-preserved c =
-    let init = kind_init c.args.kind in
-    let next = kind_next c.args.kind in
+    let kind = c.args.kind in
     let book = c.args.book.now in
     let smaller = c.shrinking.smaller in
     let found = c.in-Some.next in
     let first : List (List ℕ) = numbers_in smaller.numbers.items in
     let second : List (List ℕ) = numbers_in found.numbers.items in
-    let shrunk : IsShrunk init next smaller.book second found.book = search rules in
-    let whole : IsShrunk init next book (composed first second) found.book
-    = shrunk_twice init next book smaller.book found.book first second c.shrinking.invariant.is_part c.shrinking.invariant.evidence shrunk in
+    let shrunk : IsShrunk kind smaller.book second found.book = search rules in
+    let whole : IsShrunk kind book (composed first second) found.book
+    = shrunk_twice kind book smaller.book found.book first second c.shrinking.invariant.is_part c.shrinking.invariant.evidence shrunk in
     let same : numbers_in c.in_ok-numbers-in-Some.numbers.items ≡ composed first second
     = c.in_ok-numbers-in-Some.ensures
     ∙ (ap (λ rows. composed (numbers_in rows) (numbers_in c.deref-in-Some.result.now)) c.deref.ensures.value
     ∙ ap (λ rows. composed first (numbers_in rows)) c.deref-in-Some.ensures.value) in
-    subst (λ names. IsShrunk init next book names found.book) (sym same) whole
+    subst (λ names. IsShrunk kind book names found.book) (sym same) whole

@@ -1,10 +1,9 @@
-use Rattle.seq_objects.specs.Objects.{kind_init, kind_next}
 use Rattle.smaller_book.specs.Numbers.{numbers_in}
 use Rattle.smaller_book.specs.Minimal.{IsShrunk, size_of}
 use Rattle.smaller_book.proofs.shrinking.shrink.Given as goal
 
 abbrev pub invariant-shrinking : goal.invariant-shrinking
-invariant-shrinking l = IsShrunk (kind_init l.kind) (kind_next l.kind) l.book (numbers_in l.smaller.numbers.items) l.smaller.book
+invariant-shrinking l = IsShrunk l.kind l.book (numbers_in l.smaller.numbers.items) l.smaller.book
 
 abbrev pub decreases-shrinking : goal.decreases-shrinking
 decreases-shrinking l = size_of l.smaller.book

@@ -1,0 +1,273 @@
+//! Calls of one key or of several, taken out of a book together.
+ghost use Rattle.std.specs.Prelude.{◌≡◌, ℕ, ◌<◌, length, Some, IfOk, IfSome, IfNone};
+ghost use Rattle.book_base.specs.declared.call.Call.{Call};
+ghost use Rattle.book_base.specs.Book.{calls_of, IsCall};
+ghost use Rattle.book_base.specs.Pruning.{HasOneOpen};
+ghost use Rattle.smaller_book.specs.Part.{IsPart, KeepsAnswers};
+ghost use Rattle.smaller_book.specs.Numbers.{numbers_in};
+ghost use Rattle.smaller_book.specs.Keys.{key_of_call, is_among, keys_from_to, row_without, all_without};
+ghost use Rattle.smaller_book.specs.Minimal.{IsKeyNeeded, IsSmaller};
+
+use crate::composing::smaller_still;
+use crate::judging::is_illegal;
+use crate::keys::{key_of, keys_of};
+use crate::numbered::part;
+use crate::one_open::has_one_open;
+use crate::removal::{Smaller, has_fewer, push_if};
+use book_base::{Book, Call, NoMemory};
+use seq_objects::Kind;
+use std::alloc::Global;
+
+/// The book without as many keys as can be left out one half after another: all keys, their halves, their
+/// quarters, down to single ones.
+pub fn without_halves(alloc: Global, kind: Kind, book: &Book) -> Result<Option<Smaller>, NoMemory>
+    ensures { IfOk result (λ found. IfSome found (λ smaller.
+        IsSmaller kind book.now (numbers_in smaller.numbers.items) smaller.book)) }
+{
+    let keys = keys_of(alloc, kind, book)?;
+    let mut found = None;
+    let mut size = keys.len();
+    while size > 0 {
+        found = without_chunks(alloc, kind, book, found, &keys, size)?;
+        size /= 2;
+    }
+    Ok(found)
+}
+
+// The book without more keys still: of so many keys after one another at a time.
+fn without_chunks(
+    alloc: Global,
+    kind: Kind,
+    book: &Book,
+    found: Option<Smaller>,
+    keys: &[u64],
+    size: usize,
+) -> Result<Option<Smaller>, NoMemory>
+    requires size { 0 < size }
+    requires found { IfSome found (λ smaller.
+        IsSmaller kind book.now (numbers_in smaller.numbers.items) smaller.book) }
+    ensures { IfOk result (λ found. IfSome found (λ smaller.
+        IsSmaller kind book.now (numbers_in smaller.numbers.items) smaller.book)) }
+{
+    let mut fewest = found;
+    for chunk in keys.chunks(size) {
+        if let (Some(first), Some(last)) = (chunk.first(), chunk.last()) {
+            fewest = without_chunk(alloc, kind, book, fewest, *first, *last)?;
+        }
+    }
+    Ok(fewest)
+}
+
+// The book without the keys from a first one to a last one too, where it has no legal order without them.
+fn without_chunk(
+    alloc: Global,
+    kind: Kind,
+    book: &Book,
+    found: Option<Smaller>,
+    first: u64,
+    last: u64,
+) -> Result<Option<Smaller>, NoMemory>
+    requires found { IfSome found (λ smaller.
+        IsSmaller kind book.now (numbers_in smaller.numbers.items) smaller.book) }
+    ensures { IfOk result (λ found. IfSome found (λ smaller.
+        IsSmaller kind book.now (numbers_in smaller.numbers.items) smaller.book)) }
+{
+    match found {
+        None => without_some(alloc, kind, book, first, last),
+        Some(smaller) => match without_some(alloc, kind, &smaller.book, first, last)? {
+            None => Ok(Some(smaller)),
+            Some(next) => Ok(Some(smaller_still(alloc, kind, book, smaller, next)?)),
+        },
+    }
+}
+
+// The book without the keys from a first one to a last one, where it has fewer calls and no legal order
+// without them.
+fn without_some(
+    alloc: Global,
+    kind: Kind,
+    book: &Book,
+    first: u64,
+    last: u64,
+) -> Result<Option<Smaller>, NoMemory>
+    ensures { IfOk result (λ found. IfSome found (λ smaller.
+        IsSmaller kind book.now (numbers_in smaller.numbers.items) smaller.book)) }
+{
+    if !has_one_open(book) {
+        return Ok(None);
+    }
+    let smaller = part_without(alloc, kind, book, first, last)?;
+    if !has_fewer(&smaller.book, book) {
+        return Ok(None);
+    }
+    if is_illegal(alloc, kind, &smaller.book)? {
+        Ok(Some(smaller))
+    } else {
+        Ok(None)
+    }
+}
+
+/// The book without the first key that isn't needed for the book to have no legal order. None is looked for
+/// where a view holds two unanswered calls of a caller.
+pub fn without_one_key(alloc: Global, kind: Kind, book: &Book) -> Result<Option<Smaller>, NoMemory>
+    ensures smaller { IfOk result (λ found. IfSome found (λ smaller.
+        IsSmaller kind book.now (numbers_in smaller.numbers.items) smaller.book)) }
+    ensures none { IfOk result (λ found. IfNone found (HasOneOpen book.now → (call : Call) (key : ℕ)
+        → IsCall book.now call → key_of_call kind book.now call ≡ Some key → IsKeyNeeded kind book.now key)) }
+{
+    if !has_one_open(book) {
+        return Ok(None);
+    }
+    for caller in 0..book.callers() {
+        let found = without_key_of_caller(alloc, kind, book, caller)?;
+        match found {
+            Some(smaller) => return Ok(Some(smaller)),
+            None => {}
+        }
+    }
+    Ok(None)
+}
+
+// The book without a key that calls of this caller are about.
+fn without_key_of_caller(
+    alloc: Global,
+    kind: Kind,
+    book: &Book,
+    caller: u32,
+) -> Result<Option<Smaller>, NoMemory>
+    requires open { HasOneOpen book.now }
+    requires caller { caller < length book.now }
+    ensures smaller { IfOk result (λ found. IfSome found (λ smaller.
+        IsSmaller kind book.now (numbers_in smaller.numbers.items) smaller.book)) }
+    ensures none { IfOk result (λ found. IfNone found ((number key : ℕ) → number < calls_of book.now caller
+        → key_of_call kind book.now (record { caller = caller; number = number }) ≡ Some key
+        → IsKeyNeeded kind book.now key)) }
+{
+    for number in 0..book.calls(caller) {
+        let found = without_key_of(alloc, kind, book, Call { caller, number })?;
+        match found {
+            Some(smaller) => return Ok(Some(smaller)),
+            None => {}
+        }
+    }
+    Ok(None)
+}
+
+// The book without the key of this call, where it has no legal order without it.
+fn without_key_of(
+    alloc: Global,
+    kind: Kind,
+    book: &Book,
+    call: Call,
+) -> Result<Option<Smaller>, NoMemory>
+    requires open { HasOneOpen book.now }
+    requires call { IsCall book.now call }
+    ensures smaller { IfOk result (λ found. IfSome found (λ smaller.
+        IsSmaller kind book.now (numbers_in smaller.numbers.items) smaller.book)) }
+    ensures none { IfOk result (λ found. IfNone found ((key : ℕ)
+        → key_of_call kind book.now call ≡ Some key → IsKeyNeeded kind book.now key)) }
+{
+    match key_of(kind, book, call) {
+        None => Ok(None),
+        Some(key) => without_key(alloc, kind, book, call, key),
+    }
+}
+
+// The book without this key of this call, where it has no legal order without it.
+fn without_key(
+    alloc: Global,
+    kind: Kind,
+    book: &Book,
+    call: Call,
+    key: u64,
+) -> Result<Option<Smaller>, NoMemory>
+    requires open { HasOneOpen book.now }
+    requires call { IsCall book.now call }
+    requires key { key_of_call kind book.now call ≡ Some key }
+    ensures smaller { IfOk result (λ found. IfSome found (λ smaller.
+        IsSmaller kind book.now (numbers_in smaller.numbers.items) smaller.book)) }
+    ensures none { IfOk result (λ found. IfNone found (IsKeyNeeded kind book.now key)) }
+{
+    let _call = call;
+    let _callers = book.callers();
+    let smaller = part_without(alloc, kind, book, key, key)?;
+    if is_illegal(alloc, kind, &smaller.book)? {
+        Ok(Some(smaller))
+    } else {
+        Ok(None)
+    }
+}
+
+// The part of a book without the calls that are about the keys from a first one to a last one.
+fn part_without(
+    alloc: Global,
+    kind: Kind,
+    book: &Book,
+    first: u64,
+    last: u64,
+) -> Result<Smaller, NoMemory>
+    ensures part { IfOk result (λ smaller.
+        IsPart book.now (all_without kind (keys_from_to first last) book.now) smaller.book) }
+    ensures answers { IfOk result (λ smaller.
+        KeepsAnswers book.now (all_without kind (keys_from_to first last) book.now) smaller.book) }
+    ensures numbers { IfOk result (λ smaller.
+        numbers_in smaller.numbers.items ≡ all_without kind (keys_from_to first last) book.now) }
+{
+    let _callers = book.callers();
+    let numbers = numbers_without(alloc, kind, book, first, last)?;
+    let smaller = part(alloc, book, &numbers)?;
+    Ok(Smaller {
+        book: smaller,
+        numbers,
+    })
+}
+
+// The numbers of all calls that are about none of the keys from a first one to a last one.
+fn numbers_without(
+    alloc: Global,
+    kind: Kind,
+    book: &Book,
+    first: u64,
+    last: u64,
+) -> Result<Vec<Vec<u64>>, NoMemory>
+    ensures { IfOk result (λ rows.
+        numbers_in rows.items ≡ all_without kind (keys_from_to first last) book.now) }
+{
+    let mut rows = Vec::new(alloc);
+    for caller in 0..book.callers() {
+        rows.push(numbers_of_caller(alloc, kind, book, caller, first, last)?)?;
+    }
+    Ok(rows)
+}
+
+// The numbers of a caller's calls that are about none of the keys from a first one to a last one.
+fn numbers_of_caller(
+    alloc: Global,
+    kind: Kind,
+    book: &Book,
+    caller: u32,
+    first: u64,
+    last: u64,
+) -> Result<Vec<u64>, NoMemory>
+    requires { caller < length book.now }
+    ensures { IfOk result (λ numbers.
+        numbers.items ≡ row_without kind (keys_from_to first last) book.now caller) }
+{
+    let mut numbers = Vec::new(alloc);
+    for number in 0..book.calls(caller) {
+        let key = key_of(kind, book, Call { caller, number });
+        let out = is_from_to(first, last, key);
+        push_if(&mut numbers, !out, number)?;
+    }
+    Ok(numbers)
+}
+
+// Whether there is a key, and it is from a first one to a last one.
+fn is_from_to(first: u64, last: u64, key: Option<u64>) -> bool
+    ensures { result ≡ is_among (keys_from_to first last) key }
+{
+    match key {
+        Some(key) => first <= key && key <= last,
+        None => false,
+    }
+}
