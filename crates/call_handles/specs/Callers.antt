@@ -1,0 +1,111 @@
+-- The handle of a caller: what it has, when its parts belong together, and what its calls leave of it.
+use Rattle.std.specs.Prelude.{◌≡◌, ℕ, ◌<◌, false, List, Option}
+use Rattle.std.specs.Arc.{arc_value}
+use Rattle.book_base.specs.declared.call.Record.{Record}
+use Rattle.book_base.specs.Order.{HasLegalOrder}
+use Rattle.world_core.specs.Shape.{Meaning}
+use Rattle.world_core.specs.Programs.{outside}
+use Rattle.world_core.specs.declared.program.Outside.{Outside}
+use Rattle.seq_objects.specs.declared.kind.Kind.{Kind}
+use Rattle.seq_objects.specs.Objects.{kind_init, kind_next}
+use Rattle.book_text.specs.BookRules.{IsBookText}
+use Rattle.text_fields.specs.declared.version.Version.TheVariants.{Second}
+use Rattle.row_table.specs.declared.caller.Caller.{Caller}
+use Rattle.row_table.specs.declared.rows.Rows.{Rows}
+use Rattle.row_table.specs.Callers.{local_with, stance_of, IsCallerOf, IsFree}
+use Rattle.row_gather.specs.declared.gathered.Gathered.{Gathered}
+use Rattle.row_gather.specs.Gathered.{IsGatheredBy}
+use Rattle.drv_wrapper.specs.declared.announced.Announced as announced
+use Rattle.drv_wrapper.specs.Stands.{ready}
+use Rattle.drv_wrapper.specs.States.{caller_announced, announced_local}
+use Rattle.enforcer.specs.declared.outcome.Outcome.{Outcome}
+use Rattle.enforcer.specs.declared.outcome.Outcome.TheVariants as outcome
+use Rattle.enforcer.specs.Judged.{is_illegal}
+use Rattle.call_handles.specs.declared.stage.Stage.{Stage}
+use Rattle.call_handles.specs.declared.stage.Stage.TheVariants.{Idle, Announced, Wrong, Unjudged}
+use Rattle.call_handles.specs.declared.stage.Wrong as wrong
+use Rattle.call_handles.specs.declared.caller_handle.Answer.{Answer}
+use Rattle.call_handles.specs.declared.caller_handle.Answer.TheVariants as answer
+use Rattle.call_handles.specs.declared.caller_handle.CallerHandle.{CallerHandle}
+use Rattle.call_handles.specs.Ends.{IsAnnouncedBy, IsPublishedBy, IsJudgedAs}
+
+-- The object of these callers is outside the world, which allows every reply.
+abbrev pub every_reply : Outside → ℕ → ℕ → Meaning
+every_reply program n cap = outside
+
+-- The rows of the table, the kind by which calls are judged, and where the caller stands.
+abbrev pub rows_of : CallerHandle → Rows Outside
+rows_of h = arc_value h.kept.rows
+
+abbrev pub kind_of : CallerHandle → Kind
+kind_of h = h.kept.kind
+
+abbrev pub stage_of : CallerHandle → Stage
+stage_of h = h.stage
+
+-- The caller that stands so.
+abbrev pub caller_in : Stage → Caller Outside
+caller_in (Idle c) = c
+caller_in (Announced call) = caller_announced call
+caller_in (Wrong w) = w.caller
+caller_in (Unjudged c) = c
+
+-- The caller is one of these rows and stands as the stage says, what is kept it has gathered itself, and the book of an error has no
+-- legal order.
+abbrev pub IsSoundAt : Rows Outside → Kind → Option Gathered → Stage → Type 0
+IsSoundAt r kind gathered (Idle c) = IsCallerOf every_reply r c × IsFree c × IsGatheredBy (local_with c) gathered
+IsSoundAt r kind gathered (Announced call) = IsCallerOf every_reply r (caller_announced call) × IsGatheredBy (announced_local call) gathered
+IsSoundAt r kind gathered (Wrong w) = IsCallerOf every_reply r w.caller × ¬ HasLegalOrder (kind_init kind) (kind_next kind) w.book
+IsSoundAt r kind gathered (Unjudged c) = IsCallerOf every_reply r c
+
+abbrev pub IsSoundCaller : CallerHandle → Type 0
+IsSoundCaller h = IsSoundAt (rows_of h) h.kept.kind h.kept.gathered h.stage
+
+-- The two handles are of one table, and judge by one kind.
+abbrev pub IsOfSameTable : CallerHandle → CallerHandle → Type 0
+IsOfSameTable h k = (rows_of k ≡ rows_of h) × (kind_of k ≡ kind_of h)
+
+-- The caller stands between two calls and has a call left; it has announced a call; its last call was an error.
+abbrev pub MayAnnounce : CallerHandle → Type 0
+MayAnnounce h = (c : Caller Outside) × (h.stage ≡ Idle c) × ((local_with c).announced < (rows_of h).cap)
+
+abbrev pub HasAnnounced : CallerHandle → Type 0
+HasAnnounced h = (call : announced.Announced Outside) × (h.stage ≡ Announced call)
+
+abbrev pub IsInError : CallerHandle → Type 0
+IsInError h = (w : wrong.Wrong) × (h.stage ≡ Wrong w)
+
+-- The caller of the one handle announced a call with this operation, and stands so at the other.
+abbrev pub HasBegun : ℕ → CallerHandle → CallerHandle → Type 0
+HasBegun op h k =
+    (c : Caller Outside) × (call : announced.Announced Outside) × (h.stage ≡ Idle c) × (k.stage ≡ Announced call)
+    × IsAnnouncedBy every_reply (rows_of h) c op call
+
+-- The outcome of a call that was an error.
+abbrev pub outcome_of : wrong.Wrong → Outcome
+outcome_of w = outcome.Illegal w.reply w.view w.seen w.book
+
+-- What the answer to a call that was announced says, by where its caller stands afterwards: delivered, with a legal order of the
+-- published records at the seen cut; wrong, with their book, which has none; or not judged, and then the record is published all the
+-- same, and the caller halted.
+abbrev pub AnswersFor : Rows Outside → Kind → announced.Announced Outside → ℕ → Stage → Answer → Type 0
+AnswersFor r kind call reply stage answer.Delivered =
+    (c : Caller Outside) × (found : Outcome) × (stage ≡ Idle c) × (is_illegal found ≡ false)
+    × IsJudgedAs every_reply r (kind_init kind) (kind_next kind) call reply c found
+AnswersFor r kind call reply stage answer.Illegal =
+    (w : wrong.Wrong) × (stage ≡ Wrong w)
+    × IsJudgedAs every_reply r (kind_init kind) (kind_next kind) call reply w.caller (outcome_of w)
+AnswersFor r kind call reply stage answer.Unjudged =
+    (c : Caller Outside) × (told : Record) × (seen : List ℕ) × (stage ≡ Unjudged c)
+    × IsPublishedBy every_reply r call reply c told seen × (stance_of c ≡ record ready { live = false })
+
+-- The call that was announced at the one handle has this reply and this answer, and its caller stands so at the other.
+abbrev pub HasEnded : ℕ → CallerHandle → Answer → CallerHandle → Type 0
+HasEnded reply h found k =
+    (call : announced.Announced Outside) × (h.stage ≡ Announced call) × AnswersFor (rows_of h) (kind_of h) call reply k.stage found
+
+-- The bytes are the text of the book of the handle's error, which has no legal order.
+abbrev pub IsWitnessOf : CallerHandle → List ℕ → Type 0
+IsWitnessOf h bytes =
+    (w : wrong.Wrong) × (h.stage ≡ Wrong w) × IsBookText Second bytes (kind_of h) w.book
+    × ¬ HasLegalOrder (kind_init (kind_of h)) (kind_next (kind_of h)) w.book

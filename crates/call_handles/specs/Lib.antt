@@ -1,0 +1,4 @@
+pub mod Passes
+pub mod Told
+pub mod Ends
+pub mod Callers

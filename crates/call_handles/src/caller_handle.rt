@@ -1,0 +1,140 @@
+ghost use Rattle.std.specs.Prelude.{◌≡◌, ◌↔◌, IsTrue, IsSome, IfSome, IfNone, IfOk};
+ghost use Rattle.std.specs.Arc.{arc_value};
+ghost use Rattle.row_table.specs.Callers.{who_of, IsCallerOf, IsFree};
+
+use crate::announcing::announce_alone;
+use crate::judging::judge_alone;
+use crate::kept::Kept;
+use crate::stage::{Stage, Wrong};
+use book_base::{NoMemory, OpWord};
+use book_writer::write_book;
+use frontier_check::Guide;
+use row_table::{Caller, Rows};
+use seq_objects::Kind;
+use std::alloc::Global;
+use std::sync::Arc;
+
+/// One caller of a table, with all that its calls need.
+///
+/// It makes one call at a time: [`announce`](CallerHandle::announce), then the object's own call, wherever that is
+/// made, then [`answered`](CallerHandle::answered) with its reply.
+#[derive(Drop)]
+pub struct CallerHandle {
+    pub(crate) kept: Kept,
+    pub(crate) stage: Stage,
+}
+
+/// What became of a call whose reply was handed in.
+#[derive(Clone, Copy, Debug, PartialEq, Eq)]
+pub enum Answer {
+    /// The reply is delivered: the published records at the seen cut have a legal order.
+    Delivered,
+    /// The object is wrong: they have none.
+    Illegal,
+    /// Memory was refused, and nobody has checked the reply.
+    Unjudged,
+}
+
+impl CallerHandle {
+    ghost use Rattle.call_handles.specs.Callers.{every_reply, rows_of, kind_of, stage_of, caller_in, IsSoundCaller, IsOfSameTable, MayAnnounce, HasAnnounced, IsInError, HasBegun, HasEnded, IsWitnessOf};
+
+    /// The handle of a caller of this table, which is between two calls. Its calls are judged by this kind, and begin the
+    /// search for an order with this guide.
+    pub fn new(rows: Arc<Rows, Global>, kind: Kind, caller: Caller, guide: Guide) -> CallerHandle
+        requires caller { IsCallerOf every_reply (arc_value rows) caller }
+        requires free { IsFree caller }
+        ensures sound { IsSoundCaller result }
+        ensures table { (rows_of result ≡ arc_value rows) × (kind_of result ≡ kind) }
+        ensures idle { stage_of result ≡ Stage.Idle caller }
+    {
+        CallerHandle {
+            kept: Kept {
+                rows,
+                kind,
+                gathered: None,
+                guide,
+            },
+            stage: Stage::Idle(caller),
+        }
+    }
+
+    /// The caller, which may go back to its bench. A call that is announced stays unanswered, and then the caller is
+    /// halted.
+    pub fn into_caller(self) -> Caller
+        requires sound { IsSoundCaller self }
+        ensures caller { IsCallerOf every_reply (rows_of self) result }
+        ensures who { who_of result ≡ who_of (caller_in (stage_of self)) }
+    {
+        let CallerHandle { kept: _, stage } = self;
+        match stage {
+            Stage::Idle(caller) | Stage::Unjudged(caller) => caller,
+            Stage::Announced(call) => call.stop(),
+            Stage::Wrong(wrong) => {
+                let Wrong {
+                    caller,
+                    reply: _,
+                    view: _,
+                    seen: _,
+                    book: _,
+                } = wrong;
+                caller
+            }
+        }
+    }
+
+    /// Announces a call with this operation, where the caller stands between two calls and has a call left: whether
+    /// it does. Else the handle is as it was.
+    pub fn announce(self, op: OpWord) -> (CallerHandle, bool)
+        requires sound { IsSoundCaller self }
+        ensures sound { IsSoundCaller result.0 }
+        ensures same { IsOfSameTable self result.0 }
+        ensures when { IsTrue result.1 ↔ MayAnnounce self }
+        ensures begun { IsTrue result.1 → HasBegun op self result.0 }
+        ensures unchanged { ¬ IsTrue result.1 → result.0 ≡ self }
+    {
+        let CallerHandle { kept, stage } = self;
+        match stage {
+            Stage::Idle(caller) => {
+                if caller.left() == 0 {
+                    let stage = Stage::Idle(caller);
+                    return (CallerHandle { kept, stage }, false);
+                }
+                let stage = Stage::Announced(announce_alone(&kept.rows, caller, op));
+                (CallerHandle { kept, stage }, true)
+            }
+            stage => (CallerHandle { kept, stage }, false),
+        }
+    }
+
+    /// Hands in the reply of the object to the call that is announced, which is judged. There is no answer where none
+    /// is announced, and then the handle is as it was.
+    pub fn answered(self, alloc: Global, reply: u64) -> (CallerHandle, Option<Answer>)
+        requires sound { IsSoundCaller self }
+        ensures sound { IsSoundCaller result.0 }
+        ensures same { IsOfSameTable self result.0 }
+        ensures when { IsSome result.1 ↔ HasAnnounced self }
+        ensures ended { IfSome result.1 (λ answer. HasEnded reply self answer result.0) }
+        ensures unchanged { IfNone result.1 (result.0 ≡ self) }
+    {
+        let CallerHandle { mut kept, stage } = self;
+        match stage {
+            Stage::Announced(call) => {
+                let (stage, answer) = judge_alone(alloc, &mut kept, call, reply);
+                (CallerHandle { kept, stage }, Some(answer))
+            }
+            stage => (CallerHandle { kept, stage }, None),
+        }
+    }
+
+    /// The text of the book of the call that was an error, where the last call was one.
+    pub fn witness(&self, alloc: Global) -> Result<Option<Vec<u8>>, NoMemory>
+        requires sound { IsSoundCaller self.now }
+        ensures when { IfOk result (λ found. IsSome found ↔ IsInError self.now) }
+        ensures text { IfOk result (λ found. IfSome found (λ text. IsWitnessOf self.now text.items)) }
+    {
+        match &self.stage {
+            Stage::Wrong(wrong) => Ok(Some(write_book(alloc, self.kept.kind, &wrong.book)?)),
+            _ => Ok(None),
+        }
+    }
+}

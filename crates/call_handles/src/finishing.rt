@@ -1,0 +1,53 @@
+ghost use Rattle.std.specs.Prelude.{◌≡◌, false, IfOk, IfErr};
+ghost use Rattle.world_core.specs.Local.{IsIdle};
+ghost use Rattle.row_table.specs.Callers.{local_with, stance_of, IsCallerOf};
+ghost use Rattle.row_gather.specs.Gathered.{IsGatheredBy};
+ghost use Rattle.drv_wrapper.specs.Stands.{ready};
+ghost use Rattle.drv_wrapper.specs.States.{caller_announced, announced_local};
+ghost use Rattle.enforcer.specs.Enforced.{record_unjudged};
+ghost use Rattle.call_handles.specs.Ends.{IsPublishedBy, IsJudgedAs};
+
+use crate::handed::hand_in;
+use book_base::SeqObject;
+use drv_wrapper::{Announced, view};
+use enforcer::{Gathered, Outcome, Unjudged, judge, publish, seen};
+use frontier_check::Guide;
+use row_table::{Caller, Rows, Steps};
+use seq_objects::Kind;
+use std::alloc::Global;
+use std::sync::ledger::Ledger;
+use world_core::{Outside, Program};
+
+/// What an announced call comes to whose reply is handed in: the view is taken, reply and view are published, the
+/// published records are seen, and the book at the seen cut is judged.
+///
+/// It is all of [`enforce`](enforcer::enforce) that comes after the object has answered.
+pub(crate) fn finish<L: Ledger>(
+    alloc: Global,
+    rows: &Rows,
+    announced: Announced,
+    kind: Kind,
+    reply: u64,
+    gathered: &mut Option<Gathered>,
+    guide: &mut Guide,
+    steps: &mut Steps<L>,
+) -> Result<(Caller, Outcome), Unjudged>
+    requires rows { IsCallerOf ⟦<Outside as Program>⟧.meaning rows.now (caller_announced announced) }
+    requires gathered { IsGatheredBy (announced_local announced) gathered.old }
+    ensures judged { IfOk result (λ r.
+        IsJudgedAs ⟦<Outside as Program>⟧.meaning rows.now
+        (⟦<Kind as SeqObject>⟧.init kind) (⟦<Kind as SeqObject>⟧.next kind) announced reply r.0 r.1) }
+    ensures idle { IfOk result (λ r. IsIdle (local_with r.0)) }
+    ensures kept { IfOk result (λ r. IsGatheredBy (local_with r.0) gathered.new) }
+    ensures unjudged { IfErr result (λ u.
+        IsPublishedBy ⟦<Outside as Program>⟧.meaning rows.now announced reply
+        u.caller (record_unjudged u) u.seen) }
+    ensures unjudged_stands { IfErr result (λ u.
+        stance_of u.caller ≡ record ready { live = false }) }
+{
+    let answered = hand_in(announced, reply);
+    let viewed = view(answered, rows, steps);
+    let published = publish(viewed, rows, steps);
+    let seen = seen(published, rows, steps);
+    judge(alloc, &kind, rows, seen, gathered, guide, steps)
+}

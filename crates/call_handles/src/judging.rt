@@ -1,0 +1,89 @@
+ghost use Rattle.std.specs.Prelude.{◌≡◌, ◌<◌};
+ghost use Rattle.std.specs.Arc.{arc_value};
+ghost use Rattle.row_table.specs.Callers.{IsCallerOf};
+ghost use Rattle.row_gather.specs.Gathered.{IsGatheredBy};
+ghost use Rattle.drv_wrapper.specs.States.{caller_announced, announced_local};
+ghost use Rattle.call_handles.specs.Callers.{every_reply, IsSoundAt, AnswersFor};
+
+use crate::caller_handle::Answer;
+use crate::finishing::finish;
+use crate::kept::Kept;
+use crate::stage::{Stage, Wrong};
+use drv_wrapper::Announced;
+use enforcer::{Outcome, Unjudged};
+use row_table::Steps;
+use std::alloc::Global;
+use std::marker::Brand;
+use std::sync::ledger::{Blank, Ledger};
+
+// Judges a call whose reply is handed in. Its steps are counted by themselves.
+fn judge_counted<L: Ledger>(
+    alloc: Global,
+    kept: &mut Kept,
+    call: Announced,
+    reply: u64,
+    blank: Blank,
+) -> (Stage, Answer)
+    requires blank { (blank.name ≡ L.name) × (blank.parts ≡ L.parts) × (0 < blank.parts) }
+    requires rows { IsCallerOf every_reply (arc_value kept.old.rows) (caller_announced call) }
+    requires gathered { IsGatheredBy (announced_local call) kept.old.gathered }
+    ensures same { (kept.new.rows ≡ kept.old.rows) × (kept.new.kind ≡ kept.old.kind) }
+    ensures sound { IsSoundAt (arc_value kept.old.rows) kept.old.kind kept.new.gathered result.0 }
+    ensures ended { AnswersFor (arc_value kept.old.rows) kept.old.kind call reply result.0 result.1 }
+{
+    let mut steps = Steps::<L>::new(blank);
+    let ended = finish(
+        alloc,
+        &kept.rows,
+        call,
+        kept.kind,
+        reply,
+        &mut kept.gathered,
+        &mut kept.guide,
+        &mut steps,
+    );
+    match ended {
+        Ok((caller, outcome)) => match outcome {
+            Outcome::Delivered { .. } => (Stage::Idle(caller), Answer::Delivered),
+            Outcome::Illegal {
+                reply,
+                view,
+                seen,
+                book,
+            } => {
+                let wrong = Wrong {
+                    caller,
+                    reply,
+                    view,
+                    seen,
+                    book,
+                };
+                (Stage::Wrong(wrong), Answer::Illegal)
+            }
+        },
+        Err(
+            Unjudged {
+                caller,
+                reply: _,
+                view: _,
+                seen: _,
+            },
+        ) => (Stage::Unjudged(caller), Answer::Unjudged),
+    }
+}
+
+/// Judges a call whose reply is handed in: where its caller stands afterwards, and the answer.
+pub(crate) fn judge_alone(
+    alloc: Global,
+    kept: &mut Kept,
+    call: Announced,
+    reply: u64,
+) -> (Stage, Answer)
+    requires rows { IsCallerOf every_reply (arc_value kept.old.rows) (caller_announced call) }
+    requires gathered { IsGatheredBy (announced_local call) kept.old.gathered }
+    ensures same { (kept.new.rows ≡ kept.old.rows) × (kept.new.kind ≡ kept.old.kind) }
+    ensures sound { IsSoundAt (arc_value kept.old.rows) kept.old.kind kept.new.gathered result.0 }
+    ensures ended { AnswersFor (arc_value kept.old.rows) kept.old.kind call reply result.0 result.1 }
+{
+    judge_counted::<Brand>(alloc, kept, call, reply, Blank::new(1))
+}

@@ -1,0 +1,15 @@
+//! A table of callers and each of its callers as values that are handed round, for objects outside the library: a
+//! call is announced, its reply is handed in, and the call is judged.
+#![tactic(auto)]
+
+mod announcing;
+mod caller_handle;
+mod finishing;
+mod handed;
+mod judging;
+mod kept;
+mod stage;
+
+pub use caller_handle::{Answer, CallerHandle};
+pub use kept::Kept;
+pub use stage::{Stage, Wrong};

@@ -1,0 +1,26 @@
+use book_base::{Book, Cut};
+use drv_wrapper::Announced;
+use row_table::Caller;
+
+/// Where a caller stands between the calls of its handle.
+#[derive(Drop)]
+pub enum Stage {
+    /// Between two calls.
+    Idle(Caller),
+    /// A call is announced, and its reply isn't handed in yet.
+    Announced(Announced),
+    /// The last call was an error, and the caller is halted.
+    Wrong(Wrong),
+    /// The last call wasn't judged for want of memory, and the caller is halted.
+    Unjudged(Caller),
+}
+
+/// A call that was an error: the published records at its seen cut, its own among them, have no legal order.
+#[derive(Drop)]
+pub struct Wrong {
+    pub caller: Caller,
+    pub reply: u64,
+    pub view: Cut,
+    pub seen: Cut,
+    pub book: Book,
+}
