@@ -2,3 +2,5 @@ pub mod Passes
 pub mod Told
 pub mod Ends
 pub mod Callers
+pub mod Tables
+pub mod Handles

@@ -6,10 +6,14 @@ mod announcing;
 mod caller_handle;
 mod finishing;
 mod handed;
+mod handle;
 mod judging;
 mod kept;
 mod stage;
+mod table_handle;
 
 pub use caller_handle::{Answer, CallerHandle};
+pub use handle::Handle;
 pub use kept::Kept;
 pub use stage::{Stage, Wrong};
+pub use table_handle::TableHandle;

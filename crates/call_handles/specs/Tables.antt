@@ -1,0 +1,40 @@
+-- The handle of a table: what it has, when its parts belong together, and which callers it gives.
+use Rattle.std.specs.Prelude.{◌≡◌, ℕ, ◌<◌, ◌≤◌, Some, None}
+use Rattle.std.specs.Arc.{arc_value}
+use Rattle.world_core.specs.declared.program.Outside.{Outside}
+use Rattle.world_core.specs.Local.{fresh}
+use Rattle.seq_objects.specs.declared.kind.Kind.{Kind}
+use Rattle.row_table.specs.declared.caller.Caller.{Caller}
+use Rattle.row_table.specs.declared.rows.Rows.{Rows}
+use Rattle.row_table.specs.Callers.{who_of, local_with, stance_of, on_bench, stance_on, IsCallerOf, IsBenchOf}
+use Rattle.drv_wrapper.specs.Stands.{ready}
+use Rattle.call_handles.specs.declared.caller_handle.CallerHandle.{CallerHandle}
+use Rattle.call_handles.specs.declared.stage.Stage.TheVariants.{Idle}
+use Rattle.call_handles.specs.declared.table_handle.TableHandle.{TableHandle}
+use Rattle.call_handles.specs.Callers.{every_reply, rows_of, kind_of, stage_of}
+
+-- The rows of the table, the kind by which calls are judged, and the number of the caller that it gives next.
+abbrev pub rows_in : TableHandle → Rows Outside
+rows_in t = arc_value t.rows
+
+abbrev pub kind_in : TableHandle → Kind
+kind_in t = t.kind
+
+abbrev pub next_of : TableHandle → ℕ
+next_of t = t.next
+
+-- The bench is that of the rows, and has each caller that wasn't given, as it is at the start.
+pub record IsSoundTable (t : TableHandle) : Type 0 where
+  pub bench : IsBenchOf every_reply (rows_in t) t.bench
+  pub few : t.next ≤ (rows_in t).callers
+  pub fresh_from : (i : ℕ) → t.next ≤ i → i < (rows_in t).callers → (on_bench t.bench i ≡ Some fresh) × (stance_on t.bench i ≡ Some ready)
+
+-- It is of the same table, and gives next the caller of this number.
+abbrev pub GivesNext : ℕ → TableHandle → TableHandle → Type 0
+GivesNext n t u = (rows_in u ≡ rows_in t) × (kind_in u ≡ kind_in t) × (next_of u ≡ n)
+
+-- The handle is of this caller of the table, which has made no call.
+abbrev pub IsFreshOf : TableHandle → ℕ → CallerHandle → Type 0
+IsFreshOf t who h =
+    (rows_of h ≡ rows_in t) × (kind_of h ≡ kind_in t)
+    × ((c : Caller Outside) × (stage_of h ≡ Idle c) × (who_of c ≡ who) × (local_with c ≡ fresh) × (stance_of c ≡ ready))

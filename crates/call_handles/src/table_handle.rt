@@ -1,0 +1,76 @@
+ghost use Rattle.std.specs.Prelude.{◌≡◌, ◌+◌, ◌≤◌, ◌↔◌, IsNone, IfSome, IfNone, IfOk, IfErr};
+ghost use Rattle.book_base.specs.declared.TheConstants.{MAX_CALLERS, MAX_CALLS};
+
+use crate::caller_handle::CallerHandle;
+use book_base::{MAX_CALLERS, MAX_CALLS, NoMemory};
+use frontier_check::Guide;
+use row_table::{Bench, Rows};
+use seq_objects::Kind;
+use std::alloc::Global;
+use std::sync::Arc;
+use world_core::Outside;
+
+/// A table, which gives the handles of its callers one by one. The calls of all of them are judged by one kind.
+///
+/// The table goes with the last of these handles and its own.
+#[derive(Drop)]
+pub struct TableHandle {
+    pub(crate) rows: Arc<Rows, Global>,
+    pub(crate) kind: Kind,
+    pub(crate) bench: Bench,
+    pub(crate) next: u32,
+}
+
+impl TableHandle {
+    ghost use Rattle.call_handles.specs.Callers.{IsSoundCaller};
+    ghost use Rattle.call_handles.specs.Tables.{rows_in, kind_in, next_of, IsSoundTable, GivesNext, IsFreshOf};
+
+    /// A table for so many callers with so many calls each.
+    pub fn open(
+        alloc: Global,
+        kind: Kind,
+        callers: u32,
+        calls: u64,
+    ) -> Result<TableHandle, NoMemory>
+        requires some_callers { 1 ≤ callers }
+        requires few_callers { callers ≤ MAX_CALLERS }
+        requires some_calls { 1 ≤ calls }
+        requires few_calls { calls ≤ MAX_CALLS }
+        ensures sound { IfOk result IsSoundTable }
+        ensures sized { IfOk result (λ t.
+            ((rows_in t).callers ≡ callers) × ((rows_in t).cap ≡ calls)) }
+        ensures kind { IfOk result (λ t. kind_in t ≡ kind) }
+        ensures first { IfOk result (λ t. next_of t ≡ 0) }
+    {
+        let (rows, bench) = Rows::open(alloc, Outside, callers, calls)?;
+        let rows = Arc::new(alloc, rows)?;
+        Ok(TableHandle {
+            rows,
+            kind,
+            bench,
+            next: 0,
+        })
+    }
+
+    /// The handle of the next caller, while there is one. For want of memory the table is as it was.
+    pub fn caller(&mut self, alloc: Global) -> Result<Option<CallerHandle>, NoMemory>
+        requires sound { IsSoundTable self.old }
+        ensures sound { IsSoundTable self.new }
+        ensures when { IfOk result (λ found. IsNone found ↔ (next_of self.old ≡ (rows_in self.old).callers)) }
+        ensures given { IfOk result (λ found. IfSome found (IsFreshOf self.old (next_of self.old))) }
+        ensures given_sound { IfOk result (λ found. IfSome found IsSoundCaller) }
+        ensures next { IfOk result (λ found. IfSome found (λ _.
+            GivesNext (next_of self.old + 1) self.old self.new)) }
+        ensures none { IfOk result (λ found. IfNone found (self.new ≡ self.old)) }
+        ensures unchanged { IfErr result (λ _. self.new ≡ self.old) }
+    {
+        if self.next == self.rows.callers() {
+            return Ok(None);
+        }
+        let rows = Arc::try_clone(&self.rows)?;
+        let guide = Guide::new(alloc)?;
+        let caller = self.rows.part(&mut self.bench, self.next);
+        self.next += 1;
+        Ok(Some(CallerHandle::new(rows, self.kind, caller, guide)))
+    }
+}
