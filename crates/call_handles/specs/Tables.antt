@@ -1,12 +1,12 @@
 -- The handle of a table: what it has, when its parts belong together, and which callers it gives.
-use Rattle.std.specs.Prelude.{◌≡◌, ℕ, ◌<◌, ◌≤◌, Some, None}
+use Rattle.std.specs.Prelude.{◌≡◌, ℕ, ◌<◌, ◌≤◌, Some}
 use Rattle.std.specs.Arc.{arc_value}
 use Rattle.world_core.specs.declared.program.Outside.{Outside}
 use Rattle.world_core.specs.Local.{fresh}
 use Rattle.seq_objects.specs.declared.kind.Kind.{Kind}
 use Rattle.row_table.specs.declared.caller.Caller.{Caller}
 use Rattle.row_table.specs.declared.rows.Rows.{Rows}
-use Rattle.row_table.specs.Callers.{who_of, local_with, stance_of, on_bench, stance_on, IsCallerOf, IsBenchOf}
+use Rattle.row_table.specs.Callers.{who_of, local_with, stance_of, on_bench, stance_on, IsBenchOf}
 use Rattle.drv_wrapper.specs.Stands.{ready}
 use Rattle.call_handles.specs.declared.caller_handle.CallerHandle.{CallerHandle}
 use Rattle.call_handles.specs.declared.stage.Stage.TheVariants.{Idle}
