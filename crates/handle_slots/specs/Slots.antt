@@ -1,0 +1,62 @@
+-- A program's place for a handle: what is in it, and what the calls on it find and leave there.
+use Rattle.std.specs.Prelude.{◌≡◌, ℕ, ◌≤◌, ◌+◌, List, Option, Some}
+use Rattle.book_base.specs.declared.TheConstants.{MAX_CALLERS, MAX_CALLS}
+use Rattle.seq_objects.specs.declared.kind.Kind.{Kind}
+use Rattle.seq_objects.specs.Words.{kind_name}
+use Rattle.call_handles.specs.declared.caller_handle.Answer.{Answer}
+use Rattle.call_handles.specs.declared.caller_handle.CallerHandle.{CallerHandle}
+use Rattle.call_handles.specs.declared.table_handle.TableHandle.{TableHandle}
+use Rattle.call_handles.specs.declared.handle.Handle.{Handle}
+use Rattle.call_handles.specs.declared.handle.Handle.TheVariants.{Table, Caller}
+use Rattle.call_handles.specs.Callers.{IsOfSameTable, HasBegun, HasEnded, IsWitnessOf}
+use Rattle.call_handles.specs.Tables.{rows_in, kind_in, next_of, GivesNext, IsFreshOf}
+use Rattle.handle_slots.specs.declared.slot.Slot.{Slot}
+
+abbrev pub handle_in : Slot → Option Handle
+handle_in s = s.held.value
+
+-- A table is asked for that there is: the kind has this name, and there are not too few and not too many callers and calls.
+pub record IsSized (name : List ℕ) (callers calls : ℕ) : Type 0 where
+  pub kind : Kind
+  pub named : kind_name kind ≡ name
+  pub some_callers : 1 ≤ callers
+  pub few_callers : callers ≤ MAX_CALLERS
+  pub some_calls : 1 ≤ calls
+  pub few_calls : calls ≤ MAX_CALLS
+
+-- The handle is that of a table of this kind for so many callers with so many calls each, which has given none of them.
+abbrev pub IsOpened : List ℕ → ℕ → ℕ → Option Handle → Type 0
+IsOpened name callers calls found =
+    (t : TableHandle) × (found ≡ Some (Table t)) × (kind_name (kind_in t) ≡ name) × ((rows_in t).callers ≡ callers)
+    × ((rows_in t).cap ≡ calls) × (next_of t ≡ 0)
+
+-- The handle is that of a table which has callers left to give.
+abbrev pub MayGive : Option Handle → Type 0
+MayGive found = (t : TableHandle) × (found ≡ Some (Table t)) × ¬ (next_of t ≡ (rows_in t).callers)
+
+-- The table has given its next caller, whose handle this is.
+abbrev pub HasGiven : Option Handle → Option Handle → Option Handle → Type 0
+HasGiven before after given =
+    (t u : TableHandle) × (h : CallerHandle) × (before ≡ Some (Table t)) × (after ≡ Some (Table u)) × (given ≡ Some (Caller h))
+    × GivesNext (next_of t + 1) t u × IsFreshOf t (next_of t) h
+
+-- The handle is that of a caller for which this holds.
+abbrev pub IsCallers : (CallerHandle → Type 0) → Option Handle → Type 0
+IsCallers Is found = (h : CallerHandle) × (found ≡ Some (Caller h)) × Is h
+
+-- The handles before and after are those of one caller, for which this holds.
+abbrev pub AreCallers : (CallerHandle → CallerHandle → Type 0) → Option Handle → Option Handle → Type 0
+AreCallers Are before after =
+    (h k : CallerHandle) × (before ≡ Some (Caller h)) × (after ≡ Some (Caller k)) × IsOfSameTable h k × Are h k
+
+-- The caller has announced a call with this operation.
+abbrev pub Begins : ℕ → Option Handle → Option Handle → Type 0
+Begins op before after = AreCallers (HasBegun op) before after
+
+-- The call that the caller has announced has this reply, and this answer.
+abbrev pub Ends : ℕ → Answer → Option Handle → Option Handle → Type 0
+Ends reply answer before after = AreCallers (λ h k. HasEnded reply h answer k) before after
+
+-- The bytes are the text of the book of the caller's error.
+abbrev pub Witnesses : Option Handle → List ℕ → Type 0
+Witnesses found bytes = IsCallers (λ h. IsWitnessOf h bytes) found

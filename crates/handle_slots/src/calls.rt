@@ -1,0 +1,156 @@
+ghost use Rattle.std.specs.Prelude.{◌≡◌, ◌↔◌, IsTrue, IsSome, IfSome, IfNone, IfOk, Some, None, is_some};
+ghost use Rattle.call_handles.specs.Callers.{MayAnnounce, HasAnnounced, IsInError};
+ghost use Rattle.call_handles.specs.Handles.{IsSound};
+ghost use Rattle.handle_slots.specs.Slots.{handle_in, IsCallers, Begins, Ends, Witnesses};
+
+use crate::slot::Slot;
+use book_base::{NoMemory, OpWord};
+use call_handles::{Answer, Handle};
+use core::mem::replace_with;
+use std::alloc::Global;
+
+// The handle with a call of this operation announced, where its caller may announce one, and whether it did.
+fn announced_by(handle: Handle, op: OpWord) -> (Handle, bool)
+    requires sound { IsSound handle }
+    ensures sound { IsSound result.0 }
+    ensures when { IsTrue result.1 ↔ IsCallers MayAnnounce (Some handle) }
+    ensures begun { IsTrue result.1 → Begins op (Some handle) (Some result.0) }
+    ensures unchanged { ¬ IsTrue result.1 → result.0 ≡ handle }
+{
+    match handle {
+        Handle::Caller(caller) => {
+            let (caller, begun) = caller.announce(op);
+            (Handle::Caller(caller), begun)
+        }
+        handle => (handle, false),
+    }
+}
+
+fn announced_in(slot: Slot, given: (Global, OpWord)) -> (Slot, bool)
+    requires taken { IsTrue (is_some (handle_in slot)) }
+    ensures when { IsTrue result.1 ↔ IsCallers MayAnnounce (handle_in slot) }
+    ensures begun { IsTrue result.1 → Begins given.1 (handle_in slot) (handle_in result.0) }
+    ensures unchanged { ¬ IsTrue result.1 → handle_in result.0 ≡ handle_in slot }
+{
+    let (alloc, op) = given;
+    let (mut handle, _) = slot.take(alloc);
+    let begun = replace_with(&mut *handle, op, announced_by);
+    (Slot::of(handle), begun)
+}
+
+/// Announces a call with this operation of the caller whose handle is in the slot, where it may announce one: whether
+/// it did. Else the handle is as it was.
+pub fn announce(alloc: Global, slot: &mut Slot, op: OpWord) -> bool
+    ensures when { IsTrue result ↔ IsCallers MayAnnounce (handle_in slot.old) }
+    ensures begun { IsTrue result → Begins op (handle_in slot.old) (handle_in slot.new) }
+    ensures unchanged { ¬ IsTrue result → handle_in slot.new ≡ handle_in slot.old }
+{
+    if !slot.is_taken() {
+        return false;
+    }
+    replace_with(slot, (alloc, op), announced_in)
+}
+
+// The handle after the reply to its announced call, where one is announced, and the answer.
+fn answered_by(handle: Handle, given: (Global, u64)) -> (Handle, Option<Answer>)
+    requires sound { IsSound handle }
+    ensures sound { IsSound result.0 }
+    ensures when { IsSome result.1 ↔ IsCallers HasAnnounced (Some handle) }
+    ensures ended { IfSome result.1 (λ answer.
+        Ends given.1 answer (Some handle) (Some result.0)) }
+    ensures unchanged { IfNone result.1 (result.0 ≡ handle) }
+{
+    match handle {
+        Handle::Caller(caller) => {
+            let (alloc, reply) = given;
+            let (caller, answer) = caller.answered(alloc, reply);
+            (Handle::Caller(caller), answer)
+        }
+        handle => (handle, None),
+    }
+}
+
+fn answered_in(slot: Slot, given: (Global, u64)) -> (Slot, Option<Answer>)
+    requires taken { IsTrue (is_some (handle_in slot)) }
+    ensures when { IsSome result.1 ↔ IsCallers HasAnnounced (handle_in slot) }
+    ensures ended { IfSome result.1 (λ answer.
+        Ends given.1 answer (handle_in slot) (handle_in result.0)) }
+    ensures unchanged { IfNone result.1 (handle_in result.0 ≡ handle_in slot) }
+{
+    let (mut handle, _) = slot.take(given.0);
+    let answer = replace_with(&mut *handle, given, answered_by);
+    (Slot::of(handle), answer)
+}
+
+/// Hands in the reply to the call that the caller has announced whose handle is in the slot, and judges the call. There
+/// is no answer where it has announced none, and then the handle is as it was.
+pub fn answered(alloc: Global, slot: &mut Slot, reply: u64) -> Option<Answer>
+    ensures when { IsSome result ↔ IsCallers HasAnnounced (handle_in slot.old) }
+    ensures ended { IfSome result (λ answer.
+        Ends reply answer (handle_in slot.old) (handle_in slot.new)) }
+    ensures unchanged { IfNone result (handle_in slot.new ≡ handle_in slot.old) }
+{
+    if !slot.is_taken() {
+        return None;
+    }
+    replace_with(slot, (alloc, reply), answered_in)
+}
+
+// The witness of a handle, where its last call was an error.
+fn witness_of(handle: &Handle, alloc: Global) -> Result<Option<Vec<u8>>, NoMemory>
+    requires sound { IsSound handle.now }
+    ensures when { IfOk result (λ found. IsSome found ↔ IsCallers IsInError (Some handle.now)) }
+    ensures text { IfOk result (λ found. IfSome found (λ text.
+        Witnesses (Some handle.now) text.items)) }
+{
+    match handle {
+        Handle::Caller(caller) => caller.witness(alloc),
+        _ => Ok(None),
+    }
+}
+
+fn witness_in(slot: Slot, alloc: Global) -> (Slot, Result<Option<Vec<u8>>, NoMemory>)
+    requires taken { IsTrue (is_some (handle_in slot)) }
+    ensures when { IfOk result.1 (λ found. IsSome found ↔ IsCallers IsInError (handle_in slot)) }
+    ensures text { IfOk result.1 (λ found. IfSome found (λ text.
+        Witnesses (handle_in slot) text.items)) }
+    ensures unchanged { handle_in result.0 ≡ handle_in slot }
+{
+    let (handle, _) = slot.take(alloc);
+    let found = witness_of(&handle, alloc);
+    (Slot::of(handle), found)
+}
+
+/// The text of the book of the error that the caller's last call was whose handle is in the slot, where it was one.
+pub fn witness(alloc: Global, slot: &mut Slot) -> Result<Option<Vec<u8>>, NoMemory>
+    ensures when { IfOk result (λ found. IsSome found ↔ IsCallers IsInError (handle_in slot.old)) }
+    ensures text { IfOk result (λ found. IfSome found (λ text.
+        Witnesses (handle_in slot.old) text.items)) }
+    ensures unchanged { handle_in slot.new ≡ handle_in slot.old }
+{
+    if !slot.is_taken() {
+        return Ok(None);
+    }
+    replace_with(slot, alloc, witness_in)
+}
+
+fn closed(slot: Slot, alloc: Global) -> (Slot, ())
+    requires taken { IsTrue (is_some (handle_in slot)) }
+    ensures { handle_in result.0 ≡ None }
+{
+    let (handle, empty) = slot.take(alloc);
+    drop(handle);
+    (empty, ())
+}
+
+/// Lets the handle go that is in the slot: whether there was one. A call that is announced stays unanswered.
+pub fn close(alloc: Global, slot: &mut Slot) -> bool
+    ensures when { result ≡ is_some (handle_in slot.old) }
+    ensures gone { handle_in slot.new ≡ None }
+{
+    if !slot.is_taken() {
+        return false;
+    }
+    replace_with(slot, alloc, closed);
+    true
+}

@@ -1,0 +1,50 @@
+ghost use Rattle.std.specs.Prelude.{◌≡◌, IsTrue, Some, None, nat_eq, is_some};
+
+use crate::held::Held;
+use crate::loose::Loose;
+use call_handles::Handle;
+use std::alloc::Global;
+
+/// A place of a program in another language for one handle. It has one where `in_use` is 1; all zero, it has none.
+#[repr(C)]
+#[derive(Drop)]
+pub struct Slot {
+    pub in_use: u32,
+    pub held: Held,
+    ghost tied: { is_some held.value ≡ nat_eq in_use 1 },
+}
+
+impl Slot {
+    ghost use Rattle.call_handles.specs.Handles.{IsSound};
+    ghost use Rattle.handle_slots.specs.Slots.{handle_in};
+
+    /// A slot with the handle that is in a box.
+    pub(crate) fn of(handle: Box<Handle>) -> Slot
+        requires sound { IsSound handle.value }
+        ensures { handle_in result ≡ Some handle.value }
+    {
+        Slot {
+            in_use: 1,
+            held: Held::of(Loose::of(handle)),
+        }
+    }
+
+    /// Whether it has a handle.
+    pub(crate) fn is_taken(&self) -> bool
+        ensures { result ≡ is_some (handle_in self.now) }
+    {
+        self.in_use == 1
+    }
+
+    /// The box with its handle, which it has, and the slot with none.
+    pub(crate) fn take(self, alloc: Global) -> (Box<Handle>, Slot)
+        requires { IsTrue (is_some (handle_in self)) }
+        ensures value { handle_in self ≡ Some result.0.value }
+        ensures sound { IsSound result.0.value }
+        ensures none { handle_in result.1 ≡ None }
+    {
+        let Slot { in_use: _, held } = self;
+        let (loose, held) = held.take(alloc);
+        (loose.into_box(), Slot { in_use: 0, held })
+    }
+}
