@@ -14,6 +14,4 @@ mod searches;
 #[cfg(test)]
 mod sets;
 #[cfg(test)]
-mod shrinks;
-#[cfg(test)]
 mod words;
