@@ -3,7 +3,8 @@ use Rattle.std.specs.Prelude.{Option, Some, None}
 use Rattle.std.specs.Coded.{Coded, coded_option}
 use base.Fml.{Fml, ftrue, fsep, fex}
 use denote.RawPtr.{Ptr}
-use Rattle.libc.specs.Heap.{chunk}
+use Rattle.std_heap.specs.contracts.GlobalAllocator.TheImpl.{ghosts}
+use Rattle.std_heap.specs.declared.Global.{Global}
 use Rattle.std_alloc.specs.Box.Ownership.{box_owns}
 use Rattle.call_handles.specs.declared.handle.Handle.{Handle}
 use Rattle.call_handles.specs.contracts.handle.Handle.{the_row}
@@ -16,4 +17,4 @@ coded_handle = coded_option the_row.coded
 -- A box with this handle, whose parts belong together; or nothing.
 abbrev pub held_at : Ptr → Option Handle → Fml
 held_at p None = ftrue
-held_at p (Some h) = fsep (box_owns chunk the_row p h) (fex (IsSound h) (λ _. ftrue))
+held_at p (Some h) = fsep (fex Global (λ heap. box_owns (ghosts.dealloc_token heap) the_row p h)) (fex (IsSound h) (λ _. ftrue))

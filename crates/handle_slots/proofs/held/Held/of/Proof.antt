@@ -20,6 +20,10 @@ use Rattle.std_alloc.proofs.ResultValues.{and_tt}
 use Rattle.std.proofs.raw_atomic.Walks.{proved_at, leaves}
 use Rattle.call_handles.specs.Handles.{IsSound}
 use Rattle.handle_slots.proofs.Values.{slot_of, pointer_typed, alone, alone_owns, alone_made, beside, beside_told}
+use Rattle.call_handles.specs.contracts.handle.Handle as handle
+use Rattle.std_alloc.specs.Box.Ownership.{box_owns}
+use Rattle.std_heap.specs.declared.Global.{Global}
+use Rattle.std_heap.specs.contracts.GlobalAllocator.TheImpl.{ghosts}
 use Rattle.handle_slots.specs.contracts.held.Held as held
 use Rattle.handle_slots.specs.contracts.held.Held.of.{ended, clauses}
 use Rattle.handle_slots.specs.contracts.held.Held.of.Key.{name as #self}
@@ -44,7 +48,7 @@ of_spec 𝓤 𝓛 𝓜 𝓡 wired =
     sets ! (of_opd ! (get ! refl)) refl (pointer_typed p) $
     sets ! (agg ! (and_then ! (get ! refl) (no_more !))) refl (and_tt _ (pointer_typed p).0, ((pointer_typed p).1, tt)) $
     returns ! (look_at ! 0 refl) $ free_all ! refl $
-    nothing ! $ fpack ! (IsSound v.value) (λ _. ftrue) sound $ move ! (1 ∷ 0 ∷ []) $ fjoin ! $
+    fpack ! Global (λ heap. box_owns (ghosts.dealloc_token heap) handle.the_row p v.value) v.alloc $ nothing ! $ fpack ! (IsSound v.value) (λ _. ftrue) sound $ move ! (1 ∷ 0 ∷ []) $ fjoin ! $
     use0 𝓛 (‵ (alone_owns p (alone p ∷ []))) (alone_made 𝓛 p) $ fjoin ! $
     use0 𝓛 (raw (fact 𝓤 (x.value ≡ x.value))) (fact_i 𝓤 (x.value ≡ x.value) (emp 𝓤) refl) $ nothing ! $ nothing ! $ fjoin ! $ move ! (3 ∷ 0 ∷ 2 ∷ 1 ∷ []) $
     by ! (leaves 𝓛 ended stays c z (alone p) x (tt, tt) (tt, tt)))))

@@ -25,7 +25,7 @@ use Rattle.std.proofs.raw_atomic.Walks.{proved_at, leaves}
 use Rattle.call_handles.specs.declared.handle.Handle.{Handle}
 use Rattle.call_handles.specs.Handles.{IsSound}
 use Rattle.call_handles.specs.contracts.handle.Handle as handle
-use Rattle.libc.specs.Heap.{chunk}
+use Rattle.std_heap.specs.contracts.GlobalAllocator.TheImpl.{ghosts}
 use Rattle.handle_slots.specs.Ownership.{held_at}
 use Rattle.handle_slots.specs.contracts.held.Held as held
 use Rattle.handle_slots.specs.contracts.loose.Loose as loose
@@ -40,7 +40,7 @@ stays = (stay_dropped (slot_of 0 ended.signature.params) ended.kept.0, (stay_dro
 
 -- the row of what a box is taken apart into
 abbrev row : RattleType
-row = loose.the_row handle.the_row global.the_row (record { dealloc_token = λ heap ty ptr. chunk ty ptr })
+row = loose.the_row handle.the_row global.the_row ghosts
 
 pub take_spec : {M : Type 1} → statement M
 take_spec 𝓤 𝓛 𝓜 𝓡 wired =
@@ -54,7 +54,7 @@ take_spec 𝓤 𝓛 𝓜 𝓡 wired =
     qed 𝓛 ((raw (alive 𝓛 ended.signature z.0.0 z.0.1) ⊛ ‵ (owns (types_at ended.signature.params z.0.0) z.0.3 z.0.4)) ∷ raw (fact 𝓤 (IsSome v.value)) ∷ []) ∵
     move ! (1 ∷ []) $ heard ! (IsSome v.value) (λ some. split ! $ move ! (1 ∷ []) $ fsplit ! $ fsplit ! $ drop ! $ move ! (1 ∷ []) $ drop ! $
     by_some v.value some (λ h is.
-    rewrite ! 0 (λ (o : Option Handle). ‵ (held_at p o)) is refl $ fsplit ! $ move ! (1 ∷ []) $ fpick ! (λ sound. drop ! $
+    rewrite ! 0 (λ (o : Option Handle). ‵ (held_at p o)) is refl $ fsplit ! $ move ! (1 ∷ []) $ fpick ! (λ sound. drop ! $ fpick ! (λ other.
     -- [what the box owns; nothing of lifetimes]
     let x : row.Denot = record { at = p; alloc = heap; value = h } in let left : held.the_row.Denot = record { at = p; value = None } in
     let Said : Type 0 = (v.value ≡ Some h) × IsSound h × (left.value ≡ None) in
@@ -74,4 +74,4 @@ take_spec 𝓤 𝓛 𝓜 𝓡 wired =
     use0 𝓛 (‵ (beside_owns p heap (beside p ∷ []))) (beside_made 𝓛 p heap is_heap) $ fjoin ! $
     use2 𝓛 (‵ ((Tuple (row ∷ held.the_row ∷ [])).own_val (x, left) (both ∷ []))) (pair_of 𝓛 row held.the_row x left (beside p) (alone p)) $
     use0 𝓛 (raw (fact 𝓤 Said)) (fact_i 𝓤 Said (emp 𝓤) (is, sound, refl)) $ nothing ! $ nothing ! $ fjoin ! $ nothing ! $ fjoin ! $ move ! (3 ∷ 0 ∷ 2 ∷ 1 ∷ []) $
-    by ! (leaves 𝓛 ended stays c z both (x, left) (tt, (tt, tt)) (tt, (tt, tt))))))))
+    by ! (leaves 𝓛 ended stays c z both (x, left) (tt, (tt, tt)) (tt, (tt, tt)))))))))
