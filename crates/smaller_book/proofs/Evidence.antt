@@ -1,5 +1,5 @@
 -- Evidence of evidence.
-use Rattle.std.proofs.Common.{◌≡◌, ℕ, Bool, true, false, not, ◌||◌, List, Option, Some, None, refl, sym, subst}
+use Rattle.std.proofs.Common.{◌≡◌, ℕ, Bool, true, false, not, ◌||◌, List, [], ◌∷◌, Option, Some, None, refl, sym, subst}
 use Rattle.std.proofs.lemmas.Bool.{true≢false}
 use Rattle.book_base.specs.Book.{Page}
 use Rattle.book_base.specs.Order.{HasLegalOrder}
@@ -7,7 +7,7 @@ use Rattle.seq_objects.specs.declared.kind.Kind.{Kind}
 use Rattle.seq_objects.specs.declared.kind.Kind.TheVariants as kinds
 use Rattle.seq_objects.specs.Objects.{kind_next}
 use Rattle.smaller_book.specs.Part.{CarriesOver}
-use Rattle.smaller_book.specs.Keys.{key_of_item, is_among, items_without, IsWellFormed, IsEvidence}
+use Rattle.smaller_book.specs.Keys.{key_of_item, is_among, items_without, IsWellFormed, IsEvidence, EvidenceTells}
 use Rattle.smaller_book.proofs.Filtering.{filter-all, filter-filter, rises-filter, keys_once-filter}
 
 -- no keys, and the keys of two
@@ -77,3 +77,14 @@ evidence_twice kind book mid part (first, outer) (second, inner) = (
       subst (λ (l : List ℕ). HasLegalOrder l (kind_next kind) part) (items_without-twice kind first second list)
       (inner (items_without kind first list) (well_formed-without kind first list formed) (outer list formed legal)),
 )
+
+-- no object begins with an item that has a key
+pub evidence_tells : EvidenceTells
+evidence_tells kinds.Queue book part (keys, carries) order = carries [] tt order
+evidence_tells kinds.Stack book part (keys, carries) order = carries [] tt order
+evidence_tells kinds.Register book part (keys, carries) order = carries (0 ∷ []) tt order
+evidence_tells kinds.Counter book part (keys, carries) order = carries (0 ∷ []) tt order
+evidence_tells kinds.IntSet book part (keys, carries) order = carries [] tt order
+evidence_tells kinds.Pqueue book part (keys, carries) order = carries [] tt order
+evidence_tells kinds.CasRegister book part (keys, carries) order = carries (0 ∷ []) tt order
+evidence_tells kinds.Map book part (keys, carries) order = carries [] tt order

@@ -29,11 +29,11 @@ pub size-less_without : (kind : Kind) (keys : ℕ → Bool) (book : List Page) (
 size-less_without kind keys book call part inside goes is =
     let i : ℕ = call.caller in
     let n : ℕ = calls_of book i in
-    let row : ℕ → List ℕ = row_without kind keys book in
+    let remaining : ℕ → List ℕ = row_without kind keys book in
     let stays : ℕ → Bool = λ number. not (is_among keys (key_of_call kind book (record { caller = i; number = number }))) in
-    let same : numbers_of (all_without kind keys book) i ≡ row i
-    = get_or-map-range_with_len row 0 (length book) i i [] (caller_from_call book i call.number inside) (zero-add i) in
+    let same : numbers_of (all_without kind keys book) i ≡ remaining i
+    = get_or-map-range_with_len remaining 0 (length book) i i [] (caller_from_call book i call.number inside) (zero-add i) in
     let at : get_or (range_with_len 0 n) call.number 0 ≡ call.number = get_or-range_with_len 0 n call.number 0 inside ∙ zero-add call.number in
-    let fewer : length (row i) < length (range_with_len 0 n)
+    let fewer : length (remaining i) < length (range_with_len 0 n)
     = filter-fewer stays (range_with_len 0 n) call.number 0 (omega (arith, inside, length-range_with_len 0 n)) (ap stays at ∙ ap not goes) in
     size-less_at book (all_without kind keys book) part i is (omega (arith, fewer, length-range_with_len 0 n, is.calls i, ap length same))

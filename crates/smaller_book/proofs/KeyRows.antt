@@ -21,13 +21,13 @@ stays_in kind keys book i number = not (is_among keys (key_of_call kind book (re
 module _ (kind : Kind) (keys : ℕ → Bool) (book : List Page) where
   numbers_of-here : (i : ℕ) → i < length book → numbers_of (all_without kind keys book) i ≡ row_without kind keys book i
   numbers_of-here i inside =
-      let row : ℕ → List ℕ = row_without kind keys book in
-      get_or-map-range_with_len row 0 (length book) i i [] inside (zero-add i)
+      let remaining : ℕ → List ℕ = row_without kind keys book in
+      get_or-map-range_with_len remaining 0 (length book) i i [] inside (zero-add i)
 
   numbers_of-past : (i : ℕ) → length book ≤ i → numbers_of (all_without kind keys book) i ≡ []
   numbers_of-past i past =
-      let row : ℕ → List ℕ = row_without kind keys book in
-      get_or_past (map row (range_with_len 0 (length book))) i [] (omega (arith, past, length-map-range_with_len row 0 (length book)))
+      let remaining : ℕ → List ℕ = row_without kind keys book in
+      get_or_past (map remaining (range_with_len 0 (length book))) i [] (omega (arith, past, length-map-range_with_len remaining 0 (length book)))
 
   -- what holds of the rows and of no numbers holds of each caller's numbers
   cases_rows : (P : ℕ → List ℕ → Type 0) → ((i : ℕ) → P i (row_without kind keys book i)) → ((i : ℕ) → P i []) → (i : ℕ) → P i (numbers_of (all_without kind keys book) i)
@@ -45,8 +45,8 @@ module _ (kind : Kind) (keys : ℕ → Bool) (book : List Page) where
   pub all_without_are_numbers : AreNumbersOf book (all_without kind keys book)
   all_without_are_numbers = record {
     wide =
-        let row : ℕ → List ℕ = row_without kind keys book in
-        length-map-range_with_len row 0 (length book);
+        let remaining : ℕ → List ℕ = row_without kind keys book in
+        length-map-range_with_len remaining 0 (length book);
     rising = cases_rows (λ i xs. AreRising xs) (λ i. rising-filter_range (stays_in kind keys book i) (calls_of book i)) (λ i j k less room. absurd (omega arith));
     inside = cases_rows (λ i xs. (k : ℕ) → k < length xs → get_or xs k 0 < calls_of book i) (λ i k room. inside-row i k room) (λ i k room. absurd (omega arith));
   }

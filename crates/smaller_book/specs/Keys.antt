@@ -12,7 +12,7 @@ use Rattle.seq_objects.specs.Words.{Entry, is_known_word, is_operation_of, argum
 use Rattle.seq_objects.specs.Readings.{value_of, shown_value}
 use Rattle.seq_objects.specs.MapSteps.{key_of}
 use Rattle.seq_objects.specs.MapLaws.{HasKeysOnce}
-use Rattle.seq_objects.specs.Objects.{kind_next}
+use Rattle.seq_objects.specs.Objects.{kind_init, kind_next}
 use Rattle.smaller_book.specs.Part.{IsPart}
 
 -- the value that a reply shows, where there is a reply and it shows one
@@ -99,10 +99,15 @@ abbrev pub CarriesOverWithout : Kind → (ℕ → Bool) → List Page → List P
 CarriesOverWithout kind keys book part = (list : List ℕ) → IsWellFormed kind list
     → HasLegalOrder list (kind_next kind) book → HasLegalOrder (items_without kind keys list) (kind_next kind) part
 
--- A part is evidence of the book: but for some keys, it has a legal order where the book has one. An object begins without items
--- that have a key, so that where the part has no legal order, the book has none.
+-- A part is evidence of the book: but for some keys, it has a legal order where the book has one.
 abbrev pub IsEvidence : Kind → List Page → List Page → Type 0
 IsEvidence kind book part = (keys : ℕ → Bool) × CarriesOverWithout kind keys book part
+
+-- An object begins without items that have a key: so a legal order of the book gives one of a part that is evidence of it, and
+-- where the part has none, the book has none.
+abbrev pub EvidenceTells : Type 0
+EvidenceTells = (kind : Kind) (book part : List Page) → IsEvidence kind book part
+    → HasLegalOrder (kind_init kind) (kind_next kind) book → HasLegalOrder (kind_init kind) (kind_next kind) part
 
 -- Where each view holds at most one unanswered call of each caller, the calls of these keys may be left out together.
 abbrev pub HasOneWithoutKeys : Type 0

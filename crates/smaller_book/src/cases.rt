@@ -80,7 +80,8 @@ pub fn items_without_a_key()
     ensures no_keys { items_without kinds.Register (keys_from_to 0 9) (5 ∷ []) ≡ 5 ∷ [] }
 {}
 
-/// A view that holds two unanswered calls of a caller keeps all keys in, and one that holds one doesn't.
+/// A book with a view that holds two unanswered calls of a caller hasn't one open, and one whose views hold one
+/// has.
 pub fn open_calls()
     ensures two { ¬ HasOneOpen two_open }
     ensures one { HasOneOpen one_open }

@@ -1,7 +1,7 @@
 //! Laws of parts of a book. Each is the contract of a function with nothing in it.
 
 ghost use Rattle.smaller_book.specs.Leaving.{HasOneWithoutLeaving};
-ghost use Rattle.smaller_book.specs.Keys.{HasOneWithoutKeys};
+ghost use Rattle.smaller_book.specs.Keys.{HasOneWithoutKeys, EvidenceTells};
 
 /// Calls that leave every list with their reply may be left out: what is left of a legal order is one of
 /// what is left of the book.
@@ -10,7 +10,13 @@ pub fn leaving_calls_may_be_left_out()
 {}
 
 /// All calls of some keys may be left out, where each view holds at most one unanswered call of each caller:
-/// what is left of a legal order, up to the last answered call, is one of what is left of the book.
+/// a legal order of the book gives one of what is left of the book.
 pub fn calls_of_keys_may_be_left_out()
     ensures { HasOneWithoutKeys }
+{}
+
+/// A legal order of a book gives one of each part that is evidence of it: so where the part has none, the
+/// book has none.
+pub fn evidence_tells()
+    ensures { EvidenceTells }
 {}

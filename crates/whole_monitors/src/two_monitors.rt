@@ -216,6 +216,25 @@ fn the_second_monitor_knows_the_witness_of_the_first(rt: HostRuntime) -> Result<
     Ok(())
 }
 
+// The caller has no fifth call, so both monitors see the same four.
+#[test]
+fn of_two_monitors_in_turn_the_first_is_placed(rt: HostRuntime) -> Result<(), Fail> {
+    let found = watch_lossy_queue::<Brand, Brand, _>(
+        &rt,
+        rt.alloc(),
+        Blank::new(1),
+        Blank::new(1),
+        4,
+        Turns::CallBetween,
+    )?;
+    let witness = Some((4, 0, 0, 4, 4));
+    assert_eq!(rt; found.illegal, (Some(true), Some(true)));
+    assert_eq!(rt; found.placed, (true, false));
+    assert_eq!(rt; found.own, (witness, witness));
+    assert_eq!(rt; found.known, (witness, witness));
+    Ok(())
+}
+
 #[test]
 fn one_of_two_monitors_side_by_side_is_placed(rt: HostRuntime) -> Result<(), Fail> {
     let found = watch_lossy_queue::<Brand, Brand, _>(
