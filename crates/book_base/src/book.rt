@@ -225,15 +225,37 @@ impl Book {
         Some(number)
     }
 
-    // How many of a caller's views are within this one: they are its first, since a caller's views rise.
+    // How many of a caller's views are within this one: they are its first, since a caller's views rise. A new view
+    // mostly contains all of them, so that they are looked at from the last one backwards, at distances that double.
     fn views_within(&self, caller: u32, view: &Cut) -> u64
         requires valid { IsValid self.now }
         requires caller { caller < length self.now }
         requires wide { length view.now ≡ length self.now }
         ensures count { AreViewsWithin self.now caller view.now result result }
     {
-        let mut low = 0;
         let mut high = self.answers(caller);
+        let mut distance: u64 = 1;
+        while high > 0 {
+            let number = high.saturating_sub(distance);
+            if self.is_within(caller, number, view) {
+                return self.views_within_between(caller, view, number + 1, high);
+            }
+            high = number;
+            distance = distance.saturating_mul(2);
+        }
+        0
+    }
+
+    // How many of a caller's views are within this one, where it is at least the lower and at most the higher number.
+    fn views_within_between(&self, caller: u32, view: &Cut, lower: u64, higher: u64) -> u64
+        requires valid { IsValid self.now }
+        requires caller { caller < length self.now }
+        requires wide { length view.now ≡ length self.now }
+        requires between { AreViewsWithin self.now caller view.now lower higher }
+        ensures count { AreViewsWithin self.now caller view.now result result }
+    {
+        let mut low = lower;
+        let mut high = higher;
         while low < high {
             let middle = low + (high - low) / 2;
             if self.is_within(caller, middle, view) {

@@ -71,9 +71,10 @@ pub trait SeqObject {
         Ok(None)
     }
 
-    /// Which of the calls that may come next a search has to try, after a cut and at a list: of those that
-    /// are marked, as few as suffice. One that may stand at once is the only one that is left, and at a dead
-    /// end none is. The forced caller's first call outside the cut has the least view of all such calls.
+    /// Which of the calls that may come next a search tries, after a cut and at a list: of those that are
+    /// marked, some that suffice. The fewer are left, the less is tried: where one may stand at once it is
+    /// enough alone, and at a dead end none is needed. No clause says how few are left. The forced caller's
+    /// first call outside the cut has the least view of all such calls.
     fn narrow(
         &self,
         sight: &Sight,
