@@ -91,15 +91,15 @@ shows_other reading next bound is v op [] (y ∷ after) small takes around shows
 shows_other reading next bound is v op (x ∷ before) after small takes around shows =
     omega (arith, around.below.0, same_Some x v (sym (is.shows x (before ++ after) op (omega (arith, small, around.below.0)) takes) ∙ shows))
 
-put_is_no_take : (v : ℕ) → Puts v ≡ Takes → ⊥
+pub put_is_no_take : (v : ℕ) → Puts v ≡ Takes → ⊥
 put_is_no_take v e = cc
 
 -- the word of a call
-abbrev word_of_call : List Page → Call → ℕ
+abbrev pub word_of_call : List Page → Call → ℕ
 word_of_call book call = unwrap_or (operation_of book call) 0
 
 -- The recorded reply of a put is the one that the object gives, at each list.
-abbrev Gives : (List ℕ → ℕ → List ℕ × ℕ) → List Page → Call → Type 0
+abbrev pub Gives : (List ℕ → ℕ → List ℕ × ℕ) → List Page → Call → Type 0
 Gives next book call = (list : List ℕ) (r : Record) → record_of book call ≡ Some r → r.reply ≡ (next list (word_of_call book call)).1
 
 -- What goes on from a list without the value goes on from it once the put and the take have come.

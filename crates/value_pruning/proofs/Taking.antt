@@ -175,24 +175,24 @@ steps_alike reading next bound is low op before after small parted = elim (cases
 ]
 
 -- The take with the least view does what the take of the value does that stands.
-least_is_twin : (reading : Reading) (next : List ℕ → ℕ → List ℕ × ℕ) (bound : ℕ) → GivesLeastFirst reading next bound → (book : List Page) (cut list : List ℕ) (low : ℕ)
-    (take : Call) (place : Place) → take.caller ≢ place.caller → MayComeNext book cut take → IsLeastTake reading book cut low take → MayStandNext book next cut list place
-    → reading.deed (word_at book place) ≡ Takes → reading.shown (next list (word_at book place)).1 ≡ Some low → IsTwin book next cut list take (call_at place)
-least_is_twin reading next bound is book cut list low take place apart may least stands takes shows =
+pub least_is_twin : (reading : Reading) (next : List ℕ → ℕ → List ℕ × ℕ) → ((a b : ℕ) → reading.deed a ≡ Takes → reading.deed b ≡ Takes → a ≡ b)
+    → ((a b v : ℕ) → reading.shown a ≡ Some v → reading.shown b ≡ Some v → a ≡ b) → (book : List Page) (cut list : List ℕ) (low : ℕ) (take : Call) (place : Place)
+    → take.caller ≢ place.caller → MayComeNext book cut take → IsLeastTake reading book cut low take → MayStandNext book next cut list place → reading.deed (word_at book place) ≡ Takes → reading.shown (next list (word_at book place)).1 ≡ Some low → IsTwin book next cut list take (call_at place)
+least_is_twin reading next one_take one_reply book cut list low take place apart may least stands takes shows =
     let r : Record = least.takes.1 in
-    let same : least.takes.0 ≡ word_at book place = is.one_take least.takes.0 (word_at book place) least.takes.4 takes in
+    let same : least.takes.0 ≡ word_at book place = one_take least.takes.0 (word_at book place) least.takes.4 takes in
     let known : operation_of book (call_at place) ≡ Some (word_at book place) = word_stands book place stands.may_come.is_call in
     let does : DoesTheSame book next list take r (call_at place) = elim (cases_lt place.number (answers_of book place.caller)) [
       | inl answered ↦
           let there = answer_stands book (call_at place) answered in
           let shown : reading.shown there.0.reply ≡ Some low = ap reading.shown (stands.recorded there.0 there.1 ∙ sym stands.reply) ∙ shows in
           let out : TakesOut reading book (call_at place) low = (word_at book place, there.0, known, there.1, takes, shown) in
-          inl (there.0, there.1, is.one_reply there.0.reply r.reply low shown least.takes.5, least.least (call_at place) out (omega (arith, stands.may_come.next)))
+          inl (there.0, there.1, one_reply there.0.reply r.reply low shown least.takes.5, least.least (call_at place) out (omega (arith, stands.may_come.next)))
       | inr past ↦
           let word : unwrap_or (operation_of book take) 0 ≡ word_at book place = ap (λ (o : Option ℕ). unwrap_or o 0) least.takes.2 ∙ same in
           inr (
             λ (h : IsAnswered book (call_at place)). omega (arith, h, past),
-            is.one_reply _ _ low (ap (λ (w : ℕ). reading.shown (next list w).1) word ∙ shows) least.takes.5,
+            one_reply _ _ low (ap (λ (w : ℕ). reading.shown (next list w).1) word ∙ shows) least.takes.5,
           )
     ] in
     record {
@@ -243,7 +243,7 @@ taken_first reading next bound is book low take small valid one (place ∷ rest)
                 let shows : reading.shown (next list op).1 ≡ Some low
                 = ap (λ (xs : List ℕ). reading.shown (next (xs ++ low ∷ after) op).1) taken.1 ∙ is.shows low after op small taken.0 in
                 let twin : IsTwin book next cut list take (call_at place)
-                = least_is_twin reading next bound is book cut list low take place (λ (e : take.caller ≡ place.caller). apart (sym e)) may least goes.0 taken.0 shows in
+                = least_is_twin reading next is.one_take is.one_reply book cut list low take place (λ (e : take.caller ≡ place.caller). apart (sym e)) may least goes.0 taken.0 shows in
                 let on = twin_serves book next cut list take place rest wide valid one twin goes in
                 let word : unwrap_or (operation_of book take) 0 ≡ op
                 = ap (λ (o : Option ℕ). unwrap_or o 0) least.takes.2 ∙ is.one_take least.takes.0 op least.takes.4 taken.0 in (

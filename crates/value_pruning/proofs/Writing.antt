@@ -26,10 +26,10 @@ use Rattle.value_pruning.proofs.Taking.{word_at, word_is, word_stands, GoesOnAft
 pub outside_before : (cut : List ℕ) (i : ℕ) (call : Call) → i < length cut → get_or (raised cut i) call.caller 0 ≤ call.number → get_or cut call.caller 0 ≤ call.number
 outside_before cut i call inside out = omega (arith, out, raised_more cut i call.caller inside)
 
-unread_later : (reading : Reading) (book : List Page) (cut : List ℕ) (v i : ℕ) → i < length cut → (IsRead reading book cut v → ⊥) → IsRead reading book (raised cut i) v → ⊥
+pub unread_later : (reading : Reading) (book : List Page) (cut : List ℕ) (v i : ℕ) → i < length cut → (IsRead reading book cut v → ⊥) → IsRead reading book (raised cut i) v → ⊥
 unread_later reading book cut v i inside unread read = unread (read.0, (read.1.0, outside_before cut i read.0 inside read.1.1))
 
-unwritten_later : (reading : Reading) (book : List Page) (cut : List ℕ) (v i : ℕ) → i < length cut → (IsWritten reading book cut v → ⊥) → IsWritten reading book (raised cut i) v → ⊥
+pub unwritten_later : (reading : Reading) (book : List Page) (cut : List ℕ) (v i : ℕ) → i < length cut → (IsWritten reading book cut v → ⊥) → IsWritten reading book (raised cut i) v → ⊥
 unwritten_later reading book cut v i inside unwritten written = unwritten (written.0, (written.1.0, outside_before cut i written.0 inside written.1.1))
 
 -- Two lists are alike after a cut where they hold one value, or the first one holds a value that no call outside reads.

@@ -61,8 +61,9 @@ fn first_take<R: Reader>(
     }
 }
 
-// A marked caller whose next call takes out a value, with the least view.
-fn next_take<R: Reader>(
+/// A marked caller whose next call takes out a value, with the least view of all answered calls outside the
+/// cut that take it out. No clause says that one is found: that costs time alone.
+pub fn next_take<R: Reader>(
     reader: &R,
     sight: &Sight,
     book: &Book,

@@ -8,5 +8,7 @@ mod sight;
 mod values;
 
 pub use holds_last::narrow_holds_last;
-pub use least_first::narrow_least_first;
-pub use sight::sight_of_values;
+pub use least_first::{narrow_least_first, next_take};
+pub use outside::{is_read, is_written};
+pub use sight::{is_put_once, sight_of_values};
+pub use values::{value_put, value_taken};

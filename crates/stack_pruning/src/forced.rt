@@ -1,0 +1,103 @@
+ghost use Rattle.std.specs.Prelude.{◌≡◌, ◌≢◌, ◌⊎◌, ℕ, ◌<◌, length, Some, IfSome, IsTrue};
+ghost use Rattle.book_base.specs.Book.{IsCall};
+ghost use Rattle.book_base.specs.Next.{next_call};
+ghost use Rattle.book_base.specs.Pruning.{IsForced, IsMarked, IsMarkedWithin, MarksAllNext};
+ghost use Rattle.history_rules.specs.Calls.{TakesShowing};
+ghost use Rattle.stack_pruning.specs.LastFirst.{EndsWith, PutsNeedless};
+
+use crate::words::last_word;
+use book_base::{Book, Call, Cut, Marks};
+use object_foresight::{Reader, Role};
+use value_pruning::value_put;
+
+/// What the forced call shows, where it takes. No clause says that it is found to: that costs time alone.
+pub fn forced_take<R: Reader>(
+    reader: &R,
+    book: &Book,
+    cut: &Cut,
+    forced: u32,
+) -> Option<Option<u64>>
+    requires wide { length cut.now ≡ length book.now }
+    requires forced { IsForced book.now cut.now forced }
+    ensures { IfSome result (TakesShowing (R.reading reader.now) book.now (next_call cut.now forced)) }
+{
+    if forced >= book.callers() {
+        return None;
+    }
+    let call = Call {
+        caller: forced,
+        number: cut.get(forced),
+    };
+    match reader.role(book.op(call)) {
+        Role::Take => Some(reader.shown(book.record(call).reply)),
+        Role::Put(_) | Role::Other => None,
+    }
+}
+
+/// The marks without those on callers whose next calls put in what a forced take doesn't show, or what is the
+/// last word already.
+pub fn without_needless<R: Reader>(
+    reader: &R,
+    book: &Book,
+    cut: &Cut,
+    words: &[u64],
+    shown: Option<u64>,
+    marks: Marks,
+) -> Marks
+    requires wide { length cut.now ≡ length book.now }
+    requires marks { MarksAllNext book.now cut.now marks }
+    ensures fewer { IsMarkedWithin result marks }
+    ensures needless { (i : ℕ) → IsMarked marks i → IsMarked result i ⊎ PutsNeedless (R.reading reader.now) book.now cut.now words.now shown i }
+{
+    let mut left = marks;
+    for caller in 0..book.callers() {
+        if marks.has(caller) && puts_needless(reader, book, cut, words, shown, caller) {
+            left = left.without(caller);
+        }
+    }
+    left
+}
+
+// Whether a caller's next call puts in what a forced take doesn't show, or what is the last word already.
+fn puts_needless<R: Reader>(
+    reader: &R,
+    book: &Book,
+    cut: &Cut,
+    words: &[u64],
+    shown: Option<u64>,
+    caller: u32,
+) -> bool
+    requires wide { length cut.now ≡ length book.now }
+    requires caller { caller < length book.now }
+    requires call { IsCall book.now (next_call cut.now caller) }
+    ensures { IsTrue result → PutsNeedless (R.reading reader.now) book.now cut.now words.now shown caller }
+{
+    let call = Call {
+        caller,
+        number: cut.get(caller),
+    };
+    match value_put(reader, book, call) {
+        Some(value) => shows_another(shown, value) || ends_with(words, value),
+        None => false,
+    }
+}
+
+// Whether a take that shows this doesn't show a value.
+fn shows_another(shown: Option<u64>, value: u64) -> bool
+    ensures { IsTrue result → shown ≢ Some value }
+{
+    match shown {
+        Some(other) => other != value,
+        None => true,
+    }
+}
+
+// Whether a value is the last of these words.
+fn ends_with(words: &[u64], value: u64) -> bool
+    ensures { IsTrue result → EndsWith words.now value }
+{
+    match last_word(words) {
+        Some(last) => last == value,
+        None => false,
+    }
+}

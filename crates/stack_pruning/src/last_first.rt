@@ -1,0 +1,133 @@
+ghost use Rattle.std.specs.Prelude.{◌≡◌, ℕ, ◌<◌, List, length, IfSome, IsTrue};
+ghost use Rattle.book_base.specs.Next.{next_call};
+ghost use Rattle.book_base.specs.Pruning.{HasOneOpen, IsForced, IsMarked, IsMarkedWithin, IsReached, MarksAllNext, MarksSuffice};
+ghost use Rattle.value_pruning.specs.Sights.{ListsValues};
+ghost use Rattle.stack_pruning.specs.LastFirst.{GivesLastFirst, IsSmall, PutsPaired, TakesLast};
+
+use crate::forced::{forced_take, without_needless};
+use crate::kept::kept_put;
+use crate::words::{holds, last_word};
+use book_base::{Book, Call, Cut, Marks, Sight};
+use object_foresight::Reader;
+use value_pruning::{is_put_once, is_written, next_take, value_put};
+
+/// Which of the calls that may come next a search has to try, of a stack. A take that shows the last item
+/// alone, where it has the least view of all that show it and the value isn't put in again; and else a put of
+/// a value that is put in once, where its take may come next too; and else an answered put of a value that no
+/// call takes, where all that lies below is such. Otherwise, where the forced call takes, all but the puts of
+/// other values than it shows, and of the last item.
+pub fn narrow_last_first<R: Reader>(
+    reader: &R,
+    sight: &Sight,
+    book: &Book,
+    cut: &Cut,
+    words: &[u64],
+    forced: u32,
+    marks: Marks,
+) -> Marks
+    requires sight { ListsValues (R.reading reader.now) book.now sight.now }
+    requires open { HasOneOpen book.now }
+    requires wide { length cut.now ≡ length book.now }
+    requires forced { IsForced book.now cut.now forced }
+    requires marks { MarksAllNext book.now cut.now marks }
+    ensures fewer { IsMarkedWithin result marks }
+    ensures suffice { (init : List ℕ) (next : List ℕ → ℕ → List ℕ × ℕ) (bound : ℕ) → GivesLastFirst (R.reading reader.now) next bound
+        → IsSmall bound init → IsReached init next book.now cut.now words.now → MarksSuffice book.now next cut.now words.now result }
+{
+    let _callers = book.callers();
+    if let Some(caller) = last_take(reader, sight, book, cut, words, marks) {
+        return Marks::only(caller);
+    }
+    if let Some(caller) = paired_put(reader, sight, book, cut, words, marks) {
+        return Marks::only(caller);
+    }
+    if let Some(caller) = kept_put(reader, sight, book, cut, words, marks) {
+        return Marks::only(caller);
+    }
+    match forced_take(reader, book, cut, forced) {
+        Some(shown) => without_needless(reader, book, cut, words, shown, marks),
+        None => marks,
+    }
+}
+
+// A marked caller whose next call takes the last item, with the least view, where no call outside the cut puts
+// its value in again.
+fn last_take<R: Reader>(
+    reader: &R,
+    sight: &Sight,
+    book: &Book,
+    cut: &Cut,
+    words: &[u64],
+    marks: Marks,
+) -> Option<u32>
+    requires sight { ListsValues (R.reading reader.now) book.now sight.now }
+    requires wide { length cut.now ≡ length book.now }
+    ensures caller { IfSome result (λ i. i < length book.now) }
+    ensures marked { IfSome result (IsMarked marks) }
+    ensures take { IfSome result (TakesLast (R.reading reader.now) book.now cut.now words.now) }
+{
+    let value = last_word(words)?;
+    if is_written(reader, sight, book, cut, value) {
+        return None;
+    }
+    next_take(reader, sight, book, cut, marks, value)
+}
+
+// A marked caller whose next call alone puts in a value that isn't among the words, where the value's take may
+// come next.
+fn paired_put<R: Reader>(
+    reader: &R,
+    sight: &Sight,
+    book: &Book,
+    cut: &Cut,
+    words: &[u64],
+    marks: Marks,
+) -> Option<u32>
+    requires sight { ListsValues (R.reading reader.now) book.now sight.now }
+    requires wide { length cut.now ≡ length book.now }
+    requires marks { MarksAllNext book.now cut.now marks }
+    ensures caller { IfSome result (λ i. i < length book.now) }
+    ensures marked { IfSome result (IsMarked marks) }
+    ensures put { IfSome result (PutsPaired (R.reading reader.now) book.now cut.now words.now) }
+{
+    for caller in 0..book.callers() {
+        if marks.has(caller) && puts_paired(reader, sight, book, cut, words, marks, caller) {
+            return Some(caller);
+        }
+    }
+    None
+}
+
+// Whether a marked caller's next call alone puts in a value that isn't among the words, and the value's take
+// may come next.
+fn puts_paired<R: Reader>(
+    reader: &R,
+    sight: &Sight,
+    book: &Book,
+    cut: &Cut,
+    words: &[u64],
+    marks: Marks,
+    caller: u32,
+) -> bool
+    requires sight { ListsValues (R.reading reader.now) book.now sight.now }
+    requires wide { length cut.now ≡ length book.now }
+    requires marks { MarksAllNext book.now cut.now marks }
+    requires caller { caller < length book.now }
+    requires marked { IsMarked marks caller }
+    ensures { IsTrue result → PutsPaired (R.reading reader.now) book.now cut.now words.now caller }
+{
+    let put = Call {
+        caller,
+        number: cut.get(caller),
+    };
+    let Some(value) = value_put(reader, book, put) else {
+        return false;
+    };
+    if !is_put_once(sight, value) {
+        return false;
+    }
+    if holds(words, value) {
+        return false;
+    }
+    next_take(reader, sight, book, cut, marks, value).is_some()
+}
