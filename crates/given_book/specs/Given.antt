@@ -1,4 +1,4 @@
--- The book that an input gives: its text in either version, or the witness behind a report.
+-- The book that an input gives: its text in either version, or the witness after a report or after a verdict.
 use Rattle.std.specs.Prelude.{◌≡◌, ◌⊎◌, ℕ, ◌<◌, List, [], ◌++◌, drop, codes}
 use Rattle.book_base.specs.declared.fault.TextFault.{TextFault}
 use Rattle.book_base.specs.declared.fault.ReadFault.{ReadFault}
@@ -16,6 +16,14 @@ BeginsAsReport bytes = (rest : List ℕ) × (bytes ≡ codes "report 2\n" ++ res
 -- the first line is the title of a book of version 1
 abbrev pub BeginsAsOldBook : List ℕ → Type 0
 BeginsAsOldBook bytes = (rest : List ℕ) × (bytes ≡ codes "book 1\n" ++ rest)
+
+-- the first line is a verdict, as `monitor` writes it, and this is what stands after it
+abbrev pub IsAfterVerdict : List ℕ → List ℕ → Type 0
+IsAfterVerdict bytes rest = (bytes ≡ codes "legal\n" ++ rest) ⊎ (bytes ≡ codes "illegal\n" ++ rest)
+
+-- the first line is a verdict
+abbrev pub BeginsAsVerdict : List ℕ → Type 0
+BeginsAsVerdict bytes = (rest : List ℕ) × IsAfterVerdict bytes rest
 
 -- at this place the bytes have the end of a line, behind it the line `end`, and behind that the rest
 abbrev pub HasEndAt : List ℕ → ℕ → List ℕ → Type 0
@@ -35,13 +43,20 @@ HasNoEnd bytes = (i : ℕ) (rest : List ℕ) → ¬ (HasEndAt bytes i rest)
 abbrev pub IsWitnessPart : List ℕ → List ℕ → Type 0
 IsWitnessPart bytes part = IsBehindEnd bytes part ⊎ (HasNoEnd bytes × (part ≡ []))
 
--- This part of the bytes is read as a book's text, and in this version: what stands behind a report, in version 2; or all
--- bytes, in version 1 where they begin with its title, and else in version 2.
+-- the first line is neither the title of a report, nor a verdict, nor the title of a book of version 1
+pub record BeginsOtherwise (bytes : List ℕ) : Type 0 where
+  pub report : ¬ (BeginsAsReport bytes)
+  pub verdict : ¬ (BeginsAsVerdict bytes)
+  pub old : ¬ (BeginsAsOldBook bytes)
+
+-- This part of the bytes is read as a book's text, and in this version: what stands after a report or after a verdict, in
+-- version 2; or all bytes, in version 1 where they begin with its title, and else in version 2.
 abbrev pub IsBookPart : List ℕ → Version → List ℕ → Type 0
 IsBookPart bytes version part =
     (BeginsAsReport bytes × (version ≡ Second) × IsWitnessPart bytes part)
-    ⊎ ((¬ (BeginsAsReport bytes) × BeginsAsOldBook bytes × (version ≡ First) × (part ≡ bytes))
-    ⊎ (¬ (BeginsAsReport bytes) × ¬ (BeginsAsOldBook bytes) × (version ≡ Second) × (part ≡ bytes)))
+    ⊎ ((IsAfterVerdict bytes part × (version ≡ Second))
+    ⊎ ((BeginsAsOldBook bytes × (version ≡ First) × (part ≡ bytes))
+    ⊎ (BeginsOtherwise bytes × (version ≡ Second) × (part ≡ bytes))))
 
 -- the input gives this book, of an object of this kind
 pub record IsGiven (bytes : List ℕ) (kind : Kind) (book : List Page) : Type 0 where

@@ -1,4 +1,5 @@
-//! The book that an input gives: its text in either version, or the witness behind the report of a run.
+//! The book that an input gives: its text in either version, or the witness after the report of a run or after
+//! the verdict of monitors.
 #![tactic(auto)]
 
 mod part;

@@ -1,7 +1,7 @@
 //! Which part of an input is a book's text, and in which version.
 
 ghost use Rattle.std.specs.Prelude.{◌↔◌, ◌+◌, ◌<◌, ◌≤◌, drop, length, IsTrue, IsNone, IfSome, List, ℕ};
-ghost use Rattle.given_book.specs.Given.{BeginsAsReport, BeginsAsOldBook, HasEndAt, HasNoEnd, IsWitnessPart, IsBookPart};
+ghost use Rattle.given_book.specs.Given.{BeginsAsReport, BeginsAsOldBook, IsAfterVerdict, BeginsAsVerdict, HasEndAt, HasNoEnd, IsWitnessPart, IsBookPart};
 
 use text_fields::Version;
 
@@ -19,7 +19,12 @@ pub(crate) fn book_part(bytes: &[u8]) -> Part
     if begins_as_report(bytes) {
         Part {
             version: Version::Second,
-            bytes: behind_end(bytes),
+            bytes: after_end(bytes),
+        }
+    } else if let Some(rest) = after_verdict(bytes) {
+        Part {
+            version: Version::Second,
+            bytes: rest,
         }
     } else if begins_as_old_book(bytes) {
         Part {
@@ -31,6 +36,17 @@ pub(crate) fn book_part(bytes: &[u8]) -> Part
             version: Version::Second,
             bytes,
         }
+    }
+}
+
+// What stands after the first line, where that is a verdict.
+fn after_verdict(bytes: &[u8]) -> Option<&[u8]>
+    ensures found { IfSome result (λ rest. IsAfterVerdict bytes.now rest.now) }
+    ensures none { IsNone result → ¬ (BeginsAsVerdict bytes.now) }
+{
+    match bytes.strip_prefix(b"illegal\n") {
+        Some(rest) => Some(rest),
+        None => bytes.strip_prefix(b"legal\n"),
     }
 }
 
@@ -46,8 +62,8 @@ fn begins_as_old_book(bytes: &[u8]) -> bool
     bytes.starts_with(b"book 1\n")
 }
 
-// What stands behind the first line `end`, and nothing where no line is `end`.
-fn behind_end(bytes: &[u8]) -> &[u8]
+// What stands after the first line `end`, and nothing where no line is `end`.
+fn after_end(bytes: &[u8]) -> &[u8]
     ensures { IsWitnessPart bytes.now result.now }
 {
     match place_of_end(bytes) {
@@ -56,7 +72,7 @@ fn behind_end(bytes: &[u8]) -> &[u8]
     }
 }
 
-// The first place where a line ends and the line `end` comes behind it.
+// The first place where a line ends and the line `end` comes after it.
 fn place_of_end(bytes: &[u8]) -> Option<usize>
     ensures within { IfSome result (λ at. at + 5 ≤ length bytes.now) }
     ensures found { IfSome result (λ at. HasEndAt bytes.now at (drop (at + 5) bytes.now)) }
