@@ -6,15 +6,11 @@ use Rattle.std.proofs.lemmas.List.Elements.{All-nil, All-cons, All-push, All-pop
 use Rattle.std.proofs.lemmas.Bool.Decides.{eqb_tells}
 use Rattle.book_base.specs.declared.TheConstants.{BAD}
 use Rattle.seq_objects.specs.Replies.{reply_done, reply_none, reply_value}
-use Rattle.lawful_objects.specs.Forms.{increment, IsTallyReply}
-use Rattle.faulty_objects.specs.Deeds.{Deed, Added, Stored, Loaded, Swapped, AreCalls}
-use Rattle.faulty_objects.specs.Forms.{IsSplit, SplitsAreFormed, dequeue, item_index, empty_places, IsEnqueued, IsDequeued, IsOnePass, IsQueueReply, OnePassesAreFormed, up, IsMissed, IsMeeting, IsMeetingReply, MeetingsAreFormed, other_caller, LastLoadsTellReplies}
-
--- one more call at the end
-pub AreCalls-push : (call : ℕ → ℕ → List Deed → List Deed → Type 0) (pairs : List (ℕ × ℕ)) (op reply : ℕ) (before between after : List Deed)
-    → AreCalls call pairs before between → call op reply between after → AreCalls call (pairs ++ (op, reply) ∷ []) before after
-AreCalls-push call [] op reply before between after so_far one = (after, subst (λ (d : List Deed). call op reply d after) (sym so_far) one, refl)
-AreCalls-push call (pair ∷ pairs) op reply before between after so_far one = (so_far.0, so_far.1, AreCalls-push call pairs op reply so_far.0 between after so_far.2 one)
+use Rattle.lawful_objects.specs.Forms.{increment, cell_may, IsTallyReply}
+use Rattle.lawful_objects.proofs.Counting.{found_last}
+use Rattle.shared_words.specs.Deeds.{Deed, Added, Stored, Loaded, Swapped, AreCalls}
+use Rattle.shared_words.specs.Histories.{Access, access, IsLawful, IsAfterAccess}
+use Rattle.faulty_objects.specs.Forms.{IsSplit, IsTorn, SplitsAreFormed, dequeue, item_index, empty_places, IsEnqueued, IsDequeued, IsOnePass, IsQueueReply, OnePassesAreFormed, up, IsMissed, IsMeeting, IsMeetingReply, MeetingsAreFormed, other_caller, LastLoadsTellReplies}
 
 -- what follows of each call holds of each pair
 formed : (call : ℕ → ℕ → List Deed → List Deed → Type 0) (form : ℕ → ℕ → Type 0) → ((op reply : ℕ) (before after : List Deed) → call op reply before after → form op reply)
@@ -37,6 +33,23 @@ loaded_and_stored op reply found word before between after is loaded stored more
         replied,
       );
       other = λ isnt. absurd (isnt is);
+    }
+
+-- the reply to a split increment
+pub torn_reply : (who who' found word reply : ℕ) (before between after : List Access) → IsLawful cell_may between → IsAfterAccess who (Loaded 0 found) before between → who' ≡ who
+    → IsAfterAccess who' (Stored 0 word) between after → word ≡ (found + 1) % 2 ^ 64 → reply ≡ reply_value found → IsTorn who reply after
+torn_reply who who' found word reply before between after lawful loaded same stored more told =
+    let all = before ++ loaded.between in
+    record {
+      before = all;
+      between = stored.between;
+      word = found;
+      last = found_last who found before between lawful loaded;
+      ends =
+          stored.history
+          ∙ (λ i. (loaded.history i ++ stored.between) ++ access (same i) (Stored 0 (more i)) ∷ [])
+          ∙ ap (λ (l : List Access). l ++ access who (Stored 0 ((found + 1) % 2 ^ 64)) ∷ []) (append_assoc all (access who (Loaded 0 found) ∷ []) stored.between);
+      told = told;
     }
 
 -- the form of one reply

@@ -1,3 +1,3 @@
 pub mod Naming
 pub mod Forming
-pub mod Dealing
+pub mod Raising

@@ -2,14 +2,24 @@
 use Rattle.std.specs.Prelude.{◌≡◌, ◌≢◌, ℕ, zero, suc, ◌+◌, ◌-◌, ◌%◌, ◌^◌, ◌<◌, ◌≤◌, ◌⊎◌, ◌↔◌, min, List, [], ◌∷◌, ◌++◌, All, length, map}
 use Rattle.book_base.specs.declared.TheConstants.{BAD}
 use Rattle.seq_objects.specs.Replies.{reply_done, reply_none, reply_value}
-use Rattle.lawful_objects.specs.Forms.{operation, increment, IsTallyReply}
-use Rattle.faulty_objects.specs.Deeds.{Deed, Added, Stored, Loaded, Swapped, AreCalls}
+use Rattle.lawful_objects.specs.Forms.{operation, increment, IsTallyReply, IsLastStored}
+use Rattle.shared_words.specs.Deeds.{Deed, Added, Stored, Loaded, Swapped, AreCalls}
+use Rattle.shared_words.specs.Histories.{Access, access, word_at, IsLawful}
 
 -- A call of a split tally: an increment loads the word, and then stores one more than it found, in two steps; its reply is the word
 -- found. All else makes no step, and the reply is bad.
 pub record IsSplit (op reply : ℕ) (before after : List Deed) : Type 0 where
   pub counts : op ≡ increment → (found : ℕ) × (after ≡ before ++ Loaded 0 found ∷ Stored 0 ((found + 1) % 2 ^ 64) ∷ []) × (reply ≡ reply_value found)
   pub other : op ≢ increment → (after ≡ before) × (reply ≡ BAD)
+
+-- A history that ends with a split increment of a caller, with the reply to it: the word that the last store before its load stored.
+pub record IsTorn (who reply : ℕ) (history : List Access) : Type 0 where
+  pub before : List Access
+  pub between : List Access
+  pub word : ℕ
+  pub last : IsLastStored word before
+  pub ends : history ≡ (before ++ access who (Loaded 0 word) ∷ between) ++ access who (Stored 0 ((word + 1) % 2 ^ 64)) ∷ []
+  pub told : reply ≡ reply_value word
 
 -- The pairs of a split tally's calls have the form of a tally's: a value exactly to the increment, and else bad.
 abbrev pub SplitsAreFormed : Type 0
@@ -29,6 +39,14 @@ IsNoEnqueue op = (value : ℕ) → value < 2 ^ 32 → op ≢ enqueue value
 -- The word of an item place stands behind the counter.
 abbrev pub item_index : ℕ → ℕ
 item_index place = 1 + place
+
+-- Callers of a one-pass queue add 1 to the counter, load it, store items in places, and swap what is in a place for nothing.
+abbrev pub queue_may : ℕ → Deed → Type 0
+queue_may caller deed =
+    ((found : ℕ) × (deed ≡ Added 0 1 found))
+    ⊎ ((found : ℕ) × (deed ≡ Loaded 0 found))
+    ⊎ ((place value : ℕ) × (deed ≡ Stored (item_index place) (value + 1)))
+    ⊎ ((place found : ℕ) × (deed ≡ Swapped (item_index place) 0 found))
 
 -- The first so many places are gone over once, from the first, and each is found empty.
 abbrev pub empty_places : ℕ → List Deed
@@ -70,6 +88,20 @@ OnePassesAreFormed = (places : ℕ) (pairs : List (ℕ × ℕ)) (before after : 
 -- The flag of a caller at a meeting is up.
 abbrev pub up : ℕ
 up = 1
+
+-- Callers of a meeting raise their own flags, and load any.
+abbrev pub meeting_may : ℕ → Deed → Type 0
+meeting_may caller deed = (deed ≡ Stored caller up) ⊎ ((place found : ℕ) × (deed ≡ Loaded place found))
+
+-- The caller of a flag has raised it.
+pub record HasRaised (flag : ℕ) (history : List Access) : Type 0 where
+  pub before : List Access
+  pub rest : List Access
+  pub raised : history ≡ before ++ access flag (Stored flag up) ∷ rest
+
+-- A flag is up only after its caller has raised it.
+abbrev pub FlagsAreRaised : Type 0
+FlagsAreRaised = (flag : ℕ) (history : List Access) → IsLawful meeting_may history → word_at flag history ≡ up → HasRaised flag history
 
 -- The other one of two callers.
 abbrev pub other_caller : ℕ → ℕ

@@ -1,4 +1,3 @@
 pub mod Names
-pub mod Deeds
 pub mod Forms
 pub mod Passes

@@ -1,5 +1,5 @@
 //! The forms of the replies of all calls of a pass, and what the last step of a call tells.
-ghost use Rattle.faulty_objects.specs.Forms.{SplitsAreFormed, OnePassesAreFormed, MeetingsAreFormed, LastLoadsTellReplies};
+ghost use Rattle.faulty_objects.specs.Forms.{SplitsAreFormed, OnePassesAreFormed, MeetingsAreFormed, LastLoadsTellReplies, FlagsAreRaised};
 
 /// The replies of a split tally have the form of a tally's.
 #[tactic(auto, using(crate::proofs::Forming::splits_are_formed))]
@@ -22,4 +22,10 @@ pub fn meetings_are_formed()
 /// A reply at a meeting is done exactly where the call's last load found the other caller's flag up.
 pub fn last_loads_tell_replies()
     ensures { LastLoadsTellReplies }
+{}
+
+/// A flag of a meeting is up only after its caller has raised it.
+#[tactic(auto, using(crate::proofs::Raising::flags_are_raised))]
+pub fn flags_are_raised()
+    ensures { FlagsAreRaised }
 {}

@@ -5,13 +5,10 @@ mod behaviour;
 pub mod laws;
 mod meeting;
 mod one_pass;
-mod shared_words;
 mod split_tally;
-mod words_pass;
 
 pub use behaviour::Behaviour;
 pub use faulty_machines::{Invent, Late, Lossy, Twice};
-pub use meeting::Meeting;
-pub use one_pass::OnePass;
+pub use meeting::{Flags, Meeting};
+pub use one_pass::{OnePass, QueueDeeds};
 pub use split_tally::SplitTally;
-pub use words_pass::WordsPass;

@@ -2,14 +2,15 @@ ghost use Rattle.std.specs.Prelude.{◌≡◌, ◌+◌, ◌<◌, ◌≤◌, ◌+
 ghost use Rattle.std.specs.List.{range_with_len};
 ghost use Rattle.std.specs.Bool.{OnTrue, OnFalse};
 ghost use Rattle.book_base.specs.declared.TheConstants.{MAX_CALLS};
-ghost use Rattle.faulty_objects.specs.Forms.{most_loads, IsSeen, IsMissed, IsMeeting, IsMeetingReply};
+ghost use mathlib.Core.List.{IsPrefix};
+ghost use Rattle.shared_words.specs.Passes.{callers_of, cap_of, count_of};
+ghost use Rattle.seq_objects.specs.Replies.{reply_done};
+ghost use Rattle.faulty_objects.specs.Forms.{most_loads, other_caller, meeting_may, HasRaised, IsSeen, IsMissed, IsMeeting, IsMeetingReply};
 
-use crate::shared_words::{Doing, SharedWords};
-use crate::words_pass::WordsPass;
-use atomic_table::Seat;
 use book_base::{BAD, MAX_CALLS, NoMemory, OpWord};
 use drv_wrapper::{Announced, BlackBox};
 use seq_objects::DONE;
+use shared_words::{SharedWords, Usage, WordSeat, WordsPass};
 use std::alloc::Global;
 use std::hint::spin_loop;
 
@@ -19,17 +20,27 @@ const UP: u64 = 1;
 /// How often a call loads the other caller's flag at most.
 const MOST_LOADS: u32 = 100_000_000;
 
+/// Callers raise their own flags, and load any.
+pub struct Flags;
+
+impl Usage for Flags {
+    ghost use Rattle.faulty_objects.specs.Forms.{meeting_may};
+
+    ghost may = { meeting_may };
+}
+
 /// A meeting of two callers: each raises its own flag, and waits a while for the other's to be up. It serves to
 /// see whether callers are at work at the same time: one that is through before the other begins waits in vain,
 /// and its reply is bad.
 #[derive(Drop)]
 pub struct Meeting {
-    pub(crate) words: SharedWords,
-    ghost two: { (words.callers ≡ 2) × (words.table.shared.table_id.words ≡ 2) },
+    pub(crate) words: SharedWords<Flags>,
+    ghost two: { (callers_of words ≡ 2) × (count_of words ≡ 2) },
 }
 
 impl Meeting {
-    ghost use Rattle.faulty_objects.specs.Passes.{deeds_of, callers_of, cap_of, caller_of_pass, made_with, cap_of_pass, pairs_in, IsSeatOf, IsFreshPass, IsMeetingPass};
+    ghost use Rattle.shared_words.specs.Passes.{caller_of_seat, history_of, deeds_of, caller_of_pass, made_with, cap_of_pass, pairs_in, history_in, IsSeatOf, IsFreshPass};
+    ghost use Rattle.faulty_objects.specs.Passes.{IsMeetingPass};
 
     /// A meeting for `n` callers, of whom there are two, with `cap` calls each, and a pass for each caller, in order.
     /// No flag is up.
@@ -49,13 +60,16 @@ impl Meeting {
     }
 
     // Whether a flag is found up, by loads of it until one finds it.
-    fn sees(&self, seat: &mut Seat<(), Doing>, flag: usize) -> bool
-        requires seat { IsSeatOf self.now.words seat.old }
+    fn sees(&self, seat: &mut WordSeat, flag: usize) -> bool
+        requires seat { IsSeatOf meeting_may self.now.words seat.old }
         requires flag { flag < 2 }
-        ensures seat { IsSeatOf self.now.words seat.new }
+        ensures seat { IsSeatOf meeting_may self.now.words seat.new }
+        ensures caller { caller_of_seat seat.new ≡ caller_of_seat seat.old }
         ensures seen { OnTrue result (IsSeen flag (deeds_of seat.old) (deeds_of seat.new)) }
         ensures missed { OnFalse result (IsMissed flag most_loads
             (deeds_of seat.old) (deeds_of seat.new)) }
+        ensures history { IsPrefix (history_of seat.old) (history_of seat.new) }
+        ensures raised { OnTrue result (HasRaised flag (history_of seat.new)) }
     {
         for _turn in 0..MOST_LOADS {
             let found = self.words.load(seat, flag);
@@ -68,12 +82,15 @@ impl Meeting {
     }
 
     // The reply to a caller, with the steps that it makes.
-    fn reply(&self, seat: &mut Seat<(), Doing>, caller: u32) -> u64
-        requires seat { IsSeatOf self.now.words seat.old }
-        requires caller { caller < 2 }
-        ensures seat { IsSeatOf self.now.words seat.new }
-        ensures call { IsMeeting caller result (deeds_of seat.old) (deeds_of seat.new) }
+    fn reply(&self, seat: &mut WordSeat) -> u64
+        requires seat { IsSeatOf meeting_may self.now.words seat.old }
+        ensures seat { IsSeatOf meeting_may self.now.words seat.new }
+        ensures caller { caller_of_seat seat.new ≡ caller_of_seat seat.old }
+        ensures call { IsMeeting (caller_of_seat seat.old) result (deeds_of seat.old) (deeds_of seat.new) }
+        ensures history { IsPrefix (history_of seat.old) (history_of seat.new) }
+        ensures raised { result ≡ reply_done → HasRaised (other_caller (caller_of_seat seat.old)) (history_of seat.new) }
     {
+        let caller = seat.caller();
         self.words.store(seat, caller as usize, UP);
         if self.sees(seat, 1 - caller as usize) {
             DONE
@@ -90,11 +107,12 @@ impl Meeting {
         ensures same { (caller_of_pass pass.new ≡ caller_of_pass pass.old)
             × (cap_of_pass pass.new ≡ cap_of_pass pass.old) }
         ensures pairs { pairs_in pass.new ≡ pairs_in pass.old ++ (op, result) ∷ [] }
+        ensures history { IsPrefix (history_in pass.old) (history_in pass.new) }
+        ensures raised { result ≡ reply_done → HasRaised (other_caller (caller_of_pass pass.old)) (history_in pass.new) }
         ensures form { IsMeetingReply result }
     {
-        let caller = pass.caller;
-        let reply = self.reply(&mut pass.seat, caller);
-        pass.pairs.push((op, reply)).unwrap();
+        let reply = self.reply(&mut pass.seat);
+        pass.note(op, reply);
         reply
     }
 }
@@ -102,7 +120,8 @@ impl Meeting {
 impl BlackBox for Meeting {
     ghost use Rattle.std.proofs.Common.{sym, ap};
     ghost use Rattle.std.proofs.lemmas.Option.{same_Some};
-    ghost use Rattle.faulty_objects.specs.Passes.{pairs_in, IsMeetingPass};
+    ghost use Rattle.shared_words.specs.Passes.{pairs_in};
+    ghost use Rattle.faulty_objects.specs.Passes.{IsMeetingPass};
 
     type Pass = WordsPass;
 

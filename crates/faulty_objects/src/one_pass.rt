@@ -1,14 +1,14 @@
 ghost use Rattle.std.specs.Prelude.{◌≡◌, ◌+◌, ◌*◌, ◌<◌, ◌≤◌, ◌++◌, ◌∷◌, [], ℕ, List, IfOk, All, map, length};
 ghost use Rattle.std.specs.List.{range_with_len};
 ghost use Rattle.book_base.specs.declared.TheConstants.{MAX_CALLERS, MAX_CALLS};
-ghost use Rattle.faulty_objects.specs.Forms.{IsEnqueued, IsDequeued, IsOnePass, IsQueueReply};
+ghost use mathlib.Core.List.{IsPrefix};
+ghost use Rattle.shared_words.specs.Passes.{callers_of, cap_of, count_of};
+ghost use Rattle.faulty_objects.specs.Forms.{queue_may, IsEnqueued, IsDequeued, IsOnePass, IsQueueReply};
 
-use crate::shared_words::{Doing, SharedWords};
-use crate::words_pass::WordsPass;
-use atomic_table::Seat;
 use book_base::{BAD, MAX_CALLERS, MAX_CALLS, NoMemory, OpWord};
 use drv_wrapper::{Announced, BlackBox};
 use seq_objects::{DONE, NONE, value_reply};
+use shared_words::{SharedWords, Usage, WordSeat, WordsPass};
 use std::alloc::Global;
 
 /// The operation word of the enqueue of 0, and that of the dequeue: the enqueues stand from the one up to the
@@ -17,17 +17,26 @@ const ENQUEUE_0: OpWord = 1 << 32;
 
 const DEQUEUE: OpWord = 2 << 32;
 
+/// Callers add to the counter and load it, put items into places, and take what is in a place.
+pub struct QueueDeeds;
+
+impl Usage for QueueDeeds {
+    ghost use Rattle.faulty_objects.specs.Forms.{queue_may};
+
+    ghost may = { queue_may };
+}
+
 /// The array queue of Herlihy and Wing (1990) with a dequeue that gives up: it goes over the places once, and
 /// says that there is none where it found each of them empty.
 #[derive(Drop)]
 pub struct OnePass {
-    pub(crate) words: SharedWords,
-    ghost places: { words.table.shared.table_id.words ≡ 1 + words.callers * words.cap },
-    ghost few: { (words.callers ≤ MAX_CALLERS) × (words.cap ≤ MAX_CALLS) },
+    pub(crate) words: SharedWords<QueueDeeds>,
+    ghost places: { count_of words ≡ 1 + callers_of words * cap_of words },
 }
 
 impl OnePass {
-    ghost use Rattle.faulty_objects.specs.Passes.{deeds_of, callers_of, cap_of, caller_of_pass, made_with, cap_of_pass, pairs_in, IsSeatOf, IsFreshPass, IsQueuePass};
+    ghost use Rattle.shared_words.specs.Passes.{caller_of_seat, history_of, deeds_of, caller_of_pass, made_with, cap_of_pass, pairs_in, history_in, IsSeatOf, IsFreshPass};
+    ghost use Rattle.faulty_objects.specs.Passes.{IsQueuePass};
 
     /// A queue for `n` callers with `cap` calls each, and a pass for each caller, in order. It is empty.
     pub fn open(alloc: Global, n: u32, cap: u64) -> Result<(OnePass, Vec<WordsPass>), NoMemory>
@@ -47,18 +56,20 @@ impl OnePass {
 
     // How many places there are: one for each call.
     fn places(&self) -> u64
-        ensures count { result ≡ self.now.words.callers * self.now.words.cap }
+        ensures count { result ≡ callers_of self.now.words * cap_of self.now.words }
         ensures few { result ≤ 4096 }
     {
-        self.words.callers as u64 * self.words.cap
+        self.words.callers() as u64 * self.words.cap()
     }
 
     // An enqueue of a value. There are as many places as calls, so there is one for it.
-    fn enqueue(&self, seat: &mut Seat<(), Doing>, value: u64)
-        requires seat { IsSeatOf self.now.words seat.old }
+    fn enqueue(&self, seat: &mut WordSeat, value: u64)
+        requires seat { IsSeatOf queue_may self.now.words seat.old }
         requires value { value < 4294967296 }
-        ensures seat { IsSeatOf self.now.words seat.new }
-        ensures call { IsEnqueued (self.now.words.callers * self.now.words.cap) value (deeds_of seat.old) (deeds_of seat.new) }
+        ensures seat { IsSeatOf queue_may self.now.words seat.new }
+        ensures caller { caller_of_seat seat.new ≡ caller_of_seat seat.old }
+        ensures call { IsEnqueued (callers_of self.now.words * cap_of self.now.words) value (deeds_of seat.old) (deeds_of seat.new) }
+        ensures history { IsPrefix (history_of seat.old) (history_of seat.new) }
     {
         let place = self.words.add(seat, 0, 1);
         if place < self.places() {
@@ -67,10 +78,12 @@ impl OnePass {
     }
 
     // A dequeue: one pass over the places below the counter.
-    fn dequeue(&self, seat: &mut Seat<(), Doing>) -> u64
-        requires seat { IsSeatOf self.now.words seat.old }
-        ensures seat { IsSeatOf self.now.words seat.new }
-        ensures call { IsDequeued (self.now.words.callers * self.now.words.cap) result (deeds_of seat.old) (deeds_of seat.new) }
+    fn dequeue(&self, seat: &mut WordSeat) -> u64
+        requires seat { IsSeatOf queue_may self.now.words seat.old }
+        ensures seat { IsSeatOf queue_may self.now.words seat.new }
+        ensures caller { caller_of_seat seat.new ≡ caller_of_seat seat.old }
+        ensures call { IsDequeued (callers_of self.now.words * cap_of self.now.words) result (deeds_of seat.old) (deeds_of seat.new) }
+        ensures history { IsPrefix (history_of seat.old) (history_of seat.new) }
     {
         let counter = self.words.load(seat, 0);
         for place in 0..counter.min(self.places()) as usize {
@@ -83,10 +96,12 @@ impl OnePass {
     }
 
     // The reply to an operation, with the steps that it makes.
-    fn reply(&self, seat: &mut Seat<(), Doing>, op: OpWord) -> u64
-        requires seat { IsSeatOf self.now.words seat.old }
-        ensures seat { IsSeatOf self.now.words seat.new }
-        ensures call { IsOnePass (self.now.words.callers * self.now.words.cap) op result (deeds_of seat.old) (deeds_of seat.new) }
+    fn reply(&self, seat: &mut WordSeat, op: OpWord) -> u64
+        requires seat { IsSeatOf queue_may self.now.words seat.old }
+        ensures seat { IsSeatOf queue_may self.now.words seat.new }
+        ensures caller { caller_of_seat seat.new ≡ caller_of_seat seat.old }
+        ensures call { IsOnePass (callers_of self.now.words * cap_of self.now.words) op result (deeds_of seat.old) (deeds_of seat.new) }
+        ensures history { IsPrefix (history_of seat.old) (history_of seat.new) }
     {
         if op == DEQUEUE {
             return self.dequeue(seat);
@@ -105,10 +120,11 @@ impl OnePass {
         ensures own { IsQueuePass self.now pass.new }
         ensures same { (caller_of_pass pass.new ≡ caller_of_pass pass.old) × (cap_of_pass pass.new ≡ cap_of_pass pass.old) }
         ensures pairs { pairs_in pass.new ≡ pairs_in pass.old ++ (op, result) ∷ [] }
+        ensures history { IsPrefix (history_in pass.old) (history_in pass.new) }
         ensures form { IsQueueReply op result }
     {
         let reply = self.reply(&mut pass.seat, op);
-        pass.pairs.push((op, reply)).unwrap();
+        pass.note(op, reply);
         reply
     }
 }
@@ -116,7 +132,8 @@ impl OnePass {
 impl BlackBox for OnePass {
     ghost use Rattle.std.proofs.Common.{sym, ap};
     ghost use Rattle.std.proofs.lemmas.Option.{same_Some};
-    ghost use Rattle.faulty_objects.specs.Passes.{pairs_in, IsQueuePass};
+    ghost use Rattle.shared_words.specs.Passes.{pairs_in};
+    ghost use Rattle.faulty_objects.specs.Passes.{IsQueuePass};
 
     type Pass = WordsPass;
 

@@ -1,15 +1,16 @@
 ghost use Rattle.std.specs.Prelude.{◌≡◌, ◌+◌, ◌<◌, ◌≤◌, ◌++◌, ◌∷◌, [], ℕ, List, IfOk, All, map, length};
 ghost use Rattle.std.specs.List.{range_with_len};
 ghost use Rattle.book_base.specs.declared.TheConstants.{MAX_CALLERS, MAX_CALLS};
-ghost use Rattle.lawful_objects.specs.Forms.{IsTallyReply};
-ghost use Rattle.faulty_objects.specs.Forms.{IsSplit};
+ghost use mathlib.Core.List.{IsPrefix};
+ghost use Rattle.shared_words.specs.Passes.{callers_of, cap_of, count_of};
+ghost use Rattle.lawful_objects.specs.Forms.{increment, cell_may, IsTallyReply};
+ghost use Rattle.faulty_objects.specs.Forms.{IsSplit, IsTorn};
 
-use crate::shared_words::{Doing, SharedWords};
-use crate::words_pass::WordsPass;
-use atomic_table::Seat;
 use book_base::{BAD, MAX_CALLERS, MAX_CALLS, NoMemory, OpWord};
 use drv_wrapper::{Announced, BlackBox};
+use lawful_objects::LoadsAndStores;
 use seq_objects::value_reply;
+use shared_words::{SharedWords, WordSeat, WordsPass};
 use std::alloc::Global;
 
 /// The operation word of the increment.
@@ -19,12 +20,13 @@ const INCREMENT: OpWord = 1 << 32;
 /// lost.
 #[derive(Drop)]
 pub struct SplitTally {
-    pub(crate) words: SharedWords,
-    ghost one: { words.table.shared.table_id.words ≡ 1 },
+    pub(crate) words: SharedWords<LoadsAndStores>,
+    ghost one: { count_of words ≡ 1 },
 }
 
 impl SplitTally {
-    ghost use Rattle.faulty_objects.specs.Passes.{deeds_of, callers_of, cap_of, caller_of_pass, made_with, cap_of_pass, pairs_in, IsSeatOf, IsFreshPass, IsSplitPass};
+    ghost use Rattle.shared_words.specs.Passes.{caller_of_seat, history_of, deeds_of, caller_of_pass, made_with, cap_of_pass, pairs_in, history_in, IsSeatOf, IsFreshPass};
+    ghost use Rattle.faulty_objects.specs.Passes.{IsSplitPass};
 
     /// A split tally for `n` callers with `cap` calls each, and a pass for each caller, in order. The count is 0.
     pub fn open(alloc: Global, n: u32, cap: u64) -> Result<(SplitTally, Vec<WordsPass>), NoMemory>
@@ -42,10 +44,13 @@ impl SplitTally {
     }
 
     // The reply to an operation, with the steps that it makes.
-    fn reply(&self, seat: &mut Seat<(), Doing>, op: OpWord) -> u64
-        requires { IsSeatOf self.now.words seat.old }
-        ensures seat { IsSeatOf self.now.words seat.new }
+    fn reply(&self, seat: &mut WordSeat, op: OpWord) -> u64
+        requires { IsSeatOf cell_may self.now.words seat.old }
+        ensures seat { IsSeatOf cell_may self.now.words seat.new }
+        ensures caller { caller_of_seat seat.new ≡ caller_of_seat seat.old }
         ensures call { IsSplit op result (deeds_of seat.old) (deeds_of seat.new) }
+        ensures history { IsPrefix (history_of seat.old) (history_of seat.new) }
+        ensures torn { op ≡ increment → IsTorn (caller_of_seat seat.old) result (history_of seat.new) }
     {
         if op != INCREMENT {
             return BAD;
@@ -62,10 +67,12 @@ impl SplitTally {
         ensures own { IsSplitPass self.now pass.new }
         ensures same { (caller_of_pass pass.new ≡ caller_of_pass pass.old) × (cap_of_pass pass.new ≡ cap_of_pass pass.old) }
         ensures pairs { pairs_in pass.new ≡ pairs_in pass.old ++ (op, result) ∷ [] }
+        ensures history { IsPrefix (history_in pass.old) (history_in pass.new) }
+        ensures torn { op ≡ increment → IsTorn (caller_of_pass pass.old) result (history_in pass.new) }
         ensures form { IsTallyReply op result }
     {
         let reply = self.reply(&mut pass.seat, op);
-        pass.pairs.push((op, reply)).unwrap();
+        pass.note(op, reply);
         reply
     }
 }
@@ -73,7 +80,8 @@ impl SplitTally {
 impl BlackBox for SplitTally {
     ghost use Rattle.std.proofs.Common.{sym, ap};
     ghost use Rattle.std.proofs.lemmas.Option.{same_Some};
-    ghost use Rattle.faulty_objects.specs.Passes.{pairs_in, IsSplitPass};
+    ghost use Rattle.shared_words.specs.Passes.{pairs_in};
+    ghost use Rattle.faulty_objects.specs.Passes.{IsSplitPass};
 
     type Pass = WordsPass;
 

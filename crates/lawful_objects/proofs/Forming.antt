@@ -1,16 +1,10 @@
 -- Calls one after the other, and the forms of their replies.
-use Rattle.std.proofs.Common.{◌≡◌, ◌≢◌, ℕ, ◌-◌, ◌^◌, ◌≤◌, arith, List, [], ◌∷◌, ◌++◌, refl, sym, ap, ◌∙◌, subst}
+use Rattle.std.proofs.Common.{◌≡◌, ◌≢◌, ℕ, ◌-◌, ◌^◌, ◌≤◌, arith, List, [], ◌∷◌, ◌++◌, refl, ap, ◌∙◌}
 use Rattle.std.specs.List.{All}
 use Rattle.std.proofs.lemmas.List.Elements.{All-nil, All-cons}
 use Rattle.seq_objects.specs.Replies.{reply_done}
-use Rattle.lawful_objects.specs.Deeds.{Deed, Stored, AreCalls}
+use Rattle.shared_words.specs.Deeds.{Deed, Stored, AreCalls}
 use Rattle.lawful_objects.specs.Forms.{read, IsTallied, IsKept, IsTallyReply, IsCellReply, TalliesAreFormed, CellsAreFormed}
-
--- one more call at the end
-pub AreCalls-push : (call : ℕ → ℕ → List Deed → List Deed → Type 0) (pairs : List (ℕ × ℕ)) (op reply : ℕ) (before between after : List Deed)
-    → AreCalls call pairs before between → call op reply between after → AreCalls call (pairs ++ (op, reply) ∷ []) before after
-AreCalls-push call [] op reply before between after so_far one = (after, subst (λ (d : List Deed). call op reply d after) (sym so_far) one, refl)
-AreCalls-push call (pair ∷ pairs) op reply before between after so_far one = (so_far.0, so_far.1, AreCalls-push call pairs op reply so_far.0 between after so_far.2 one)
 
 -- the form of one reply
 pub tally_form : (op reply : ℕ) (before after : List Deed) → IsTallied op reply before after → IsTallyReply op reply
@@ -29,10 +23,10 @@ cell_form op reply before after call =
     }
 
 -- a store of what a write asks for is its call
-pub stored_is_kept : (op word : ℕ) (before after : List Deed) → 2 ^ 32 ≤ op → op ≢ read → op ≤ 2 ^ 33 → word ≡ op - 2 ^ 32 → after ≡ before ++ Stored word ∷ [] → IsKept op reply_done before after
+pub stored_is_kept : (op word : ℕ) (before after : List Deed) → 2 ^ 32 ≤ op → op ≢ read → op ≤ 2 ^ 33 → word ≡ op - 2 ^ 32 → after ≡ before ++ Stored 0 word ∷ [] → IsKept op reply_done before after
 stored_is_kept op word before after from no_read to is step =
     record {
-      writes = λ value low same. let value_is : word ≡ value = omega arith in (step ∙ ap (λ (w : ℕ). before ++ Stored w ∷ []) value_is, refl);
+      writes = λ value low same. let value_is : word ≡ value = omega arith in (step ∙ ap (λ (w : ℕ). before ++ Stored 0 w ∷ []) value_is, refl);
       reads = λ same. absurd (no_read same);
       other = λ no_write no_read'. absurd (no_write (op - 2 ^ 32) (omega arith) (omega arith));
     }

@@ -3,4 +3,4 @@ pub mod Pairing
 pub mod Telling
 pub mod Equipping
 pub mod Forming
-pub mod Wording
+pub mod Counting

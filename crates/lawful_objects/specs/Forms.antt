@@ -1,8 +1,9 @@
 -- What a call of a tally and of a cell does, and which form its reply has.
-use Rattle.std.specs.Prelude.{◌≡◌, ◌≢◌, ℕ, ◌+◌, ◌*◌, ◌^◌, ◌<◌, List, [], ◌∷◌, ◌++◌, All}
+use Rattle.std.specs.Prelude.{◌≡◌, ◌≢◌, ℕ, ◌+◌, ◌*◌, ◌%◌, ◌^◌, ◌<◌, ◌⊎◌, List, [], ◌∷◌, ◌++◌, All, length}
 use Rattle.book_base.specs.declared.TheConstants.{BAD}
 use Rattle.seq_objects.specs.Replies.{reply_done, reply_value}
-use Rattle.lawful_objects.specs.Deeds.{Deed, Added, Stored, Loaded, AreCalls}
+use Rattle.shared_words.specs.Deeds.{Deed, Added, Stored, Loaded, AreCalls}
+use Rattle.shared_words.specs.Histories.{Access, access, word_at, IsLawful}
 
 -- The operation word of a code and an argument.
 abbrev pub operation : ℕ → ℕ → ℕ
@@ -25,14 +26,14 @@ IsNoWrite op = (value : ℕ) → value < 2 ^ 32 → op ≢ write value
 -- A call of a tally: an increment adds 1 to the word in one step, and its reply is the word found; all else makes no step, and the
 -- reply is bad.
 pub record IsTallied (op reply : ℕ) (before after : List Deed) : Type 0 where
-  pub counts : op ≡ increment → (found : ℕ) × (after ≡ before ++ Added 1 found ∷ []) × (reply ≡ reply_value found)
+  pub counts : op ≡ increment → (found : ℕ) × (after ≡ before ++ Added 0 1 found ∷ []) × (reply ≡ reply_value found)
   pub other : op ≢ increment → (after ≡ before) × (reply ≡ BAD)
 
 -- A call of a cell: a write stores its value in one step; a read loads the word in one step, and its reply is the word found; all
 -- else makes no step, and the reply is bad.
 pub record IsKept (op reply : ℕ) (before after : List Deed) : Type 0 where
-  pub writes : (value : ℕ) → value < 2 ^ 32 → op ≡ write value → (after ≡ before ++ Stored value ∷ []) × (reply ≡ reply_done)
-  pub reads : op ≡ read → (found : ℕ) × (after ≡ before ++ Loaded found ∷ []) × (reply ≡ reply_value found)
+  pub writes : (value : ℕ) → value < 2 ^ 32 → op ≡ write value → (after ≡ before ++ Stored 0 value ∷ []) × (reply ≡ reply_done)
+  pub reads : op ≡ read → (found : ℕ) × (after ≡ before ++ Loaded 0 found ∷ []) × (reply ≡ reply_value found)
   pub other : IsNoWrite op → op ≢ read → (after ≡ before) × (reply ≡ BAD)
 
 -- The form of a tally's reply: a value exactly to the increment, and else bad.
@@ -52,3 +53,40 @@ TalliesAreFormed = (pairs : List (ℕ × ℕ)) (before after : List Deed) → Ar
 
 abbrev pub CellsAreFormed : Type 0
 CellsAreFormed = (pairs : List (ℕ × ℕ)) (before after : List Deed) → AreCalls IsKept pairs before after → All (λ pair. IsCellReply pair.0 pair.1) pairs
+
+-- Callers of a tally make additions of 1 alone; callers of a cell stores and loads.
+abbrev pub tally_may : ℕ → Deed → Type 0
+tally_may caller deed = (found : ℕ) × (deed ≡ Added 0 1 found)
+
+abbrev pub cell_may : ℕ → Deed → Type 0
+cell_may caller deed = ((value : ℕ) × (deed ≡ Stored 0 value)) ⊎ ((found : ℕ) × (deed ≡ Loaded 0 found))
+
+-- A history that ends with an increment of a caller, with the reply to it: the number of increments before it, modulo 2^64.
+pub record IsCounted (who reply : ℕ) (history : List Access) : Type 0 where
+  pub before : List Access
+  pub ends : history ≡ before ++ access who (Added 0 1 (length before % 2 ^ 64)) ∷ []
+  pub told : reply ≡ reply_value (length before % 2 ^ 64)
+
+-- An access that is a load.
+abbrev pub IsLoad : Access → Type 0
+IsLoad a = (found : ℕ) × (a.deed ≡ Loaded 0 found)
+
+-- The last store of a history stored this word; where it has no store, the word is 0.
+abbrev pub IsLastStored : ℕ → List Access → Type 0
+IsLastStored word history =
+    (All IsLoad history × (word ≡ 0)) ⊎ ((before rest : List Access) × (who : ℕ) × (history ≡ before ++ access who (Stored 0 word) ∷ rest) × All IsLoad rest)
+
+-- A history that ends with a load of a caller, with a reply that tells the word that the last store before it stored.
+pub record IsLastRead (who reply : ℕ) (history : List Access) : Type 0 where
+  pub before : List Access
+  pub word : ℕ
+  pub last : IsLastStored word before
+  pub ends : history ≡ before ++ access who (Loaded 0 word) ∷ []
+  pub told : reply ≡ reply_value word
+
+-- The word of a tally is the number of its increments modulo 2^64; that of a cell is the last one stored.
+abbrev pub TalliesCount : Type 0
+TalliesCount = (history : List Access) → IsLawful tally_may history → word_at 0 history ≡ length history % 2 ^ 64
+
+abbrev pub CellsHoldTheLast : Type 0
+CellsHoldTheLast = (history : List Access) → IsLawful cell_may history → IsLastStored (word_at 0 history) history

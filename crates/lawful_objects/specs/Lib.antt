@@ -3,6 +3,5 @@ pub mod Replays
 pub mod Pairs
 pub mod Passes
 pub mod Equipment
-pub mod Deeds
 pub mod Forms
-pub mod WordPasses
+pub mod WordObjects

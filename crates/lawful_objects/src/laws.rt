@@ -2,7 +2,7 @@
 
 ghost use Rattle.lawful_objects.specs.Replays.{LastReplyIsNext};
 ghost use Rattle.lawful_objects.specs.Pairs.{PairsHaveTheCalls};
-ghost use Rattle.lawful_objects.specs.Forms.{TalliesAreFormed, CellsAreFormed};
+ghost use Rattle.lawful_objects.specs.Forms.{TalliesAreFormed, CellsAreFormed, TalliesCount, CellsHoldTheLast};
 
 /// The reply to the last operation of a log is the object's at the list that the operations before it leave.
 #[tactic(auto, using(crate::proofs::Replaying::last_reply_is_next))]
@@ -21,4 +21,11 @@ pub fn pairs_have_the_calls()
 pub fn replies_are_formed()
     ensures tallies { TalliesAreFormed }
     ensures cells { CellsAreFormed }
+{}
+
+/// The word of a tally is the number of its increments modulo 2^64, and that of a cell is the last one stored.
+#[tactic(auto, using(crate::proofs::Counting::tallies_count, crate::proofs::Counting::cells_hold_the_last))]
+pub fn words_are_of_histories()
+    ensures tallies { TalliesCount }
+    ensures cells { CellsHoldTheLast }
 {}

@@ -117,7 +117,9 @@ impl<M: Machine + Drop> LogBox<M> {
 }
 
 impl<M: Machine> BlackBox for LogBox<M> {
-    ghost use Rattle.lawful_objects.specs.Passes.{IsPassOf, pairs_in};
+    ghost use Rattle.drv_wrapper.specs.Telling.{told_after};
+    ghost use Rattle.drv_wrapper.specs.States.{who_announced, op_announced};
+    ghost use Rattle.lawful_objects.specs.Passes.{machine_in, caller_of_pass, made_with, cap_of_pass, pairs_in, log_in, IsPassOf};
     ghost use Rattle.std.specs.Prelude.{ℕ, List, length};
     ghost use Rattle.std.proofs.Common.{sym, ap, ◌∙◌};
     ghost use Rattle.std.proofs.lemmas.Option.{same_Some};
@@ -128,7 +130,20 @@ impl<M: Machine> BlackBox for LogBox<M> {
 
     ghost tells_each = { λ b pass pairs own told. ap (λ (l : List (ℕ × ℕ)). length l) (sym (same_Some (pairs_in pass) pairs told)) ∙ own.count };
 
-    fn call(&self, pass: &mut LogPass, announced: &Announced) -> u64 {
+    fn call(&self, pass: &mut LogPass, announced: &Announced) -> u64
+        requires own { IsPassOf M.reply_to M.has_seen self.now pass.old }
+        requires caller { caller_of_pass pass.old ≡ who_announced announced.now }
+        requires left { made_with pass.old < cap_of_pass pass.old }
+        ensures own { IsPassOf M.reply_to M.has_seen self.now pass.new }
+        ensures made { made_with pass.new ≡ made_with pass.old + 1 }
+        ensures same { (caller_of_pass pass.new ≡ caller_of_pass pass.old)
+            × (cap_of_pass pass.new ≡ cap_of_pass pass.old) }
+        ensures told { Some (pairs_in pass.new)
+            ≡ told_after (op_announced announced.now) result (Some (pairs_in pass.old)) }
+        ensures log { IsAfterCall (caller_of_pass pass.old) (op_announced announced.now)
+            (log_in pass.old) (log_in pass.new) }
+        ensures reply { result ≡ M.reply_to (machine_in self.now) (log_in pass.new) }
+    {
         self.make(pass, announced.op())
     }
 }

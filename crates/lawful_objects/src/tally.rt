@@ -1,66 +1,82 @@
 ghost use Rattle.std.specs.Prelude.{◌≡◌, ◌+◌, ◌<◌, ◌≤◌, ◌++◌, ◌∷◌, [], ℕ, List, IfOk, All, map, length};
 ghost use Rattle.std.specs.List.{range_with_len};
 ghost use Rattle.book_base.specs.declared.TheConstants.{MAX_CALLERS, MAX_CALLS};
-ghost use Rattle.lawful_objects.specs.Forms.{IsTallied, IsTallyReply};
+ghost use mathlib.Core.List.{IsPrefix};
+ghost use Rattle.shared_words.specs.Passes.{count_of};
+ghost use Rattle.lawful_objects.specs.Forms.{increment, IsCounted, tally_may, IsTallied, IsTallyReply};
 
-use crate::one_word::{Doing, OneWord};
-use crate::word_pass::WordPass;
-use atomic_table::Seat;
 use book_base::{BAD, MAX_CALLERS, MAX_CALLS, NoMemory, OpWord};
 use drv_wrapper::{Announced, BlackBox};
 use seq_objects::value_reply;
+use shared_words::{SharedWords, Usage, WordSeat, WordsPass};
 use std::alloc::Global;
 
 /// The operation word of the increment.
 const INCREMENT: OpWord = 1 << 32;
 
+/// Callers of a tally add 1 to its word, and do nothing else.
+pub struct Increments;
+
+impl Usage for Increments {
+    ghost use Rattle.lawful_objects.specs.Forms.{tally_may};
+
+    ghost may = { tally_may };
+}
+
 /// A counter on one atomic word, which an increment raises by one addition.
 #[derive(Drop)]
 pub struct Tally {
-    pub(crate) word: OneWord,
+    pub(crate) word: SharedWords<Increments>,
+    ghost one: { count_of word ≡ 1 },
 }
 
 impl Tally {
-    ghost use Rattle.lawful_objects.specs.WordPasses.{deeds_of, callers_of_word, cap_of_word, caller_of_word_pass, made_with_word_pass, cap_of_word_pass, pairs_of_word_pass, IsWordSeatOf, IsFreshWordPass, IsTallyPass};
+    ghost use Rattle.shared_words.specs.Passes.{caller_of_seat, history_of, deeds_of, callers_of, cap_of, caller_of_pass, made_with, cap_of_pass, pairs_in, history_in, IsSeatOf, IsFreshPass};
+    ghost use Rattle.lawful_objects.specs.WordObjects.{IsTallyPass};
 
     /// A tally for `n` callers with `cap` calls each, and a pass for each caller, in order. The count is 0.
-    pub fn open(alloc: Global, n: u32, cap: u64) -> Result<(Tally, Vec<WordPass>), NoMemory>
+    pub fn open(alloc: Global, n: u32, cap: u64) -> Result<(Tally, Vec<WordsPass>), NoMemory>
         requires some_callers { 1 ≤ n }
         requires few_callers { n ≤ MAX_CALLERS }
         requires some_calls { 1 ≤ cap }
         requires few_calls { cap ≤ MAX_CALLS }
-        ensures tally { IfOk result (λ r. (callers_of_word r.0.word ≡ n) × (cap_of_word r.0.word ≡ cap)) }
-        ensures callers { IfOk result (λ r. map caller_of_word_pass r.1.items ≡ range_with_len 0 n) }
+        ensures tally { IfOk result (λ r. (callers_of r.0.word ≡ n) × (cap_of r.0.word ≡ cap)) }
+        ensures callers { IfOk result (λ r. map caller_of_pass r.1.items ≡ range_with_len 0 n) }
         ensures own { IfOk result (λ r. All (IsTallyPass r.0) r.1.items) }
-        ensures fresh { IfOk result (λ r. All (IsFreshWordPass cap) r.1.items) }
+        ensures fresh { IfOk result (λ r. All (IsFreshPass cap) r.1.items) }
     {
-        let (word, passes) = OneWord::open(alloc, n, cap)?;
+        let (word, passes) = SharedWords::open(alloc, n, cap, 1)?;
         Ok((Tally { word }, passes))
     }
 
     // The reply to an operation, with the step that it makes.
-    fn reply(&self, seat: &mut Seat<(), Doing>, op: OpWord) -> u64
-        requires { IsWordSeatOf self.now.word seat.old }
-        ensures seat { IsWordSeatOf self.now.word seat.new }
+    fn reply(&self, seat: &mut WordSeat, op: OpWord) -> u64
+        requires { IsSeatOf tally_may self.now.word seat.old }
+        ensures seat { IsSeatOf tally_may self.now.word seat.new }
+        ensures caller { caller_of_seat seat.new ≡ caller_of_seat seat.old }
         ensures call { IsTallied op result (deeds_of seat.old) (deeds_of seat.new) }
+        ensures history { IsPrefix (history_of seat.old) (history_of seat.new) }
+        ensures counted { op ≡ increment → IsCounted (caller_of_seat seat.old) result (history_of seat.new) }
     {
         if op != INCREMENT {
             return BAD;
         }
-        value_reply(self.word.add(seat, 1))
+        value_reply(self.word.add(seat, 0, 1))
     }
 
     /// Makes one call of the pass's caller. It takes no memory.
-    pub fn make(&self, pass: &mut WordPass, op: OpWord) -> u64
+    pub fn make(&self, pass: &mut WordsPass, op: OpWord) -> u64
         requires own { IsTallyPass self.now pass.old }
-        requires left { made_with_word_pass pass.old < cap_of_word_pass pass.old }
+        requires left { made_with pass.old < cap_of_pass pass.old }
         ensures own { IsTallyPass self.now pass.new }
-        ensures same { (caller_of_word_pass pass.new ≡ caller_of_word_pass pass.old) × (cap_of_word_pass pass.new ≡ cap_of_word_pass pass.old) }
-        ensures pairs { pairs_of_word_pass pass.new ≡ pairs_of_word_pass pass.old ++ (op, result) ∷ [] }
+        ensures same { (caller_of_pass pass.new ≡ caller_of_pass pass.old) × (cap_of_pass pass.new ≡ cap_of_pass pass.old) }
+        ensures pairs { pairs_in pass.new ≡ pairs_in pass.old ++ (op, result) ∷ [] }
         ensures form { IsTallyReply op result }
+        ensures history { IsPrefix (history_in pass.old) (history_in pass.new) }
+        ensures counted { op ≡ increment → IsCounted (caller_of_pass pass.old) result (history_in pass.new) }
     {
         let reply = self.reply(&mut pass.seat, op);
-        pass.pairs.push((op, reply)).unwrap();
+        pass.note(op, reply);
         reply
     }
 }
@@ -68,15 +84,16 @@ impl Tally {
 impl BlackBox for Tally {
     ghost use Rattle.std.proofs.Common.{sym, ap};
     ghost use Rattle.std.proofs.lemmas.Option.{same_Some};
-    ghost use Rattle.lawful_objects.specs.WordPasses.{pairs_of_word_pass, IsTallyPass};
+    ghost use Rattle.shared_words.specs.Passes.{pairs_in};
+    ghost use Rattle.lawful_objects.specs.WordObjects.{IsTallyPass};
 
-    type Pass = WordPass;
+    type Pass = WordsPass;
 
     ghost is_own = { IsTallyPass };
 
-    ghost tells_each = { λ t pass pairs own told. ap (λ (l : List (ℕ × ℕ)). length l) (sym (same_Some (pairs_of_word_pass pass) pairs told)) };
+    ghost tells_each = { λ t pass pairs own told. ap (λ (l : List (ℕ × ℕ)). length l) (sym (same_Some (pairs_in pass) pairs told)) };
 
-    fn call(&self, pass: &mut WordPass, announced: &Announced) -> u64 {
+    fn call(&self, pass: &mut WordsPass, announced: &Announced) -> u64 {
         self.make(pass, announced.op())
     }
 }

@@ -1,14 +1,14 @@
 ghost use Rattle.std.specs.Prelude.{◌≡◌, ◌+◌, ◌<◌, ◌≤◌, ◌++◌, ◌∷◌, [], ℕ, List, IfOk, All, map, length};
 ghost use Rattle.std.specs.List.{range_with_len};
 ghost use Rattle.book_base.specs.declared.TheConstants.{MAX_CALLERS, MAX_CALLS};
-ghost use Rattle.lawful_objects.specs.Forms.{IsKept, IsCellReply};
+ghost use mathlib.Core.List.{IsPrefix};
+ghost use Rattle.shared_words.specs.Passes.{count_of};
+ghost use Rattle.lawful_objects.specs.Forms.{read, IsLastRead, cell_may, IsKept, IsCellReply};
 
-use crate::one_word::{Doing, OneWord};
-use crate::word_pass::WordPass;
-use atomic_table::Seat;
 use book_base::{BAD, MAX_CALLERS, MAX_CALLS, NoMemory, OpWord};
 use drv_wrapper::{Announced, BlackBox};
 use seq_objects::{DONE, value_reply};
+use shared_words::{SharedWords, Usage, WordSeat, WordsPass};
 use std::alloc::Global;
 
 /// The operation word of the write of 0, and that of the read: the writes stand from the one up to the other.
@@ -16,57 +16,73 @@ const WRITE_0: OpWord = 1 << 32;
 
 const READ: OpWord = 2 << 32;
 
+/// Callers load the one word and store into it, and do nothing else.
+pub struct LoadsAndStores;
+
+impl Usage for LoadsAndStores {
+    ghost use Rattle.lawful_objects.specs.Forms.{cell_may};
+
+    ghost may = { cell_may };
+}
+
 /// A register on one atomic word: a write is one store, and a read is one load.
 #[derive(Drop)]
 pub struct WordCell {
-    pub(crate) word: OneWord,
+    pub(crate) word: SharedWords<LoadsAndStores>,
+    ghost one: { count_of word ≡ 1 },
 }
 
 impl WordCell {
-    ghost use Rattle.lawful_objects.specs.WordPasses.{deeds_of, callers_of_word, cap_of_word, caller_of_word_pass, made_with_word_pass, cap_of_word_pass, pairs_of_word_pass, IsWordSeatOf, IsFreshWordPass, IsCellPass};
+    ghost use Rattle.shared_words.specs.Passes.{caller_of_seat, history_of, deeds_of, callers_of, cap_of, caller_of_pass, made_with, cap_of_pass, pairs_in, history_in, IsSeatOf, IsFreshPass};
+    ghost use Rattle.lawful_objects.specs.WordObjects.{IsCellPass};
 
     /// A cell for `n` callers with `cap` calls each, and a pass for each caller, in order. Its value is 0.
-    pub fn open(alloc: Global, n: u32, cap: u64) -> Result<(WordCell, Vec<WordPass>), NoMemory>
+    pub fn open(alloc: Global, n: u32, cap: u64) -> Result<(WordCell, Vec<WordsPass>), NoMemory>
         requires some_callers { 1 ≤ n }
         requires few_callers { n ≤ MAX_CALLERS }
         requires some_calls { 1 ≤ cap }
         requires few_calls { cap ≤ MAX_CALLS }
-        ensures cell { IfOk result (λ r. (callers_of_word r.0.word ≡ n) × (cap_of_word r.0.word ≡ cap)) }
-        ensures callers { IfOk result (λ r. map caller_of_word_pass r.1.items ≡ range_with_len 0 n) }
+        ensures cell { IfOk result (λ r. (callers_of r.0.word ≡ n) × (cap_of r.0.word ≡ cap)) }
+        ensures callers { IfOk result (λ r. map caller_of_pass r.1.items ≡ range_with_len 0 n) }
         ensures own { IfOk result (λ r. All (IsCellPass r.0) r.1.items) }
-        ensures fresh { IfOk result (λ r. All (IsFreshWordPass cap) r.1.items) }
+        ensures fresh { IfOk result (λ r. All (IsFreshPass cap) r.1.items) }
     {
-        let (word, passes) = OneWord::open(alloc, n, cap)?;
+        let (word, passes) = SharedWords::open(alloc, n, cap, 1)?;
         Ok((WordCell { word }, passes))
     }
 
     // The reply to an operation, with the step that it makes.
-    fn reply(&self, seat: &mut Seat<(), Doing>, op: OpWord) -> u64
-        requires { IsWordSeatOf self.now.word seat.old }
-        ensures seat { IsWordSeatOf self.now.word seat.new }
+    fn reply(&self, seat: &mut WordSeat, op: OpWord) -> u64
+        requires { IsSeatOf cell_may self.now.word seat.old }
+        ensures seat { IsSeatOf cell_may self.now.word seat.new }
+        ensures caller { caller_of_seat seat.new ≡ caller_of_seat seat.old }
         ensures call { IsKept op result (deeds_of seat.old) (deeds_of seat.new) }
+        ensures history { IsPrefix (history_of seat.old) (history_of seat.new) }
+        ensures last { op ≡ read → IsLastRead (caller_of_seat seat.old) result (history_of seat.new) }
     {
         if op == READ {
-            return value_reply(self.word.load(seat));
+            return value_reply(self.word.load(seat, 0));
         }
         if op < WRITE_0 || op > READ {
             return BAD;
         }
-        self.word.store(seat, (op - WRITE_0) as u64);
+        self.word.store(seat, 0, (op - WRITE_0) as u64);
         DONE
     }
 
     /// Makes one call of the pass's caller. It takes no memory.
-    pub fn make(&self, pass: &mut WordPass, op: OpWord) -> u64
+    pub fn make(&self, pass: &mut WordsPass, op: OpWord) -> u64
         requires own { IsCellPass self.now pass.old }
-        requires left { made_with_word_pass pass.old < cap_of_word_pass pass.old }
+        requires left { made_with pass.old < cap_of_pass pass.old }
         ensures own { IsCellPass self.now pass.new }
-        ensures same { (caller_of_word_pass pass.new ≡ caller_of_word_pass pass.old) × (cap_of_word_pass pass.new ≡ cap_of_word_pass pass.old) }
-        ensures pairs { pairs_of_word_pass pass.new ≡ pairs_of_word_pass pass.old ++ (op, result) ∷ [] }
+        ensures same { (caller_of_pass pass.new ≡ caller_of_pass pass.old) × (cap_of_pass pass.new ≡ cap_of_pass pass.old) }
+        ensures pairs { pairs_in pass.new ≡ pairs_in pass.old ++ (op, result) ∷ [] }
         ensures form { IsCellReply op result }
+        ensures history { IsPrefix (history_in pass.old) (history_in pass.new) }
+        ensures last { op ≡ read → IsLastRead (caller_of_pass pass.old) result (history_in pass.new) }
     {
         let reply = self.reply(&mut pass.seat, op);
-        pass.pairs.push((op, reply)).unwrap();
+        pass.note(op, reply);
         reply
     }
 }
@@ -74,15 +90,16 @@ impl WordCell {
 impl BlackBox for WordCell {
     ghost use Rattle.std.proofs.Common.{sym, ap};
     ghost use Rattle.std.proofs.lemmas.Option.{same_Some};
-    ghost use Rattle.lawful_objects.specs.WordPasses.{pairs_of_word_pass, IsCellPass};
+    ghost use Rattle.shared_words.specs.Passes.{pairs_in};
+    ghost use Rattle.lawful_objects.specs.WordObjects.{IsCellPass};
 
-    type Pass = WordPass;
+    type Pass = WordsPass;
 
     ghost is_own = { IsCellPass };
 
-    ghost tells_each = { λ t pass pairs own told. ap (λ (l : List (ℕ × ℕ)). length l) (sym (same_Some (pairs_of_word_pass pass) pairs told)) };
+    ghost tells_each = { λ t pass pairs own told. ap (λ (l : List (ℕ × ℕ)). length l) (sym (same_Some (pairs_in pass) pairs told)) };
 
-    fn call(&self, pass: &mut WordPass, announced: &Announced) -> u64 {
+    fn call(&self, pass: &mut WordsPass, announced: &Announced) -> u64 {
         self.make(pass, announced.op())
     }
 }

@@ -9,9 +9,10 @@ ghost use Rattle.named_runs.specs.NamedObjects.{AreOwnPasses, AreTold};
 use crate::named_machine::NamedMachine;
 use book_base::{MAX_CALLERS, MAX_CALLS, NoMemory};
 use drv_wrapper::{BlackBox, ObjectPass};
-use faulty_objects::{OnePass, SplitTally, WordsPass};
-use lawful_objects::{LogBox, LogPass, Tally, WordCell, WordPass};
+use faulty_objects::{OnePass, SplitTally};
+use lawful_objects::{LogBox, LogPass, Tally, WordCell};
 use seq_objects::Kind;
+use shared_words::WordsPass;
 use std::alloc::Global;
 
 /// An object that a name stands for. It is opened with a pass for each of its callers, and once they are through it is closed
@@ -81,10 +82,10 @@ impl<M: NamedMachine> NamedObject for LogBox<M> {
 
 impl NamedObject for Tally {
     ghost use Rattle.lawful_objects.specs.Forms.{IsTallyReply};
-    ghost use Rattle.lawful_objects.specs.WordPasses.{callers_of_word};
+    ghost use Rattle.shared_words.specs.Passes as passes_of;
     ghost use Rattle.logged_calls.specs.Logged.{AreFormed};
 
-    ghost callers_of = { λ object. callers_of_word object.word };
+    ghost callers_of = { λ object. passes_of.callers_of object.word };
 
     ghost serves = { λ object kind. Unit {0} };
 
@@ -95,14 +96,14 @@ impl NamedObject for Tally {
         _kind: Kind,
         n: u32,
         cap: u64,
-    ) -> Result<(Self, Vec<WordPass>), NoMemory> {
+    ) -> Result<(Self, Vec<WordsPass>), NoMemory> {
         Tally::open(alloc, n, cap)
     }
 
-    fn close_with(self, passes: Vec<WordPass>)
-        requires { AreOwnPasses (⟦<Tally as BlackBox>⟧.is_own self) ⟦<WordPass as ObjectPass>⟧.caller (callers_of_word self.word) passes.items }
+    fn close_with(self, passes: Vec<WordsPass>)
+        requires { AreOwnPasses (⟦<Tally as BlackBox>⟧.is_own self) ⟦<WordsPass as ObjectPass>⟧.caller (passes_of.callers_of self.word) passes.items }
         ensures { (kind : TheKind) (phases : ℕ → ℕ) (calls : ℕ → List Made) → Unit {0}
-            → AreTold ⟦<WordPass as ObjectPass>⟧.told phases calls passes.items → AreFormed IsTallyReply (callers_of_word self.word) calls }
+            → AreTold ⟦<WordsPass as ObjectPass>⟧.told phases calls passes.items → AreFormed IsTallyReply (passes_of.callers_of self.word) calls }
     {
         let _passes = passes;
     }
@@ -110,10 +111,10 @@ impl NamedObject for Tally {
 
 impl NamedObject for WordCell {
     ghost use Rattle.lawful_objects.specs.Forms.{IsCellReply};
-    ghost use Rattle.lawful_objects.specs.WordPasses.{callers_of_word};
+    ghost use Rattle.shared_words.specs.Passes as passes_of;
     ghost use Rattle.logged_calls.specs.Logged.{AreFormed};
 
-    ghost callers_of = { λ object. callers_of_word object.word };
+    ghost callers_of = { λ object. passes_of.callers_of object.word };
 
     ghost serves = { λ object kind. Unit {0} };
 
@@ -124,14 +125,14 @@ impl NamedObject for WordCell {
         _kind: Kind,
         n: u32,
         cap: u64,
-    ) -> Result<(Self, Vec<WordPass>), NoMemory> {
+    ) -> Result<(Self, Vec<WordsPass>), NoMemory> {
         WordCell::open(alloc, n, cap)
     }
 
-    fn close_with(self, passes: Vec<WordPass>)
-        requires { AreOwnPasses (⟦<WordCell as BlackBox>⟧.is_own self) ⟦<WordPass as ObjectPass>⟧.caller (callers_of_word self.word) passes.items }
+    fn close_with(self, passes: Vec<WordsPass>)
+        requires { AreOwnPasses (⟦<WordCell as BlackBox>⟧.is_own self) ⟦<WordsPass as ObjectPass>⟧.caller (passes_of.callers_of self.word) passes.items }
         ensures { (kind : TheKind) (phases : ℕ → ℕ) (calls : ℕ → List Made) → Unit {0}
-            → AreTold ⟦<WordPass as ObjectPass>⟧.told phases calls passes.items → AreFormed IsCellReply (callers_of_word self.word) calls }
+            → AreTold ⟦<WordsPass as ObjectPass>⟧.told phases calls passes.items → AreFormed IsCellReply (passes_of.callers_of self.word) calls }
     {
         let _passes = passes;
     }
@@ -139,7 +140,7 @@ impl NamedObject for WordCell {
 
 impl NamedObject for SplitTally {
     ghost use Rattle.lawful_objects.specs.Forms.{IsTallyReply};
-    ghost use Rattle.faulty_objects.specs.Passes as passes_of;
+    ghost use Rattle.shared_words.specs.Passes as passes_of;
     ghost use Rattle.logged_calls.specs.Logged.{AreFormed};
 
     ghost callers_of = { λ object. passes_of.callers_of object.words };
@@ -168,7 +169,7 @@ impl NamedObject for SplitTally {
 
 impl NamedObject for OnePass {
     ghost use Rattle.faulty_objects.specs.Forms.{IsQueueReply};
-    ghost use Rattle.faulty_objects.specs.Passes as passes_of;
+    ghost use Rattle.shared_words.specs.Passes as passes_of;
     ghost use Rattle.logged_calls.specs.Logged.{AreFormed};
 
     ghost callers_of = { λ object. passes_of.callers_of object.words };

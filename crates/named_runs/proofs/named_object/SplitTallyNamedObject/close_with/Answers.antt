@@ -1,6 +1,7 @@
 use Rattle.std.proofs.Common.{[], refl}
 use Rattle.lawful_objects.specs.Forms.{IsTallyReply}
-use Rattle.faulty_objects.specs.Passes.{deeds_of, pairs_in, IsSplitPass}
+use Rattle.shared_words.specs.Passes.{deeds_of, pairs_in}
+use Rattle.faulty_objects.specs.Passes.{IsSplitPass}
 use Rattle.faulty_objects.proofs.Forming.{splits_are_formed}
 use Rattle.named_runs.proofs.ToldCalls.{formed_from_told}
 use Rattle.named_runs.proofs.named_object.SplitTallyNamedObject.close_with.Goals as goal

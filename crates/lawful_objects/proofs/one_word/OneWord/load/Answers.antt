@@ -1,9 +1,0 @@
-use Rattle.std.proofs.Common.{[], ◌∷◌, ◌++◌, refl, arith, slice_index}
-use Rattle.atomic_table.specs.Table.{keeps}
-use Rattle.lawful_objects.specs.Deeds.{Loaded}
-use Rattle.lawful_objects.proofs.one_word.OneWord.load.Goals as goal
-
-pub load-requires : goal.load-requires
-load-requires c =
-    let one = c.args.self.now.sized.0 in
-    (c.requires, omega arith, λ s held long at low. (c.args.seat.now.me.0 ++ Loaded (slice_index s.words 0) ∷ [], keeps, tt, tt, refl))

@@ -1,0 +1,6 @@
+pub mod Words
+pub mod Histories
+pub mod Stepping
+pub mod Parting
+pub mod Dealing
+pub mod Calling

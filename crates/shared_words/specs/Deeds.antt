@@ -1,0 +1,37 @@
+-- What callers do to shared words, and what calls made of such deeds are.
+use Rattle.std.specs.Prelude.{◌≡◌, ℕ, ◌+◌, ◌%◌, ◌^◌, List, [], ◌∷◌}
+
+-- A deed on the word at a place: an addition of an amount to the word found, a store, a load of the word found, or a swap of the word
+-- found for another.
+pub data Deed : Type 0 where
+  Added : (place amount found : ℕ) → Deed
+  Stored : (place word : ℕ) → Deed
+  Loaded : (place found : ℕ) → Deed
+  Swapped : (place word found : ℕ) → Deed
+
+-- The place of its word.
+abbrev pub place_of : Deed → ℕ
+place_of (Added place amount found) = place
+place_of (Stored place word) = place
+place_of (Loaded place found) = place
+place_of (Swapped place word found) = place
+
+-- The word that it leaves there, where this word was there before.
+abbrev pub leaves : Deed → ℕ → ℕ
+leaves (Added place amount found) before = (before + amount) % 2 ^ 64
+leaves (Stored place word) before = word
+leaves (Loaded place found) before = before
+leaves (Swapped place word found) before = word
+
+-- What it found is this word. A store finds nothing.
+abbrev pub HasFound : Deed → ℕ → Type 0
+HasFound (Added place amount found) before = found ≡ before
+HasFound (Stored place word) before = Unit {0}
+HasFound (Loaded place found) before = found ≡ before
+HasFound (Swapped place word found) before = found ≡ before
+
+-- These pairs of operations and replies are calls, one after the other, the first of which begins after some deeds and the last
+-- of which ends after some: what one call is, is given.
+abbrev pub AreCalls : (ℕ → ℕ → List Deed → List Deed → Type 0) → List (ℕ × ℕ) → List Deed → List Deed → Type 0
+AreCalls call [] before after = before ≡ after
+AreCalls call (pair ∷ pairs) before after = (between : List Deed) × call pair.0 pair.1 before between × AreCalls call pairs between after

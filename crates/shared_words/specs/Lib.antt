@@ -1,0 +1,4 @@
+pub mod Deeds
+pub mod Histories
+pub mod Rule
+pub mod Passes

@@ -1,0 +1,82 @@
+-- Whose a seat and a pass are, and what they tell.
+use Rattle.std.specs.Prelude.{◌≡◌, ℕ, ◌<◌, ◌≤◌, List, [], length, vec_capacity}
+use Rattle.shared_log.specs.Holders.{has}
+use Rattle.shared_words.specs.declared.shared_words.SharedWords.{SharedWords}
+use Rattle.shared_words.specs.declared.word_seat.WordSeat.{WordSeat}
+use Rattle.shared_words.specs.declared.words_pass.WordsPass.{WordsPass}
+use Rattle.shared_words.specs.Deeds.{Deed, AreCalls}
+use Rattle.shared_words.specs.Histories.{Access, known, deeds_by, IsLawful}
+
+-- The caller of a seat, the history up to the last access of this caller, and its deeds.
+abbrev pub caller_of_seat : WordSeat → ℕ
+caller_of_seat s = s.who
+
+abbrev pub history_of : WordSeat → List Access
+history_of s = known (has s.seat.me.0 s.who)
+
+abbrev pub deeds_of : WordSeat → List Deed
+deeds_of s = deeds_by (caller_of_seat s) (history_of s)
+
+-- The seat of a pass.
+abbrev pub seat_in : WordsPass → WordSeat
+seat_in p = p.seat
+
+-- The caller of a pass, how many calls it made, how many it may make, its calls, each as an operation and a reply, and for how many
+-- there is memory; and the history up to its last access.
+abbrev pub caller_of_pass : WordsPass → ℕ
+caller_of_pass p = caller_of_seat p.seat
+
+abbrev pub pairs_in : WordsPass → List (ℕ × ℕ)
+pairs_in p = p.pairs.items
+
+abbrev pub made_with : WordsPass → ℕ
+made_with p = length (pairs_in p)
+
+abbrev pub cap_of_pass : WordsPass → ℕ
+cap_of_pass p = p.cap
+
+abbrev pub room_of_pass : WordsPass → ℕ
+room_of_pass p = vec_capacity p.pairs
+
+abbrev pub history_in : WordsPass → List Access
+history_in p = history_of p.seat
+
+-- The pass has made no call, and may make so many.
+pub record IsFreshPass (calls : ℕ) (p : WordsPass) : Type 0 where
+  pub made : made_with p ≡ 0
+  pub cap : cap_of_pass p ≡ calls
+  pub pairs : pairs_in p ≡ []
+
+module _ {U : Type 0} where
+  -- How many callers some words have, how many calls each may make, and how many words there are.
+  abbrev pub callers_of : SharedWords U → ℕ
+  callers_of w = w.callers
+
+  abbrev pub cap_of : SharedWords U → ℕ
+  cap_of w = w.cap
+
+  abbrev pub count_of : SharedWords U → ℕ
+  count_of w = w.table.shared.table_id.words
+
+  -- The seat is one of these words, and its history is lawful.
+  pub record IsSeatOf (may : ℕ → Deed → Type 0) (w : SharedWords U) (s : WordSeat) : Type 0 where
+    pub table : s.seat.table_id ≡ w.table.shared.table_id
+    pub caller : caller_of_seat s < callers_of w
+    pub lawful : IsLawful may (history_of s)
+
+  -- The pass is one of these words, and has room for all that its caller may ask; its pairs are calls of which each is as given,
+  -- made by its deeds.
+  pub record IsPassOf (may : ℕ → Deed → Type 0) (call : ℕ → ℕ → ℕ → List Deed → List Deed → Type 0) (w : SharedWords U) (p : WordsPass) : Type 0 where
+    pub seat : IsSeatOf may w p.seat
+    pub cap : cap_of_pass p ≡ cap_of w
+    pub room : cap_of w ≤ room_of_pass p
+    pub calls : AreCalls (call (caller_of_pass p)) (pairs_in p) [] (deeds_of p.seat)
+
+  -- It is new: it knows of no access.
+  pub record IsNewPass (w : SharedWords U) (p : WordsPass) : Type 0 where
+    pub table : p.seat.seat.table_id ≡ w.table.shared.table_id
+    pub caller : caller_of_pass p < callers_of w
+    pub cap : cap_of_pass p ≡ cap_of w
+    pub room : cap_of w ≤ room_of_pass p
+    pub pairs : pairs_in p ≡ []
+    pub history : history_in p ≡ []

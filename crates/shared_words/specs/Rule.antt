@@ -1,0 +1,36 @@
+-- The rule of the table, and what a step tells.
+use Rattle.std.specs.Prelude.{◌≡◌, ℕ, ◌<◌, List, length, slice_index, slice_set, All, Some}
+use mathlib.Core.List.{IsPrefix}
+use Rattle.atomic_table.specs.Table.{State, Me}
+use Rattle.shared_log.specs.Holders.{has, AreHeld}
+use Rattle.shared_words.specs.Deeds.{Deed}
+use Rattle.shared_words.specs.Histories.{Access, View, deeds_by, word_at, IsLawful, IsAfterAccess}
+
+-- Caller i, one of n, knows a prefix of the history, which has all its deeds.
+pub record Knows (n : ℕ) (history : List Access) (i : ℕ) (h : List Access) : Type 0 where
+  pub caller : i < n
+  pub front : IsPrefix h history
+  pub own : deeds_by i history ≡ deeds_by i h
+
+-- There is one history: it is lawful and of the callers alone, it leaves the words, and each caller knows a prefix of it.
+pub record HaveOneHistory (may : ℕ → Deed → Type 0) (n count : ℕ) (words : List ℕ) (views : List View) : Type 0 where
+  pub history : List Access
+  pub long : length words ≡ count
+  pub left : (place : ℕ) → place < count → slice_index words place ≡ word_at place history
+  pub callers : All (λ a. a.caller < n) history
+  pub lawful : IsLawful may history
+  pub hands : AreHeld (Knows n history) views
+
+-- The rule: the words and the views of the table have one history.
+abbrev pub Ruled : (ℕ → Deed → Type 0) → ℕ → ℕ → State (Unit {0}) View → Type 0
+Ruled may n count t = HaveOneHistory may n count t.words t.views
+
+-- A step is an access of a caller that is with the seat: it learns the history up to it, which is lawful.
+pub record Accesses (may : ℕ → Deed → Type 0) (me after : Me (Unit {0}) View) (deed : Deed) : Type 0 where
+  pub who : ℕ
+  pub before : List Access
+  pub next : List Access
+  pub here : has me.0 who ≡ Some before
+  pub moved : after ≡ (slice_set me.0 who (Some next), me.1)
+  pub made : IsAfterAccess who deed before next
+  pub lawful : IsLawful may next

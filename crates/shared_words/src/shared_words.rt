@@ -1,0 +1,192 @@
+//! Atomic words that callers share: each access is told to the seat that makes it, with the history before it.
+ghost use Rattle.std.specs.Prelude.{◌≡◌, ℕ, ◌<◌, ◌≤◌, [], ◌∷◌, ◌++◌, None, Some, IfOk, All, map, vec_len, vec_capacity, slice_set};
+ghost use Rattle.std.specs.List.{range_with_len};
+ghost use Rattle.book_base.specs.declared.TheConstants.{MAX_CALLERS, MAX_CALLS};
+ghost use Rattle.shared_log.specs.Holders.{has, whole};
+ghost use Rattle.shared_words.specs.Deeds as deeds;
+ghost use Rattle.shared_words.specs.Histories.{IsAfterAccess};
+
+use crate::plays::{Adds, Key, Knowing, Leaves, Loads, OneHistory, Part, Stores, Swaps};
+use crate::usage::Usage;
+use crate::word_seat::WordSeat;
+use crate::words_pass::WordsPass;
+use atomic_table::{Seat, Table};
+use book_base::{MAX_CALLERS, MAX_CALLS, NoMemory, OpWord};
+use std::alloc::{AllocError, Global};
+use std::marker::Brand;
+
+/// The words of some callers. Each is 0 at first.
+///
+/// There is one history of all accesses, in the order in which they were made, whatever the threads do: each
+/// access found what those before it leave.
+#[derive(Drop)]
+pub struct SharedWords<U: Usage> {
+    pub(crate) table: Table<(), Knowing, Key, OneHistory<U>, Global>,
+    pub(crate) callers: u32,
+    pub(crate) cap: u64,
+    ghost sized: { (0 < table.shared.table_id.words) × (table.shared.table_id.slots ≡ 0) × (table.shared.key.callers ≡ callers) × (table.shared.key.count ≡ table.shared.table_id.words) },
+    ghost few: { (callers ≤ MAX_CALLERS) × (cap ≤ MAX_CALLS) },
+}
+
+// An empty list of pairs with room for all calls, for each of some callers.
+fn empty_pairs(alloc: Global, n: u32, cap: u64) -> Result<Vec<Vec<(OpWord, u64)>>, AllocError>
+    requires { cap ≤ MAX_CALLS }
+    ensures count { IfOk result (λ all. vec_len all ≡ n) }
+    ensures empty { IfOk result (λ all. All (λ pairs. (pairs.items ≡ []) × (cap ≤ vec_capacity pairs)) all.items) }
+{
+    let mut all = Vec::with_capacity(alloc, n as usize)?;
+    for _caller in 0..n {
+        all.push(Vec::with_capacity(alloc, cap as usize)?)?;
+    }
+    Ok(all)
+}
+
+impl<U: Usage> SharedWords<U> {
+    ghost use Rattle.shared_words.specs.Passes.{caller_of_seat, history_of, deeds_of, callers_of, cap_of, count_of, caller_of_pass, IsSeatOf, IsNewPass};
+
+    /// How many callers the words have.
+    pub fn callers(&self) -> u32
+        ensures count { result ≡ callers_of self.now }
+        ensures few { result ≤ MAX_CALLERS }
+    {
+        self.callers
+    }
+
+    /// How many calls each caller may make.
+    pub fn cap(&self) -> u64
+        ensures count { result ≡ cap_of self.now }
+        ensures few { result ≤ MAX_CALLS }
+    {
+        self.cap
+    }
+
+    /// An addition to a word, modulo 2^64. The word found.
+    pub fn add(&self, seat: &mut WordSeat, place: usize, amount: u64) -> u64
+        requires seat { IsSeatOf U.may self.now seat.old }
+        requires place { place < count_of self.now }
+        requires may { (found : ℕ) → U.may (caller_of_seat seat.old) (deeds.Added place amount found) }
+        ensures seat { IsSeatOf U.may self.now seat.new }
+        ensures caller { caller_of_seat seat.new ≡ caller_of_seat seat.old }
+        ensures step { deeds_of seat.new ≡ deeds_of seat.old ++ deeds.Added place amount result ∷ [] }
+        ensures history { IsAfterAccess (caller_of_seat seat.old) (deeds.Added place amount result)
+            (history_of seat.old) (history_of seat.new) }
+    {
+        self.table
+            .shared
+            .fetch_add::<Adds<U>>(&mut seat.seat, place, amount)
+    }
+
+    /// A store into a word.
+    pub fn store(&self, seat: &mut WordSeat, place: usize, word: u64)
+        requires seat { IsSeatOf U.may self.now seat.old }
+        requires place { place < count_of self.now }
+        requires may { U.may (caller_of_seat seat.old) (deeds.Stored place word) }
+        ensures seat { IsSeatOf U.may self.now seat.new }
+        ensures caller { caller_of_seat seat.new ≡ caller_of_seat seat.old }
+        ensures step { deeds_of seat.new ≡ deeds_of seat.old ++ deeds.Stored place word ∷ [] }
+        ensures history { IsAfterAccess (caller_of_seat seat.old) (deeds.Stored place word)
+            (history_of seat.old) (history_of seat.new) }
+    {
+        self.table
+            .shared
+            .store::<Stores<U>>(&mut seat.seat, place, word)
+    }
+
+    /// A load of a word. The word found.
+    pub fn load(&self, seat: &mut WordSeat, place: usize) -> u64
+        requires seat { IsSeatOf U.may self.now seat.old }
+        requires place { place < count_of self.now }
+        requires may { (found : ℕ) → U.may (caller_of_seat seat.old) (deeds.Loaded place found) }
+        ensures seat { IsSeatOf U.may self.now seat.new }
+        ensures caller { caller_of_seat seat.new ≡ caller_of_seat seat.old }
+        ensures step { deeds_of seat.new ≡ deeds_of seat.old ++ deeds.Loaded place result ∷ [] }
+        ensures history { IsAfterAccess (caller_of_seat seat.old) (deeds.Loaded place result)
+            (history_of seat.old) (history_of seat.new) }
+    {
+        self.table.shared.load::<Loads<U>>(&mut seat.seat, place)
+    }
+
+    /// A swap of a word for another. The word found.
+    pub fn swap(&self, seat: &mut WordSeat, place: usize, word: u64) -> u64
+        requires seat { IsSeatOf U.may self.now seat.old }
+        requires place { place < count_of self.now }
+        requires may { (found : ℕ) → U.may (caller_of_seat seat.old) (deeds.Swapped place word found) }
+        ensures seat { IsSeatOf U.may self.now seat.new }
+        ensures caller { caller_of_seat seat.new ≡ caller_of_seat seat.old }
+        ensures step { deeds_of seat.new ≡ deeds_of seat.old ++ deeds.Swapped place word result ∷ [] }
+        ensures history { IsAfterAccess (caller_of_seat seat.old) (deeds.Swapped place word result)
+            (history_of seat.old) (history_of seat.new) }
+    {
+        self.table
+            .shared
+            .swap::<Swaps<U>>(&mut seat.seat, place, word)
+    }
+
+    // A caller gets a seat of its own.
+    fn leave_as<J: Part>(&self, seat: &mut Seat<(), Knowing>, who: u32) -> WordSeat
+        requires who { J.who ≡ who }
+        requires seat { seat.old.table_id ≡ self.now.table.shared.table_id }
+        requires here { has seat.old.me.0 who ≡ Some [] }
+        ensures seat { (seat.new.table_id ≡ seat.old.table_id) × (seat.new.me.0 ≡ slice_set seat.old.me.0 who None) }
+        ensures caller { (result.who ≡ who) × (result.seat.table_id ≡ seat.old.table_id) × (history_of result ≡ []) }
+    {
+        let seat = self.table.shared.split_seat::<Leaves<J>>(seat);
+        WordSeat { who, seat }
+    }
+
+    // Each caller gets a pass.
+    fn deal(
+        &self,
+        mut seat: Seat<(), Knowing>,
+        mut rooms: Vec<Vec<(OpWord, u64)>>,
+        mut passes: Vec<WordsPass>,
+    ) -> Vec<WordsPass>
+        requires seat { (seat.table_id ≡ self.now.table.shared.table_id) × (seat.me.0 ≡ whole self.now.callers []) }
+        requires rooms { (vec_len rooms ≡ self.now.callers) × All (λ pairs. (pairs.items ≡ []) × (self.now.cap ≤ vec_capacity pairs)) rooms.items }
+        requires passes { (passes.items ≡ []) × (self.now.callers ≤ vec_capacity passes) }
+        ensures callers { map caller_of_pass result.items ≡ range_with_len 0 self.now.callers }
+        ensures new { All (IsNewPass self.now) result.items }
+    {
+        for caller in 0..self.callers {
+            let Some(pairs) = rooms.pop() else {
+                unreachable!()
+            };
+            let own = self.leave_as::<Brand>(&mut seat, caller);
+            let pass = WordsPass {
+                cap: self.cap,
+                pairs,
+                seat: own,
+            };
+            passes.push(pass).unwrap();
+        }
+        passes
+    }
+
+    /// So many words for `n` callers with `cap` calls each, and a pass for each caller, in order.
+    pub fn open(
+        alloc: Global,
+        n: u32,
+        cap: u64,
+        count: usize,
+    ) -> Result<(SharedWords<U>, Vec<WordsPass>), NoMemory>
+        requires few_callers { n ≤ MAX_CALLERS }
+        requires few_calls { cap ≤ MAX_CALLS }
+        requires some_words { 0 < count }
+        ensures words { IfOk result (λ r. (callers_of r.0 ≡ n) × (cap_of r.0 ≡ cap) × (count_of r.0 ≡ count)) }
+        ensures callers { IfOk result (λ r. map caller_of_pass r.1.items ≡ range_with_len 0 n) }
+        ensures new { IfOk result (λ r. All (IsNewPass r.0) r.1.items) }
+    {
+        let rooms = empty_pairs(alloc, n, cap)?;
+        let zeros = Vec::from_elem(alloc, 0u64, count)?;
+        let key = Key { callers: n, count };
+        let (table, seat) = Table::of_words(alloc, zeros.as_slice(), &key)?;
+        let passes = Vec::with_capacity(alloc, n as usize)?;
+        let words = SharedWords {
+            table,
+            callers: n,
+            cap,
+        };
+        let passes = words.deal(seat, rooms, passes);
+        Ok((words, passes))
+    }
+}

@@ -1,0 +1,26 @@
+ghost use Rattle.std.specs.Prelude.{◌≡◌, []};
+ghost use Rattle.shared_log.specs.Holders.{has, only};
+ghost use Rattle.shared_words.specs.Histories.{known};
+
+use crate::plays::Knowing;
+use atomic_table::Seat;
+
+/// The seat of one caller of some words, whose history alone is with it. It has the history up to the last
+/// access of this caller.
+#[derive(Drop)]
+pub struct WordSeat {
+    pub(crate) who: u32,
+    pub(crate) seat: Seat<(), Knowing>,
+    ghost alone: { seat.me ≡ (only who (known (has seat.me.0 who)), []) },
+}
+
+impl WordSeat {
+    ghost use Rattle.shared_words.specs.Passes.{caller_of_seat};
+
+    /// The number of the caller.
+    pub fn caller(&self) -> u32
+        ensures { result ≡ caller_of_seat self.now }
+    {
+        self.who
+    }
+}
