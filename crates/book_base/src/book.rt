@@ -140,6 +140,21 @@ impl Book {
         if let Some(fault) = self.first_fault(caller, &view) {
             return Err(fault);
         }
+        match self.put_answer(caller, reply, view) {
+            Ok(()) => Ok(()),
+            Err(NoMemory) => Err(BookFault::NoMemory),
+        }
+    }
+
+    /// Records the answer of a caller's first unanswered call as [`Book::add_answer`] does, where the answer is known
+    /// to pass each test: none is made.
+    pub fn put_answer(&mut self, caller: u32, reply: u64, view: Cut) -> Result<(), NoMemory>
+        requires caller { caller < length self.old }
+        requires wide { length view ≡ length self.old }
+        requires may { MayAnswer self.old caller view }
+        ensures ok { OnOk result (self.new ≡ with_answer self.old caller (record { reply = reply; view = view })) }
+        ensures err { OnErr result (self.new ≡ self.old) }
+    {
         self.rows[caller as usize]
             .records
             .push(Record { reply, view })?;
