@@ -1,25 +1,10 @@
 //! Puts records into a book that has their calls.
 ghost use Rattle.std.specs.Prelude.{◌≡◌, ◌<◌, OnOk, length};
-ghost use Rattle.book_base.specs.Book.{IsValid, with_answer};
-ghost use Rattle.book_base.specs.Refusal.{MayAnswer};
+ghost use Rattle.book_base.specs.Book.{IsValid};
 ghost use Rattle.row_gather.specs.Known.{lists_in};
 ghost use Rattle.row_gather.specs.Filling.{with_records, filled, IsFilled};
 
-use book_base::{Book, BookFault, NoMemory, Record};
-
-// An answer that keeps the book valid is refused for want of memory alone.
-fn add_answer(book: &mut Book, j: u32, answer: Record) -> Result<(), NoMemory>
-    requires caller { j < length book.old }
-    requires wide { length answer.view ≡ length book.old }
-    requires may { MayAnswer book.old j answer.view }
-    ensures { OnOk result (book.new ≡ with_answer book.old j answer) }
-{
-    match book.add_answer(j, answer.reply, answer.view) {
-        Ok(()) => Ok(()),
-        Err(BookFault::NoMemory) => Err(NoMemory),
-        Err(_) => unreachable!(),
-    }
-}
+use book_base::{Book, NoMemory, Record};
 
 // Adds further answers of caller j, behind those that stand.
 fn add_answers_of(book: &mut Book, j: u32, records: &[Record]) -> Result<(), NoMemory>
@@ -28,7 +13,7 @@ fn add_answers_of(book: &mut Book, j: u32, records: &[Record]) -> Result<(), NoM
     ensures { OnOk result (book.new ≡ with_records book.old j records.now) }
 {
     for answer in records {
-        add_answer(book, j, *answer)?;
+        book.put_answer(j, answer.reply, answer.view)?;
     }
     Ok(())
 }
