@@ -13,7 +13,7 @@ mod seen_call;
 
 pub use enforcing::enforce;
 pub use judging::{gather, judge};
-pub use lines::judge_line;
+pub use lines::{judge_line, standing_in};
 pub use outcome::{Outcome, Unjudged};
 pub use published_call::Published;
 pub use publishing::publish;

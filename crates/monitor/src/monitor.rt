@@ -1,54 +1,36 @@
-ghost use Rattle.std.specs.Prelude.{IfOk};
-ghost use Rattle.frontier_check.specs.Verdict.{IsRight};
-
 use crate::board::Board;
 use crate::claim::Claim;
 use crate::round::Round;
 use crate::witness::Witness;
-use book_base::{Book, NoMemory, SeqObject};
+use book_base::{NoMemory, SeqObject};
 use collect_scan::scan;
-use frontier_check::{Guide, Verdict, check_from};
+use enforcer::standing_in;
+use frontier_check::{Standing, check_after};
 use row_gather::{Gathered, grow_at};
 use row_table::{Caller, Rows, Steps};
 use std::alloc::Global;
 use std::sync::ledger::Ledger;
 use world_core::{Outside, Program, Region};
 
-// Whether a book has a legal order, by a search that begins with the guide; the first one makes the guide.
-fn judge<S: SeqObject>(
-    alloc: Global,
-    object: &S,
-    book: &Book,
-    guide: &mut Option<Guide>,
-) -> Result<Verdict, NoMemory>
-    ensures { IfOk result (λ verdict. IsRight (S.init object.now) (S.next object.now) book.now verdict) }
-{
-    let mut own = match guide.take() {
-        Some(own) => own,
-        None => Guide::new(alloc)?,
-    };
-    let verdict = check_from(alloc, object, book, &mut own)?;
-    *guide = Some(own);
-    Ok(verdict)
-}
-
 /// A caller that makes no calls: round by round it judges what the others have published.
 ///
-/// It keeps the book that it gathered last and the last legal order, so that a round costs what is new.
+/// It keeps the book that it gathered last, so that a round peeks what is new. The rounds of a watch are for one object: there a
+/// search goes on after the places that still stand of the last order.
 pub struct Monitor<P = Outside> {
     caller: Caller<P>,
     gathered: Option<Gathered>,
-    guide: Option<Guide>,
     claim: Claim,
 }
 
 impl<P: Program> Monitor<P> {
-    ghost use Rattle.std.specs.Prelude.{◌≡◌, ◌+◌, ◌≤◌, true, false, is_some, None, Some, IfSome, IfNone, IsSomeAnd, OnErr};
+    ghost use Rattle.std.specs.Prelude.{◌≡◌, ℕ, List, ◌+◌, ◌≤◌, true, false, is_some, None, Some, IfOk, IfSome, IfNone, IsSomeAnd, OnErr};
     ghost use Rattle.std.specs.Option.{MatchOption};
     ghost use Rattle.once_cell.specs.Once.{Agrees};
     ghost use Rattle.world_core.specs.Local.{IsIdle};
     ghost use Rattle.row_table.specs.Callers.{who_of, local_with, stance_of};
     ghost use Rattle.drv_wrapper.specs.Stands.{ready};
+    ghost use Rattle.frontier_check.specs.Standing.{IsStandingFor};
+    ghost use Rattle.enforcer.specs.Lines.{StandsIn};
     ghost use Rattle.monitor.specs.Claims.{Knows, Agree};
     ghost use Rattle.monitor.specs.Monitors.{caller_of, local_of, own_of, placed_by, known_by, kept_by, IsOn, AreOfOne, IsMonitorOf, Becomes, IsLater, HasFound, HasScannedSome, HasGathered, IsKeptAfter, TicksForBook, TicksForRound};
 
@@ -64,33 +46,38 @@ impl<P: Program> Monitor<P> {
         Monitor {
             caller,
             gathered: None,
-            guide: None,
             claim: Claim::new(board),
         }
     }
 
-    // One scan of M, and the book at the cut that it gave, which grows from the book that is kept.
+    // One scan of M, and the book at the cut that it gave, which grows from the book that is kept; and what stands in
+    // it, of what stood in that one.
     //
     // No book is kept after it.
     fn look<L: Ledger>(
         &mut self,
         alloc: Global,
         rows: &Rows<P>,
+        standing: Option<Standing>,
         steps: &mut Steps<L>,
-    ) -> Result<Gathered, NoMemory>
+    ) -> Result<(Gathered, Option<Standing>), NoMemory>
         requires rows { IsMonitorOf P.meaning rows.now self.old }
         ensures rows { IsMonitorOf P.meaning rows.now self.new }
         ensures who { who_of self.new.caller ≡ who_of self.old.caller }
         ensures claim { self.new.claim ≡ self.old.claim }
         ensures none { kept_by self.new ≡ None }
         ensures scanned { HasScannedSome (local_of self.old) (local_of self.new) }
-        ensures gathered { IfOk result (HasGathered rows.now.callers (local_of self.old) (local_of self.new)) }
-        ensures ticks { IfOk result (λ g. TicksForBook rows.now.callers (kept_by self.old) g steps.old steps.new) }
+        ensures gathered { IfOk result (λ r. HasGathered rows.now.callers (local_of self.old) (local_of self.new) r.0) }
+        ensures stands { IfOk result (λ r. (init : List ℕ) (next : List ℕ → ℕ → List ℕ × ℕ)
+            → StandsIn init next (kept_by self.old) standing → IfSome r.1 (IsStandingFor init next r.0.book)) }
+        ensures ticks { IfOk result (λ r. TicksForBook rows.now.callers (kept_by self.old) r.0 steps.old steps.new) }
         ensures rise { steps.old ≤ steps.new }
     {
         let cut = scan(rows, &mut self.caller, Region::M, steps);
         let kept = self.gathered.take();
-        grow_at(alloc, rows, &mut self.caller, kept, &cut, steps)
+        let before = standing_in(rows.callers(), &kept, standing, &cut);
+        let found = grow_at(alloc, rows, &mut self.caller, kept, &cut, steps)?;
+        Ok((found, before))
     }
 
     /// Scans M, gathers the book at that cut, and judges it (Castañeda and Rodríguez 2023).
@@ -122,14 +109,49 @@ impl<P: Program> Monitor<P> {
             (own_of self.new) steps.old steps.new) }
         ensures rise { steps.old ≤ steps.new }
     {
-        let found = self.look(alloc, rows, steps)?;
-        match judge(alloc, object, &found.book, &mut self.guide)? {
-            Verdict::Legal(_) => {
+        let mut standing = None;
+        self.round_after(alloc, object, rows, board, &mut standing, steps)
+    }
+
+    /// A round as [`Monitor::round`] makes it, whose search goes on after the places that still stand of an order of the
+    /// book that is kept, for this object; and afterwards what stands in the book that is kept then.
+    pub(crate) fn round_after<S: SeqObject, L: Ledger>(
+        &mut self,
+        alloc: Global,
+        object: &S,
+        rows: &Rows<P>,
+        board: &Board,
+        standing: &mut Option<Standing>,
+        steps: &mut Steps<L>,
+    ) -> Result<Round, NoMemory>
+        requires rows { IsMonitorOf P.meaning rows.now self.old }
+        requires board { IsOn board.now self.old }
+        requires none { own_of self.old ≡ None }
+        requires stands { StandsIn (S.init object.now) (S.next object.now) (kept_by self.old) standing.old }
+        ensures later { IsLater P.meaning rows.now board.now self.old self.new }
+        ensures scanned { HasScannedSome (local_of self.old) (local_of self.new) }
+        ensures found { IfOk result (HasFound (S.init object.now) (S.next object.now)
+            rows.now.callers (local_of self.old) (local_of self.new) (own_of self.new)) }
+        ensures known { IfSome (own_of self.new) (λ w. Knows (known_by self.old) (known_by self.new)) }
+        ensures first { placed_by self.new ≡ true → known_by self.old ≡ None }
+        ensures kept { IfOk result (λ r. IsKeptAfter rows.now.callers r (kept_by self.new)) }
+        ensures stands { StandsIn (S.init object.now) (S.next object.now) (kept_by self.new) standing.new }
+        ensures unfound { own_of self.new ≡ None → (known_by self.new ≡ known_by self.old)
+            × (placed_by self.new ≡ placed_by self.old) }
+        ensures err { OnErr result (own_of self.new ≡ None) }
+        ensures ticks { IfOk result (TicksForRound rows.now.callers (kept_by self.old) (kept_by self.new)
+            (own_of self.new) steps.old steps.new) }
+        ensures rise { steps.old ≤ steps.new }
+    {
+        let (found, before) = self.look(alloc, rows, standing.take(), steps)?;
+        match check_after(alloc, object, &found.book, before)? {
+            Some(stands) => {
                 let cut = found.cut;
                 self.gathered = Some(found);
+                *standing = Some(stands);
                 Ok(Round::Legal(cut))
             }
-            Verdict::Illegal => {
+            None => {
                 let Gathered { book, cut } = found;
                 self.claim.keep(alloc, board, Witness { cut, book })?;
                 Ok(Round::Illegal(cut))
@@ -189,7 +211,6 @@ impl<P: Program> Monitor<P> {
         let Monitor {
             caller,
             gathered: _,
-            guide: _,
             claim,
         } = self;
         let (own, placed) = claim.into_parts();

@@ -40,12 +40,14 @@ fn make_rounds<P: Program, S: SeqObject, L: Ledger>(
         P.meaning shared.now.rows.now shared.now.board.now rounds monitor result.0 result.1 }
 {
     let mut monitor = monitor;
+    let mut standing = None;
     for _i in 0..rounds {
-        match monitor.round(
+        match monitor.round_after(
             shared.alloc,
             shared.sequential,
             shared.rows,
             shared.board,
+            &mut standing,
             steps,
         ) {
             Ok(Round::Legal(_)) => {}
