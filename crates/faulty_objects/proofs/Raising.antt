@@ -20,19 +20,19 @@ raised_from flag (a ∷ history) all some =
     let all' = All-tail (λ (b : Access). meeting_may b.caller b.deed) a history all in
     let later : word_from flag (if place_of a.deed == flag then leaves a.deed 0 else 0) history ≡ word_from flag 0 history → HasRaised flag (a ∷ history) =
     (λ same. let more = raised_from flag history all' (λ none. some (same ∙ none)) in
-      record { before = a ∷ more.before; rest = more.rest; raised = ap (λ (l : List Access). a ∷ l) more.raised }) in
+    record { before = a ∷ more.before; rest = more.rest; raised = ap (λ (l : List Access). a ∷ l) more.raised }) in
     elim (All-head (λ (b : Access). meeting_may b.caller b.deed) a history all) [
       | inl stored ↦ elim (cases_eq a.caller flag) [
         | inl own ↦ record { before = []; rest = history; raised = λ i. access (own i) ((stored ∙ ap (λ (k : ℕ). Stored k up) own) i) ∷ history }
         | inr other ↦ later (
-          ap (λ (d : Deed). word_from flag (if place_of d == flag then leaves d 0 else 0) history) stored
-          ∙ ap (λ b. word_from flag (if b then up else 0) history) (ne_eqb a.caller flag other)
-        )
+            ap (λ (d : Deed). word_from flag (if place_of d == flag then leaves d 0 else 0) history) stored
+            ∙ ap (λ b. word_from flag (if b then up else 0) history) (ne_eqb a.caller flag other)
+            )
       ]
       | inr loaded ↦ later (
-        ap (λ (d : Deed). word_from flag (if place_of d == flag then leaves d 0 else 0) history) loaded.2
-        ∙ ap (λ (k : ℕ). word_from flag k history) (either_one (loaded.0 == flag) 0)
-      )
+          ap (λ (d : Deed). word_from flag (if place_of d == flag then leaves d 0 else 0) history) loaded.2
+          ∙ ap (λ (k : ℕ). word_from flag k history) (either_one (loaded.0 == flag) 0)
+          )
     ]
 
 pub flags_are_raised : FlagsAreRaised

@@ -18,3 +18,6 @@ loop-turn-preserved c =
       missed = one_missed _ _ _ _ _ _ c.loop-turn.invariant.missed c.load-found.ensures.step c.if-found-eq-UP.false;
       history = prefix_through _ _ _ c.loop-turn.invariant.history (prefix_after _ _ _ _ c.load-found.ensures.history);
     }
+
+pub returns-then-found-eq-UP-clause-raised : goal.returns-then-found-eq-UP-clause-raised
+returns-then-found-eq-UP-clause-raised c = found_up _ _ _ _ _ c.load-found.ensures.seat.lawful c.load-found.ensures.history c.if-found-eq-UP.true

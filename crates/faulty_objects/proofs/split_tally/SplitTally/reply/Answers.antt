@@ -17,4 +17,4 @@ returns-clause-history c = prefix_through _ _ _ (prefix_after _ _ _ _ c.load-fou
 
 pub returns-clause-torn : goal.returns-clause-torn
 returns-clause-torn c is =
-    torn_reply _ _ _ _ _ _ _ c.load-found.ensures.seat.lawful c.load-found.ensures.history c.load-found.ensures.caller c.store.ensures.history refl c.value_reply.ensures
+    torn_reply _ _ _ _ _ _ _ _ c.load-found.ensures.seat.lawful c.load-found.ensures.history c.load-found.ensures.caller c.store.ensures.history refl c.value_reply.ensures
