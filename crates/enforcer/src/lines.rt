@@ -24,8 +24,9 @@ use std::alloc::Global;
 use std::sync::ledger::Ledger;
 use world_core::Program;
 
-/// What stands, where the book that was gathered is of `n` callers, and this cut contains its own; else nothing. So it
-/// stands in the book that is gathered at this cut, which has grown from that one.
+/// What stands, where the book that was gathered is of `n` callers, and this cut contains its own;
+/// else nothing. So it stands in the book that is gathered at this cut, which has grown from that
+/// one.
 pub fn standing_in(
     n: u32,
     gathered: &Option<Gathered>,
@@ -88,12 +89,13 @@ fn decide_after<P: Program, S: SeqObject, L: Ledger>(
 /// After `Delivered` the caller is live and idle, and after `Error` it is halted. `Unjudged` comes for want of memory
 /// alone.
 ///
-/// `gathered` is what this caller has gathered before, and `standing` what stands of an order in that book, for this
-/// object; both are `None` before the caller's first call. The book is grown, and only what is new is peeked, where the
-/// seen cut contains that of the book, as it does where both are the same caller's; the search goes on after the places
-/// that the new records leave standing. So a call mostly costs what is new; no clause says how long a search takes.
-/// After `Delivered` both are those for the caller's next call, and else `gathered` is `None`. Without a book what
-/// stands counts for nothing, so it needn't be forgotten.
+/// `gathered` is what this caller has gathered before, and `standing` what stands of an order in
+/// that book, for this object; both are `None` before the caller's first call. The book is grown,
+/// and only what is new is peeked, where the seen cut contains that of the book, as it does where
+/// both are the same caller's; the search goes on after the places that the new records leave
+/// standing. So a call mostly costs what is new; no clause says how long a search takes. After
+/// `Delivered` both are those for the caller's next call, and else `gathered` is `None`. Without a
+/// book what stands counts for nothing, so it needn't be forgotten.
 pub fn judge_line<P: Program, S: SeqObject, L: Ledger>(
     alloc: Global,
     object: &S,

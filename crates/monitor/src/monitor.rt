@@ -14,8 +14,9 @@ use world_core::{Outside, Program, Region};
 
 /// A caller that makes no calls: round by round it judges what the others have published.
 ///
-/// It keeps the book that it gathered last, so that a round peeks what is new. The rounds of a watch are for one object: there a
-/// search goes on after the places that still stand of the last order.
+/// It keeps the book that it gathered last, so that a round peeks what is new. The rounds of a
+/// watch are for one object: there a search goes on after the places that still stand of the last
+/// order.
 pub struct Monitor<P = Outside> {
     caller: Caller<P>,
     gathered: Option<Gathered>,
@@ -50,8 +51,8 @@ impl<P: Program> Monitor<P> {
         }
     }
 
-    // One scan of M, and the book at the cut that it gave, which grows from the book that is kept; and what stands in
-    // it, of what stood in that one.
+    // One scan of M, and the book at the cut that it gave, which grows from the book that is kept;
+    // and what stands in it, of what stood in that one.
     //
     // No book is kept after it.
     fn look<L: Ledger>(
@@ -113,8 +114,9 @@ impl<P: Program> Monitor<P> {
         self.round_after(alloc, object, rows, board, &mut standing, steps)
     }
 
-    /// A round as [`Monitor::round`] makes it, whose search goes on after the places that still stand of an order of the
-    /// book that is kept, for this object; and afterwards what stands in the book that is kept then.
+    /// A round as [`Monitor::round`] makes it, whose search goes on after the places that still
+    /// stand of an order of the book that is kept, for this object; and afterwards what stands in
+    /// the book that is kept then.
     pub(crate) fn round_after<S: SeqObject, L: Ledger>(
         &mut self,
         alloc: Global,
