@@ -89,7 +89,7 @@ takes_one word (Some Min) one e = one
 takes_one word None one e = absurd cc
 
 -- a value is shown by one reply
-shown_word : (reply v : ℕ) → shown_value reply ≡ Some v → reply ≡ 2 * 2 ^ 32 + v
+pub shown_word : (reply v : ℕ) → shown_value reply ≡ Some v → reply ≡ 2 * 2 ^ 32 + v
 shown_word reply v shown =
     let parts = if_some (is_value reply) (Some (value_of reply)) v shown in
     let value : value_of reply ≡ v = same_Some (value_of reply) v parts.1 in

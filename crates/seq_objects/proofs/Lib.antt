@@ -17,3 +17,4 @@ pub mod Lengths
 pub mod CountOnce
 pub mod LeastFirst
 pub mod HoldsLast
+pub mod LastFirst

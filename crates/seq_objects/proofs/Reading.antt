@@ -78,12 +78,12 @@ queue_is_read = record {
 abbrev shown_first : List ℕ → List ℕ
 shown_first list = reverse (map value_of list)
 
-abbrev stack_puts_small : Option StackOperation → Type 0
+abbrev pub stack_puts_small : Option StackOperation → Type 0
 stack_puts_small (Some (Push value)) = value < 2 ^ 32
 stack_puts_small (Some Pop) = Unit {0}
 stack_puts_small None = Unit {0}
 
-pushed_is_small : (word : ℕ) → stack_puts_small (stack_operation word)
+pub pushed_is_small : (word : ℕ) → stack_puts_small (stack_operation word)
 pushed_is_small word =
     cond_both {A = Option StackOperation} (is_operation_of word words.push) _ _ stack_puts_small (λ push. omega arith)
     (λ _. cond_both {A = Option StackOperation} (is_operation_of word words.pop) _ _ stack_puts_small (λ pop. tt) (λ other. tt))

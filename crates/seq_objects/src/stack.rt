@@ -5,14 +5,17 @@ ghost use Rattle.seq_objects.specs.Words.{is_known_word};
 ghost use Rattle.seq_objects.specs.Items.{length-none};
 ghost use Rattle.seq_objects.specs.StackSteps.{stack_operation, stack_after, length-stack_after, stack_after-unknown};
 ghost use Rattle.seq_objects.specs.Readings.{stack_reading};
+ghost use Rattle.value_pruning.specs.Sights.{ListsValues};
 
 use crate::entry::{POP, PUSH, argument_of};
 use crate::items::take_last;
 use crate::kind::Kind;
 use crate::reply::{DONE, is_value, shown_value};
-use book_base::{BAD, Book, Foresight, NoMemory, OpWord, SeqObject, State};
+use book_base::{BAD, Book, Cut, Foresight, Marks, NoMemory, OpWord, SeqObject, Sight, State};
 use object_foresight::{Reader, Role, foresee_stack};
+use stack_pruning::narrow_last_first;
 use std::alloc::Global;
+use value_pruning::sight_of_values;
 
 /// A last-in first-out stack.
 #[derive(Clone, Copy, Debug)]
@@ -63,6 +66,8 @@ impl SeqObject for Stack {
 
     ghost next = { λ _ list op. stack_after list (stack_operation op) };
 
+    ghost sees = { λ _ book sight. ListsValues stack_reading book sight };
+
     ghost begins_small = { λ _. length-none };
 
     ghost grows_by_one = { λ _ list op. length-stack_after list (stack_operation op) };
@@ -100,5 +105,21 @@ impl SeqObject for Stack {
             Some(StackOperation::Pop) => !is_value(reply),
             None => true,
         }
+    }
+
+    fn prepare(&self, alloc: Global, book: &Book) -> Result<Option<Sight>, NoMemory> {
+        Ok(Some(sight_of_values(alloc, self, book)?))
+    }
+
+    fn narrow(
+        &self,
+        sight: &Sight,
+        book: &Book,
+        cut: &Cut,
+        words: &[u64],
+        forced: u32,
+        marks: Marks,
+    ) -> Marks {
+        narrow_last_first(self, sight, book, cut, words, forced, marks)
     }
 }
