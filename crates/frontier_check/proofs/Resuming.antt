@@ -1,5 +1,6 @@
 -- What stands of an order: in a book that grows, with more places, and up to a mark.
-use Rattle.std.proofs.Common.{◌≡◌, ℕ, zero, suc, ◌+◌, ◌-◌, ◌<◌, ◌≤◌, ◌⊎◌, ◌∙◌, List, [], ◌∷◌, ◌++◌, length, get_or, set, sum, take, drop, map, replicate, Some, refl, sym, ap, subst, inl, inr, arith}
+use Rattle.std.proofs.Common.{◌≡◌, ℕ, zero, suc, ◌+◌, ◌-◌, ◌<◌, ◌≤◌, ◌∙◌, List, [], ◌∷◌, ◌++◌, length, get_or, sum, take, drop, map, replicate, Some, refl, sym, ap, subst, inl, inr, arith}
+use Rattle.std.specs.List.{remove}
 use Rattle.std.specs.Option.{unwrap_or}
 use Rattle.std.proofs.lemmas.Bool.{cases_eq, cases_lt}
 use Rattle.std.proofs.lemmas.List.{append-nil, append_assoc, length-append, length-map, length-replicate, length-set, take-append-drop, take-append-le, take_all, take-take}
@@ -18,8 +19,8 @@ use Rattle.frontier_check.specs.declared.front.Front.{Front}
 use Rattle.frontier_check.specs.declared.mark.Mark.{Mark}
 use Rattle.frontier_check.specs.declared.mark.Standing.{Standing}
 use Rattle.frontier_check.specs.declared.walk.TheConstants.{ROOM}
-use Rattle.frontier_check.specs.Front.{no_calls, IsNext, Follow, Stands, IsPut}
-use Rattle.frontier_check.specs.Standing.{HasGrown, IsQuiet, IsMark, AreMarks, IsStandingFor, IsAsWide, StillStands, MarksEnd, HasOneMark}
+use Rattle.frontier_check.specs.Front.{no_calls, Follow, IsPut}
+use Rattle.frontier_check.specs.Standing.{HasGrown, IsQuiet, IsMark, AreMarks, IsStandingFor, IsAsWide, StillStands, MarksEnd, KeepsMarks}
 use Rattle.frontier_check.proofs.Following.{stands-fit}
 
 -- ---- books that grow
@@ -292,17 +293,42 @@ module _ (init : List ℕ) (next : List ℕ → ℕ → List ℕ × ℕ) where
       put_stays init next is.earlier book is.front new is.grown (none_answered is.earlier book is.front.cut m.answered is.grown is.records quiet) valid small is.put
       (places ∙ taken) (cut ∙ sym is.cut) (words ∙ sym is.words)
 
-  -- The marks of a front that was put, with or without one more where it ends.
-  pub marks_kept : (book : List Page) (front : Front) (marks more : List Mark) → IsPut init next book front → (more ≡ marks) ⊎ HasOneMark front (answered book) marks more
-      → AreMarks init next book front.places.items 0 marks → AreMarks init next book front.places.items 0 more
-  marks_kept book front marks more put (inl same) h = subst (λ (ms : List Mark). AreMarks init next book front.places.items 0 ms) (sym same) h
-  marks_kept book front marks more put (inr one) h =
-      subst (λ (ms : List Mark). AreMarks init next book front.places.items 0 ms) (sym one.2) (marks_push book front marks one.0 put one.1 h)
+  marks_lower : (book : List Page) (order : List Place) (least most : ℕ) (ms : List Mark) → least ≤ most → AreMarks init next book order most ms → AreMarks init next book order least ms
+  marks_lower book order least most [] low h = tt
+  marks_lower book order least most (m ∷ ms) low (le, is, later) = (omega (arith, low, le), is, later)
 
-  -- So they are after one more place.
+  -- all marks but one
+  marks_removed : (book : List Page) (order : List Place) (least : ℕ) (ms : List Mark) (k : ℕ) → AreMarks init next book order least ms → AreMarks init next book order least (remove ms k)
+  marks_removed book order least [] zero h = tt
+  marks_removed book order least [] (suc k) h = tt
+  marks_removed book order least (m ∷ ms) zero (le, is, later) = marks_lower book order least m.len ms le later
+  marks_removed book order least (m ∷ ms) (suc k) (le, is, later) = (le, is, marks_removed book order m.len ms k later)
+
+  -- the first so many marks
+  pub marks_fewer : (book : List Page) (order : List Place) (least n : ℕ) (ms : List Mark) → AreMarks init next book order least ms → AreMarks init next book order least (take n ms)
+  marks_fewer book order least zero ms h = tt
+  marks_fewer book order least (suc n) [] h = tt
+  marks_fewer book order least (suc n) (m ∷ ms) (le, is, later) = (le, is, marks_fewer book order m.len n ms later)
+
+  -- The marks of a front that was put are kept after one more place.
   pub marks_put : (book : List Page) (front : Front) (before : List Place) (place : Place) (records : List ℕ) (marks more : List Mark) → IsPut init next book front → records ≡ answered book
-      → front.places.items ≡ before ++ place ∷ [] → (more ≡ marks) ⊎ HasOneMark front records marks more
+      → front.places.items ≡ before ++ place ∷ [] → KeepsMarks front records marks more
       → AreMarks init next book before 0 marks → AreMarks init next book front.places.items 0 more
-  marks_put book front before place records marks more put same longer kept h =
-      marks_kept book front marks more put (subst (λ (c : List ℕ). (more ≡ marks) ⊎ HasOneMark front c marks more) same kept)
-      (subst (λ (ps : List Place). AreMarks init next book ps 0 marks) (sym longer) (marks_longer book before (place ∷ []) 0 marks h))
+  marks_put book front before place records marks more put same longer keeps h =
+      keeps init next book put same (subst (λ (ps : List Place). AreMarks init next book ps 0 marks) (sym longer) (marks_longer book before (place ∷ []) 0 marks h))
+
+-- ---- marks that are kept
+
+pub keeps_same : (front : Front) (records : List ℕ) (marks more : List Mark) → more ≡ marks → KeepsMarks front records marks more
+keeps_same front records marks more same init next book put known h = subst (λ (ms : List Mark). AreMarks init next book front.places.items 0 ms) (sym same) h
+
+-- with one more where the front ends
+pub keeps_one : (front : Front) (records : List ℕ) (marks more : List Mark) (m : Mark) → MarksEnd front records m → more ≡ marks ++ m ∷ [] → KeepsMarks front records marks more
+keeps_one front records marks more m ends longer init next book put known h =
+    subst (λ (ms : List Mark). AreMarks init next book front.places.items 0 ms) (sym longer)
+    (marks_push init next book front marks m put (subst (λ (c : List ℕ). MarksEnd front c m) known ends) h)
+
+-- but for one of them
+pub keeps_removed : (front : Front) (records : List ℕ) (marks more fewer : List Mark) (k : ℕ) → KeepsMarks front records marks more → fewer ≡ remove more k → KeepsMarks front records marks fewer
+keeps_removed front records marks more fewer k keeps one init next book put known h =
+    subst (λ (ms : List Mark). AreMarks init next book front.places.items 0 ms) (sym one) (marks_removed init next book front.places.items 0 more k (keeps init next book put known h))

@@ -59,6 +59,7 @@ pub record MarksEnd (front : Front) (records : List ℕ) (mark : Mark) : Type 0 
   pub words : mark.words.items ≡ front.here.words
   pub answered : mark.answered ≡ records
 
--- There is one mark more, where a front ends, in a book with these numbers of records.
-abbrev pub HasOneMark : Front → List ℕ → List Mark → List Mark → Type 0
-HasOneMark front records marks more = (mark : Mark) × MarksEnd front records mark × (more ≡ marks ++ mark ∷ [])
+-- The marks of an order up to where a front ends, in a book with these numbers of records, become marks of it as well.
+abbrev pub KeepsMarks : Front → List ℕ → List Mark → List Mark → Type 0
+KeepsMarks front records marks more = (init : List ℕ) (next : List ℕ → ℕ → List ℕ × ℕ) (book : List Page) → IsPut init next book front → records ≡ answered book
+    → AreMarks init next book front.places.items 0 marks → AreMarks init next book front.places.items 0 more

@@ -5,7 +5,7 @@ ghost use Rattle.book_base.specs.Book.{answered, record_of};
 ghost use Rattle.book_base.specs.Order.{call_at};
 ghost use Rattle.book_base.specs.Next.{next_call};
 ghost use Rattle.frontier_check.specs.Front.{no_calls, IsNext, IsPut, IsFront, LeavesOpen};
-ghost use Rattle.frontier_check.specs.Standing.{AreMarks, MarksEnd, HasOneMark};
+ghost use Rattle.frontier_check.specs.Standing.{AreMarks, MarksEnd, KeepsMarks};
 
 use crate::mark::Mark;
 use crate::walk::ROOM;
@@ -121,18 +121,23 @@ impl Front {
         Ok(true)
     }
 
-    /// Leaves a mark where the places end, in a book with these records, if as many are put as lie between two marks.
+    /// Leaves a mark where the places end, in a book with these records, if as many are put as lie
+    /// between two marks. Where there are many marks, one of the earlier half goes, another one
+    /// each time: so they are the fewer, the earlier the places.
     pub fn mark_at_interval(
         &self,
         alloc: Global,
         records: &Cut,
         marks: &mut Vec<Mark>,
     ) -> Result<(), NoMemory>
-        ensures { OnOk result ((marks.new.items ≡ marks.old.items) ⊎ HasOneMark self.now records.now marks.old.items marks.new.items) }
+        ensures { OnOk result (KeepsMarks self.now records.now marks.old.items marks.new.items) }
     {
         if self.places.len() % INTERVAL == 0 {
             let mark = self.mark(alloc, records)?;
             marks.push(mark)?;
+            if marks.len() > MOST_MARKS {
+                marks.remove(self.places.len() / INTERVAL % (MOST_MARKS / 2));
+            }
         }
         Ok(())
     }
@@ -202,6 +207,9 @@ impl Front {
 
 /// After how many places there is a mark: as many are stepped through again where a search goes on from one.
 const INTERVAL: usize = 32;
+
+/// How many marks there are at most: each has a copy of the object's list.
+const MOST_MARKS: usize = 32;
 
 /// Whether the view of each caller's first call outside a cut holds the cut, where that call is answered.
 pub fn leaves_open(book: &Book, cut: &Cut) -> bool

@@ -1,7 +1,7 @@
 ghost use Rattle.std.specs.Prelude.{◌≡◌, ◌<◌, ◌≤◌, length};
 
 use crate::front::Front;
-use book_base::{Book, Call, Cut, MAX_CALLERS, MAX_CALLS, NoMemory, Place};
+use book_base::{Book, Call, Cut, NoMemory, Place};
 use std::alloc::Global;
 
 /// The turn of each call among those that may come next: the least is tried first.
@@ -11,6 +11,7 @@ use std::alloc::Global;
 #[derive(Drop)]
 pub struct Plan {
     turns: Vec<u32>,
+    most: u64,
     guided: u32,
 }
 
@@ -20,8 +21,11 @@ impl Plan {
     pub fn new(alloc: Global, book: &Book, later: &[Place], front: &Front) -> Result<Plan, NoMemory>
         requires { length front.now.cut ≡ length book.now }
     {
+        let most = most_calls(book);
+        let size = (book.callers() as usize).saturating_mul(most as usize);
         let mut plan = Plan {
-            turns: vec![in alloc; u32::MAX; MAX_CALLERS * MAX_CALLS as usize]?,
+            turns: vec![in alloc; u32::MAX; size]?,
+            most,
             guided: u32::try_from(later.len()).unwrap_or(u32::MAX),
         };
         for caller in 0..book.callers() {
@@ -47,17 +51,27 @@ impl Plan {
     // Gives a call its turn, where it has a place among the turns.
     fn put(&mut self, caller: u32, number: u64, turn: usize) {
         let turn = u32::try_from(turn).unwrap_or(u32::MAX);
-        if let Some(at) = place_of(caller, number)
+        if let Some(at) = self.place_of(caller, number)
             && at < self.turns.len()
         {
             self.turns[at] = turn;
         }
     }
 
+    // Where the turn of a call lies.
+    fn place_of(&self, caller: u32, number: u64) -> Option<usize> {
+        if number < self.most {
+            let before = (caller as usize).saturating_mul(self.most as usize);
+            Some(before.saturating_add(number as usize))
+        } else {
+            None
+        }
+    }
+
     /// The turn of a call. Beside those of the guide a call that leaves the object's list comes first: it
     /// takes no other call's turn away.
     pub fn turn(&self, caller: u32, number: u64, stays: bool) -> u64 {
-        let turn = match place_of(caller, number) {
+        let turn = match self.place_of(caller, number) {
             Some(at) if at < self.turns.len() => self.turns[at],
             _ => u32::MAX,
         };
@@ -72,13 +86,13 @@ impl Plan {
 // What is added to the turn of a call that changes the object's list: more than any turn.
 const LATER: u64 = 1 << 32;
 
-// Where the turn of a call lies.
-fn place_of(caller: u32, number: u64) -> Option<usize> {
-    if (caller as usize) < MAX_CALLERS && number < MAX_CALLS {
-        Some(caller as usize * MAX_CALLS as usize + number as usize)
-    } else {
-        None
+// The most calls that a caller of a book made.
+fn most_calls(book: &Book) -> u64 {
+    let mut most = 0;
+    for caller in 0..book.callers() {
+        most = book.calls(caller).max(most);
     }
+    most
 }
 
 /// How many calls a view counts.

@@ -1,4 +1,4 @@
-ghost use Rattle.std.specs.Prelude.{◌≡◌, ℕ, ◌<◌, ◌≤◌, ◌⊎◌, length, slice_index_or, take, IfOk, IfSome, IsTrue};
+ghost use Rattle.std.specs.Prelude.{◌≡◌, ℕ, ◌<◌, ◌≤◌, ◌⊎◌, length, slice_index_or, take, IfOk, IfSome, IsTrue, OnOk};
 ghost use Rattle.frontier_check.specs.declared.mark.Mark.{Mark};
 ghost use Rattle.frontier_check.specs.Front.{IsPut};
 ghost use Rattle.frontier_check.specs.Standing.{IsQuiet, IsAsWide, StillStands, AreMarks};
@@ -85,6 +85,7 @@ pub fn resume<S: SeqObject>(
     ensures room { IfOk result (λ r. r.0.here.room ≡ ROOM) }
     ensures marks { IfOk result (λ r.
         AreMarks (S.init object.now) (S.next object.now) book.now r.0.places.items 0 marks.new.items) }
+    ensures fewer { OnOk result ((n : ℕ) × (marks.new.items ≡ take n marks.old.items)) }
 {
     match last_standing(book, marks) {
         None => {

@@ -1,15 +1,15 @@
-ghost use Rattle.std.specs.Prelude.{◌≡◌, ◌++◌, IfOk, IfSome, IfNone, IsTrue};
+ghost use Rattle.std.specs.Prelude.{◌≡◌, ◌++◌, IfOk, IfSome, IfNone, IsTrue, OnOk};
 ghost use Rattle.book_base.specs.Foresight.{IsForesight};
 ghost use Rattle.book_base.specs.Order.{IsLegalOrder, HasLegalOrder};
 ghost use Rattle.book_base.specs.Pruning.{HasOneOpen};
 ghost use Rattle.frontier_check.specs.Front.{IsPut, IsFront};
-ghost use Rattle.frontier_check.specs.Standing.{IsStandingFor};
+ghost use Rattle.frontier_check.specs.Standing.{AreMarks, IsStandingFor};
 ghost use Rattle.frontier_check.specs.Verdict.{IsRight, IsKept};
 
 use crate::fresh::{holds_answered, put_fresh};
 use crate::front::{Front, leaves_open, limit_of};
 use crate::guide::Guide;
-use crate::mark::Standing;
+use crate::mark::{Mark, Standing};
 use crate::one_open::has_one_open;
 use crate::plan::Plan;
 use crate::resume::resume;
@@ -33,8 +33,10 @@ pub enum Verdict {
 pub fn check<S: SeqObject>(alloc: Global, object: &S, book: &Book) -> Result<Verdict, NoMemory>
     ensures verdict { IfOk result (λ verdict. IsRight (S.init object.now) (S.next object.now) book.now verdict) }
 {
-    let mut guide = Guide::new(alloc)?;
-    check_from(alloc, object, book, &mut guide)
+    match order_anywhere(alloc, object, book, &[])? {
+        None => Ok(Verdict::Illegal),
+        Some(order) => Ok(Verdict::Legal(order)),
+    }
 }
 
 /// Looks for a legal order as `check` does, and first behind the guide's places.
@@ -67,9 +69,10 @@ pub fn check_from<S: SeqObject>(
 
 /// Looks for a legal order as `check` does, and first after the places that still stand of the last one.
 ///
-/// What stands is of this object, and of this book or of one from which it has grown. The places up to a mark are kept
-/// where the records that are new leave them standing, and only those after it are stepped through, so that a call
-/// costs what is new. There is none to begin with. `None` comes where the book has no legal order.
+/// What stands is of this object, and of this book or of one from which it has grown; there is none
+/// to begin with. `None` comes where the book has no legal order. The places up to a mark are kept
+/// where the records that are new leave them standing, and those after it are stepped through. So a
+/// call mostly costs what is new, and what the object's list is long; no clause says how much.
 pub fn check_after<S: SeqObject>(
     alloc: Global,
     object: &S,
@@ -85,7 +88,13 @@ pub fn check_after<S: SeqObject>(
         (HasLegalOrder (S.init object.now) (S.next object.now) book.now → ⊥)) }
 {
     match standing {
-        None => check_anew(alloc, object, book, &[]),
+        None => {
+            let nothing = Standing {
+                order: Vec::new(alloc),
+                marks: Vec::new(alloc),
+            };
+            check_on(alloc, object, book, nothing)
+        }
         Some(standing) => check_on(alloc, object, book, standing),
     }
 }
@@ -108,16 +117,22 @@ fn check_on<S: SeqObject>(
     let Standing { order, mut marks } = standing;
     let (mut front, later) = resume(alloc, object, book, order, &mut marks)?;
     let limit = limit_of(book, &front.cut, &later);
+    let before = front.places.len();
     if !front.put_marked(alloc, object, book, &limit, &later, &mut marks)? {
         return check_anew(alloc, object, book, &front.places);
     }
-    if !put_fresh(alloc, object, book, &later, &mut front, &mut marks)? {
+    let later = later_of(&later, front.places.len().saturating_sub(before));
+    if !put_fresh(alloc, object, book, later, &mut front, &mut marks)? {
         return check_anew(alloc, object, book, &front.places);
     }
-    match rest_after(alloc, object, book, &later, &front)? {
+    match rest_after(alloc, object, book, later, &front)? {
         None => {
-            let fewer = front.places.len().saturating_sub(book.callers() as usize);
-            check_anew(alloc, object, book, &front.places[..fewer])
+            let Front {
+                places,
+                cut: _,
+                here: _,
+            } = front;
+            check_before(alloc, object, book, places, marks)
         }
         Some(rest) => {
             let Front {
@@ -132,7 +147,75 @@ fn check_on<S: SeqObject>(
     }
 }
 
-// Looks for a legal order as `check_from` does. It has no marks yet.
+// How often a search begins at an earlier mark: each time it leaves out twice as many marks as
+// before.
+const TURNS_BACK: u32 = 6;
+
+// Looks for a legal order first after the marks of an order, the last of them first, and then
+// anywhere.
+fn check_before<S: SeqObject>(
+    alloc: Global,
+    object: &S,
+    book: &Book,
+    order: Vec<Place>,
+    marks: Vec<Mark>,
+) -> Result<Option<Standing>, NoMemory>
+    requires marks { AreMarks (S.init object.now) (S.next object.now) book.now order.items 0 marks.items }
+    ensures legal { IfOk result (λ found. IfSome found
+        (λ s. IsLegalOrder (S.init object.now) (S.next object.now) book.now s.order.items)) }
+    ensures stands { IfOk result (λ found. IfSome found
+        (IsStandingFor (S.init object.now) (S.next object.now) book.now)) }
+    ensures illegal { IfOk result (λ found. IfNone found
+        (HasLegalOrder (S.init object.now) (S.next object.now) book.now → ⊥)) }
+{
+    let mut marks = marks;
+    let mut fewer = 0usize;
+    for _ in 0..TURNS_BACK {
+        let left = marks.len().saturating_sub(fewer);
+        if left == 0 {
+            return check_anew(alloc, object, book, &order);
+        }
+        marks.truncate(left);
+        let found = order_after_mark(alloc, object, book, &order, &mut marks)?;
+        if let Some(order) = found {
+            return Ok(Some(Standing { order, marks }));
+        }
+        fewer = fewer.saturating_mul(2).saturating_add(1);
+    }
+    check_anew(alloc, object, book, &order)
+}
+
+// A legal order that begins as this one does up to the last of its marks that still stands, if one
+// is found soon. The marks after that one are gone.
+fn order_after_mark<S: SeqObject>(
+    alloc: Global,
+    object: &S,
+    book: &Book,
+    order: &[Place],
+    marks: &mut Vec<Mark>,
+) -> Result<Option<Vec<Place>>, NoMemory>
+    requires marks { AreMarks (S.init object.now) (S.next object.now) book.now order.now 0 marks.old.items }
+    ensures legal { IfOk result (λ found. IfSome found
+        (λ order. IsLegalOrder (S.init object.now) (S.next object.now) book.now order.items)) }
+    ensures marks { IfOk result (λ found. IfSome found
+        (λ order. AreMarks (S.init object.now) (S.next object.now) book.now order.items 0 marks.new.items)) }
+    ensures kept { OnOk result (AreMarks (S.init object.now) (S.next object.now) book.now order.now 0 marks.new.items) }
+{
+    let all = Vec::from_slice(alloc, order)?;
+    let (front, later) = resume(alloc, object, book, all, marks)?;
+    let Some(rest) = rest_after(alloc, object, book, &later, &front)? else {
+        return Ok(None);
+    };
+    let Front {
+        mut places,
+        cut: _,
+        here: _,
+    } = front;
+    places.extend_from_slice(&rest)?;
+    Ok(Some(places))
+}
+
+// Looks for a legal order anywhere, and tries the guide's places first. It has no marks yet.
 fn check_anew<S: SeqObject>(
     alloc: Global,
     object: &S,
@@ -146,11 +229,7 @@ fn check_anew<S: SeqObject>(
     ensures illegal { IfOk result (λ found. IfNone found
         (HasLegalOrder (S.init object.now) (S.next object.now) book.now → ⊥)) }
 {
-    let found = match order_near(alloc, object, book, guide)? {
-        Some(order) => Some(order),
-        None => order_anywhere(alloc, object, book, guide)?,
-    };
-    match found {
+    match order_anywhere(alloc, object, book, guide)? {
         None => Ok(None),
         Some(order) => Ok(Some(Standing {
             order,

@@ -1,4 +1,4 @@
-use Rattle.std.proofs.Common.{◌∙◌, length, ap, arith}
+use Rattle.std.proofs.Common.{length, ap, arith}
 use Rattle.book_base.specs.State.{Contents}
 use Rattle.frontier_check.proofs.Following.{stands-fit, putting}
 use Rattle.frontier_check.proofs.fresh.gives.Goals as goal

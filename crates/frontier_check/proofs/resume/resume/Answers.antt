@@ -1,4 +1,4 @@
-use Rattle.std.proofs.Common.{◌≡◌, ◌∙◌, ℕ, ◌<◌, List, length, slice_index_or, sym, ap, subst, arith}
+use Rattle.std.proofs.Common.{◌≡◌, ℕ, ◌+◌, ◌<◌, List, length, slice_index_or, sym, subst}
 use Rattle.frontier_check.specs.declared.mark.Mark.{Mark}
 use Rattle.frontier_check.specs.Standing.{IsAsWide, StillStands}
 use Rattle.frontier_check.proofs.Resuming.{marks_wide, marks_fit, marks_taken, mark_resumed}
@@ -39,3 +39,6 @@ returns-in_ok-found-in-Some-clause-marks g c =
     let low = subst (λ (ms : List Mark). c.in-Some.index < length ms) c.deref.ensures.value c.in-Some.ensures.within in
     marks_taken (g.S.SeqObject.init object) (g.S.SeqObject.next object) c.args.book.now c.args.order.items c.in_ok-found-in-Some.found.0.places.items marks c.truncate.new.self.items c.in-Some.index c.index.result.now
     low c.index.ensures c.requires.marks c.in_ok-found-in-Some.ensures.places c.truncate.ensures.items
+
+pub returns-in_ok-found-in-Some-clause-fewer : goal.returns-in_ok-found-in-Some-clause-fewer
+returns-in_ok-found-in-Some-clause-fewer g c = (c.in-Some.index + 1, c.truncate.ensures.items)

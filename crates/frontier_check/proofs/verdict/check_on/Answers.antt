@@ -4,8 +4,8 @@ use Rattle.frontier_check.specs.Standing.{AreMarks}
 use Rattle.frontier_check.proofs.Resuming.{marks_longer}
 use Rattle.frontier_check.proofs.verdict.check_on.Goals as goal
 
-pub returns-in_ok-extend_from_slice-in-Some-clause-stands : goal.returns-in_ok-extend_from_slice-in-Some-clause-stands
-returns-in_ok-extend_from_slice-in-Some-clause-stands g c =
+pub returns-clause-stands : goal.returns-clause-stands
+returns-clause-stands g c =
     let init = g.S.SeqObject.init c.args.object.now in
     let next = g.S.SeqObject.next c.args.object.now in
     let book = c.args.book.now in
