@@ -72,7 +72,7 @@ pub fn check_from<S: SeqObject>(
 /// What stands is of this object, and of this book or of one from which it has grown; there is none
 /// to begin with. `None` comes where the book has no legal order. The places up to a mark are kept
 /// where the records that are new leave them standing, and those after it are stepped through. So a
-/// call mostly costs what is new, and what the object's list is long; no clause says how much.
+/// call mostly costs what is new, and a copy of the object's list; no clause says how much.
 pub fn check_after<S: SeqObject>(
     alloc: Global,
     object: &S,
