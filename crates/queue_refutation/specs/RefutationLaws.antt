@@ -1,0 +1,24 @@
+-- Closed lists of standings, pairs and legal orders.
+use Rattle.std.specs.Prelude.{◌≡◌, ℕ, ◌≤◌, List, [], ◌∷◌, length}
+use Rattle.book_base.specs.Book.{Page, IsValid}
+use Rattle.book_base.specs.Order.{HasLegalOrder}
+use Rattle.book_base.specs.Pruning.{HasOneOpen}
+use Rattle.history_rules.specs.Container.{Reading, IsQueue}
+use Rattle.queue_pairs.specs.Pairs.{Paired, Pair, Step, Pairs, AreSteps, none_paired}
+use Rattle.queue_refutation.specs.Closed.{IsOneOf, AreClosed, IsUnanswered}
+
+-- No steps go on from any of a closed list of standings, in a valid book with one open.
+abbrev pub ClosedStandingsAreDead : Type 0
+ClosedStandingsAreDead = (reading : Reading) (book : List Page) (standings : List Paired) (s : Paired) (steps : List Step) → IsValid book → HasOneOpen book
+    → AreClosed reading book standings → IsOneOf standings s → AreSteps reading book s steps → ⊥
+
+-- So a queue's valid book with one open has no legal order where one of them is the start, at which nothing stands.
+abbrev pub ClosedStartsHaveNoOrder : Type 0
+ClosedStartsHaveNoOrder = (reading : Reading) (init : List ℕ) (next : List ℕ → ℕ → List ℕ × ℕ) (book : List Page) (callers : ℕ) (standings : List Paired)
+    → IsQueue reading next → reading.values init ≡ [] → IsValid book → HasOneOpen book
+    → AreClosed reading book standings → IsOneOf standings (none_paired callers) → HasLegalOrder init next book → ⊥
+
+-- Where steps go on with a pair of which neither call is answered, they go on without it.
+abbrev pub UnansweredPairsAreIdle : Type 0
+UnansweredPairsAreIdle = (reading : Reading) (book : List Page) (s : Paired) (pair : Pair) (steps : List Step) → HasOneOpen book → length book ≤ length s.puts
+    → length book ≤ length s.takes → IsUnanswered book pair → AreSteps reading book s (Pairs pair ∷ steps) → AreSteps reading book s steps

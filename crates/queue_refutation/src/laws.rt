@@ -1,0 +1,20 @@
+//! Laws of standings that lead to one another alone. Each is the contract of a function with nothing in it.
+
+ghost use Rattle.queue_refutation.specs.RefutationLaws.{ClosedStandingsAreDead, ClosedStartsHaveNoOrder, UnansweredPairsAreIdle};
+
+/// No pairs go on from any of a closed list of standings: there would be ever fewer steps, or as many after ever more
+/// takes have found nothing.
+pub fn closed_standings_are_dead()
+    ensures { ClosedStandingsAreDead }
+{}
+
+/// A queue's valid book with one open has no legal order where a closed list of standings has the start, at which
+/// nothing stands.
+pub fn closed_starts_have_no_order()
+    ensures { ClosedStartsHaveNoOrder }
+{}
+
+/// Where steps go on with a pair of which neither call is answered, they go on without it.
+pub fn unanswered_pairs_are_idle()
+    ensures { UnansweredPairsAreIdle }
+{}
