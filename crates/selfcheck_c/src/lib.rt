@@ -1,4 +1,5 @@
-//! Verdicts on texts for programs in other languages: exports over numbers and slices of bytes.
+//! Verdicts on texts, and calls that check themselves, for programs in other languages: exports over numbers, slices of
+//! bytes, and places for handles.
 #![tactic(auto)]
 
 ghost use Rattle.std.specs.Prelude.{◌≡◌, ◌⊎◌, ℕ, ◌<◌, ◌≤◌, List, length, take};
@@ -11,6 +12,8 @@ ghost use Rattle.book_verdicts.specs.Certificates.{IsLegalCertificate, IsIllegal
 ghost use Rattle.selfcheck_c.specs.Refusals.{IsBookRefusal, IsCertificateRefusal};
 
 mod buffer;
+mod crossing;
+mod handles;
 mod refusal;
 
 use crate::buffer::put;
