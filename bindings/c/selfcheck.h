@@ -1,11 +1,12 @@
-/* Verdicts on the texts of books and certificates, by a proved library. docs/FORMATS.md has the texts.
+/* Verdicts on the texts of books and certificates, and calls that check themselves, by a proved library.
+ * docs/FORMATS.md has the texts.
  *
  * Link libselfcheck_c.a, and behind it liblibc_c.a, by which it takes memory from malloc.
  *
- * Each call reads the text and keeps no pointer to anything it is given. Any number of threads may call at once. What
- * is asked of a caller, and nothing checks: no pointer is null, not even that of an empty text or buffer; each points
- * to as many bytes as its length says; and what is written to (the buffer, `written`, the refusal) overlaps nothing
- * else that is given to the same call. The text is any bytes, of any length. */
+ * Each call keeps no pointer to anything it is given. Any number of threads may call at once. What is asked of a
+ * caller, and nothing checks: no pointer is null, not even that of an empty text or buffer; each points to as many
+ * bytes as its length says; and what is written to (the buffer, `written`, the refusal, a slot) overlaps nothing else
+ * that is given to the same call. The text is any bytes, of any length. */
 #ifndef SELFCHECK_H
 #define SELFCHECK_H
 
@@ -18,10 +19,12 @@ extern "C" {
 
 enum selfcheck_status {
     SELFCHECK_LEGAL = 0,     /* the book has a legal order; the certificate's list is one */
-    SELFCHECK_ILLEGAL = 1,   /* the book has none; the certificate's list isn't one */
+    SELFCHECK_DONE = 0,      /* the call on a slot did what it is for; a reply is delivered */
+    SELFCHECK_ILLEGAL = 1,   /* the book has none; the certificate's list isn't one; the object is wrong */
     SELFCHECK_REFUSED = 3,   /* the text isn't one of the wanted form: the refusal says why */
-    SELFCHECK_NO_MEMORY = 6, /* nothing is said of the text */
-    SELFCHECK_NO_ROOM = 8    /* the book is legal, and `written` says how long a buffer its certificate needs */
+    SELFCHECK_NO_MEMORY = 6, /* nothing is said of the text, or of the reply */
+    SELFCHECK_NO_ROOM = 8,   /* the buffer is too short, and `written` says how long a one is needed */
+    SELFCHECK_UNFIT = 9      /* the slot isn't as the call wants it, or there is no such table: nothing has changed */
 };
 
 /* What is wrong with a text, by the names of docs/FORMATS.md. */
@@ -50,6 +53,72 @@ uint32_t selfcheck_order(const uint8_t *text, size_t length, struct selfcheck_re
  * buffer is as it was. A buffer of twice the text's length and 64 bytes is mostly long enough. */
 uint32_t selfcheck_certify(const uint8_t *text, size_t length, uint8_t *buffer, size_t room, size_t *written,
                            struct selfcheck_refusal *refusal);
+
+/* Calls that check themselves. A table of callers stands beside an object: each caller announces a call there, makes the
+ * object's own call, and hands in its reply, which is delivered, or is an error with a witness.
+ *
+ * A slot is a place for one handle: of a table, or of one of its callers. It is all zero before its first use, and then
+ * the library alone writes to it. It isn't copied, but may be moved, and is given to one call at a time: threads that
+ * pass it on order their calls by a lock, by a start or a join. While it has a handle, `in_use` is 1. */
+struct selfcheck_slot {
+    uint32_t in_use;
+    void *at;
+};
+
+/* Opens a table into an empty slot, for 1 to 16 callers with 1 to 256 calls each, whose calls are judged by the kind of
+ * this name: "queue", "stack", "register", "counter", "set", "pqueue", "casreg" or "map". DONE, NO_MEMORY or UNFIT. */
+uint32_t selfcheck_open(const uint8_t *kind, size_t length, uint32_t callers, uint64_t calls, struct selfcheck_slot *slot);
+
+/* Puts the next caller of a table into an empty slot. UNFIT where there is none left. A caller goes on after its table's
+ * slot is dropped. DONE, NO_MEMORY or UNFIT. */
+uint32_t selfcheck_caller(struct selfcheck_slot *table, struct selfcheck_slot *slot);
+
+/* Announces a call of the caller: to be written right before the object's own. `low` is selfcheck_word of the operation
+ * and its first argument, `high` its second argument, or 0. UNFIT where a call is announced already, where the caller
+ * has made all its calls, and after an error; then the object isn't to be asked. DONE or UNFIT. */
+uint32_t selfcheck_announce(struct selfcheck_slot *caller, uint64_t low, uint64_t high);
+
+/* Hands in the object's reply to the announced call: to be written right after the object's own. DONE: the calls that
+ * are published and that the caller has seen, its own among them, have a legal order, and the reply is delivered.
+ * ILLEGAL: they have none, and the object is wrong. NO_MEMORY: the reply isn't checked, but others see it. After these
+ * two the caller makes no further call. UNFIT where no call is announced. */
+uint32_t selfcheck_answered(struct selfcheck_slot *caller, uint64_t reply);
+
+/* Writes into the buffer the witness of a caller's error, the text of a book that has no legal order, and its length into
+ * `written`. DONE, NO_MEMORY, NO_ROOM, or UNFIT where the caller's last call wasn't ILLEGAL; but for DONE the buffer is
+ * as it was. */
+uint32_t selfcheck_witness(struct selfcheck_slot *caller, uint8_t *buffer, size_t room, size_t *written);
+
+/* Lets the slot's handle go; an announced call stays unanswered. The slot is then empty. A table's memory is freed with
+ * the last of its slots. DONE, or UNFIT where it was empty. */
+uint32_t selfcheck_drop(struct selfcheck_slot *slot);
+
+/* The operations of each kind. */
+enum selfcheck_operation {
+    SELFCHECK_OP_ENQ = 1, SELFCHECK_OP_DEQ = 2,
+    SELFCHECK_OP_PUSH = 1, SELFCHECK_OP_POP = 2,
+    SELFCHECK_OP_WRITE = 1, SELFCHECK_OP_READ = 2, SELFCHECK_OP_CAS = 3,
+    SELFCHECK_OP_INC = 1,
+    SELFCHECK_OP_ADD = 1, SELFCHECK_OP_REMOVE = 2, SELFCHECK_OP_HAS = 3,
+    SELFCHECK_OP_INSERT = 1, SELFCHECK_OP_MIN = 2,
+    SELFCHECK_OP_PUT = 1, SELFCHECK_OP_GET = 2, SELFCHECK_OP_DEL = 3
+};
+
+/* The low word of an operation and its first argument, which is 0 where it has none. */
+static inline uint64_t selfcheck_word(enum selfcheck_operation operation, uint32_t argument) {
+    return ((uint64_t)operation << 32) + argument;
+}
+
+/* Replies: that the call is done, that there is no value, no, yes, that the object doesn't know the operation, a value. */
+#define SELFCHECK_REPLY_DONE ((uint64_t)0)
+#define SELFCHECK_REPLY_NONE ((uint64_t)1 << 32)
+#define SELFCHECK_REPLY_NO ((uint64_t)3 << 32)
+#define SELFCHECK_REPLY_YES (((uint64_t)3 << 32) + 1)
+#define SELFCHECK_REPLY_BAD ((uint64_t)4 << 32)
+
+static inline uint64_t selfcheck_reply_value(uint32_t value) {
+    return ((uint64_t)2 << 32) + value;
+}
 
 /* The name of what is wrong, as the program selfcheck writes it. */
 static inline const char *selfcheck_name(uint32_t what) {

@@ -1,31 +1,42 @@
-//! What recording costs a call, with 1, 2 and 4 threads, and what a verdict costs: `cargo run --release --example cost
-//! BOOK..`.
+//! What a call of a counter costs bare, recorded, and where it checks itself, with 1, 2 and 4 threads, and what a verdict
+//! costs: `cargo run --release --example cost BOOK..`.
 
-use selfcheck::{Counter, Recorder, verify};
+use selfcheck::{Counter, CounterObject, Enforced, Recorder, verify};
 use std::error::Error;
 use std::hint::{black_box, spin_loop};
-use std::sync::atomic::{AtomicUsize, Ordering::SeqCst};
+use std::sync::atomic::{AtomicU32, AtomicUsize, Ordering::SeqCst};
 use std::time::Instant;
 use std::{env, fs, thread};
 
-const CALLS: u32 = 256;
+#[derive(Default)]
+struct Word(AtomicU32);
 
-/// Nanoseconds a call of one recording by threads that begin at once.
-fn recorded(threads: usize) -> f64 {
-    let recorder = Recorder::<Counter>::new();
+impl CounterObject for Word {
+    fn inc(&self) -> u32 {
+        self.0.fetch_add(1, SeqCst)
+    }
+}
+
+/// Nanoseconds a call, where each thread is given a caller, and all begin at once.
+fn timed<C: Send>(
+    threads: usize,
+    calls: u32,
+    caller: impl Fn() -> C,
+    call: impl Fn(&mut C) -> u32 + Sync,
+) -> f64 {
     let ready = AtomicUsize::new(0);
     let spent: Vec<f64> = thread::scope(|scope| {
         let running: Vec<_> = (0..threads)
             .map(|_| {
-                let (ready, mut me) = (&ready, recorder.caller().unwrap());
+                let (ready, call, mut me) = (&ready, &call, caller());
                 scope.spawn(move || {
                     ready.fetch_add(1, SeqCst);
                     while ready.load(SeqCst) < threads {
                         spin_loop();
                     }
                     let begun = Instant::now();
-                    for number in 0..CALLS {
-                        me.inc(|| black_box(number));
+                    for _ in 0..calls {
+                        black_box(call(&mut me));
                     }
                     begun.elapsed().as_secs_f64()
                 })
@@ -33,17 +44,51 @@ fn recorded(threads: usize) -> f64 {
             .collect();
         running.into_iter().map(|it| it.join().unwrap()).collect()
     });
-    spent.iter().sum::<f64>() / threads as f64 / f64::from(CALLS) * 1e9
+    spent.iter().sum::<f64>() / threads as f64 / f64::from(calls) * 1e9
+}
+
+fn bare(threads: usize, calls: u32) -> f64 {
+    let word = Word::default();
+    timed(threads, calls, || (), |()| word.inc())
+}
+
+fn recorded(threads: usize, calls: u32) -> f64 {
+    let word = Word::default();
+    let recorder = Recorder::<Counter>::new();
+    timed(
+        threads,
+        calls,
+        || recorder.caller().unwrap(),
+        |me| me.inc(|| word.inc()),
+    )
+}
+
+fn enforced(threads: usize, calls: u32) -> f64 {
+    let counter = Enforced::<Counter, _>::new(Word::default(), threads, calls as usize).unwrap();
+    timed(
+        threads,
+        calls,
+        || counter.caller().unwrap(),
+        |me| me.inc().unwrap(),
+    )
+}
+
+fn write_cost(what: &str, threads: usize, calls: u32, run: fn(usize, u32) -> f64) {
+    let mut runs: Vec<_> = (0..200).map(|_| run(threads, calls)).collect();
+    runs.sort_by(f64::total_cmp);
+    println!(
+        "{what}, {threads} threads, {calls} calls each: {:.0} ns a call at best, {:.0} ns in the median of 200 runs",
+        runs[0], runs[100]
+    );
 }
 
 fn main() -> Result<(), Box<dyn Error>> {
     for threads in [1, 2, 4] {
-        let mut runs: Vec<_> = (0..1000).map(|_| recorded(threads)).collect();
-        runs.sort_by(f64::total_cmp);
-        println!(
-            "{threads} threads: {:.0} ns a call in the median of 1000 recordings, {:.0} ns in the 50th slowest",
-            runs[500], runs[950]
-        );
+        write_cost("bare", threads, 256, bare);
+        write_cost("recorded", threads, 256, recorded);
+        for calls in [16, 64, 256] {
+            write_cost("checking itself", threads, calls, enforced);
+        }
     }
     for path in env::args().skip(1) {
         let text = fs::read(&path)?;

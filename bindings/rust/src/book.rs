@@ -5,11 +5,14 @@ use crate::kind::Kind;
 use crate::library::{certify, verify};
 use crate::reply::Reply;
 use std::fmt;
+use std::marker::PhantomData;
 
 /// What the callers of an object did. Its text is a book of version 2, which `selfcheck verify` reads too.
-#[derive(Clone, Debug)]
+#[derive(Clone, Debug, PartialEq, Eq)]
 pub struct Book<K: Kind> {
-    callers: Vec<Vec<Call<K>>>,
+    text: String,
+    calls: usize,
+    kind: PhantomData<K>,
 }
 
 // A call, with the moment of its invocation, and with that of its return and its reply where it is answered.
@@ -22,27 +25,46 @@ pub(crate) struct Call<K: Kind> {
 
 impl<K: Kind> Book<K> {
     // Each caller's calls in their order; the moments of all are different.
-    pub(crate) fn new(mut callers: Vec<Vec<Call<K>>>) -> Book<K> {
-        if callers.is_empty() {
-            // a book has at least one caller
-            callers.push(Vec::new());
+    pub(crate) fn of_calls(callers: &[&[Call<K>]]) -> Book<K> {
+        // a book has at least one caller
+        let callers = if callers.is_empty() {
+            &[&[][..]]
+        } else {
+            callers
+        };
+        Book::of_text(Recorded { callers }.to_string())
+    }
+
+    // The text is that of a book of this kind.
+    pub(crate) fn of_text(text: String) -> Book<K> {
+        // four lines before the calls, and the end behind them
+        let calls = text.lines().count() - 5;
+        Book {
+            text,
+            calls,
+            kind: PhantomData,
         }
-        Book { callers }
     }
 
     /// How many calls the callers made.
     #[must_use]
     pub fn calls(&self) -> usize {
-        self.callers.iter().map(Vec::len).sum()
+        self.calls
+    }
+
+    /// Its text.
+    #[must_use]
+    pub fn as_str(&self) -> &str {
+        &self.text
     }
 
     /// Whether the calls have a legal order.
     ///
     /// # Errors
     ///
-    /// For want of memory. The text of a recorded book is never refused.
+    /// For want of memory. The text of a book is never refused.
     pub fn verify(&self) -> Result<Verdict, Fault> {
-        verify(self.to_string())
+        verify(&self.text)
     }
 
     /// The book's text with a legal order of its calls, which [`order`](crate::order) judges without a search; `None`
@@ -50,11 +72,25 @@ impl<K: Kind> Book<K> {
     ///
     /// # Errors
     ///
-    /// For want of memory. The text of a recorded book is never refused.
+    /// For want of memory. The text of a book is never refused.
     pub fn certify(&self) -> Result<Option<String>, Fault> {
-        certify(self.to_string())
+        certify(&self.text)
     }
+}
 
+/// The text of version 2.
+impl<K: Kind> fmt::Display for Book<K> {
+    fn fmt(&self, f: &mut fmt::Formatter<'_>) -> fmt::Result {
+        f.write_str(&self.text)
+    }
+}
+
+// What a recorder has of each caller.
+struct Recorded<'a, K: Kind> {
+    callers: &'a [&'a [Call<K>]],
+}
+
+impl<K: Kind> Recorded<'_, K> {
     // The view of a call that returned at a moment: for each caller, how many of its calls were invoked before.
     //
     // Any two views are comparable, since one of the moments is first. That of call k of a caller counts k + 1 of this
@@ -67,14 +103,13 @@ impl<K: Kind> Book<K> {
     }
 }
 
-/// The text of version 2.
-impl<K: Kind> fmt::Display for Book<K> {
+impl<K: Kind> fmt::Display for Recorded<'_, K> {
     fn fmt(&self, f: &mut fmt::Formatter<'_>) -> fmt::Result {
         writeln!(f, "book 2")?;
         writeln!(f, "object {}", K::NAME)?;
         writeln!(f, "callers {}", self.callers.len())?;
         write!(f, "calls")?;
-        for calls in &self.callers {
+        for calls in self.callers {
             write!(f, " {}", calls.len())?;
         }
         writeln!(f)?;

@@ -7,20 +7,33 @@ pub trait Kind: Copy + fmt::Debug + 'static {
     /// Its name in a book.
     const NAME: &'static str;
 
-    /// Its operations. Each is displayed as a book has it.
-    type Op: Copy + fmt::Debug + fmt::Display + Send;
+    /// Its operations.
+    type Op: Operation;
 }
 
-// A kind with its operations: for each its text, and its arguments.
+/// An operation of a kind. It is displayed as a book has it.
+pub trait Operation: Copy + fmt::Debug + fmt::Display + Send {
+    /// The word that stands for it in a table of callers: its code, the first argument and the second, 32 bits each
+    /// from bit 32, 0 and 64 on.
+    fn word(self) -> u128;
+}
+
+// The word of a code and of an operation's arguments.
+fn word<const N: usize>(code: u128, arguments: [u32; N]) -> u128 {
+    let argument = |place| arguments.get(place).map_or(0, |it| u128::from(*it));
+    (code << 32) + argument(0) + (argument(1) << 64)
+}
+
+// A kind with its operations: for each its code, its text, and its arguments.
 macro_rules! kinds {
     ($(
         $(#[$about:meta])*
         $kind:ident $name:literal $operations:ident {
-            $($(#[$does:meta])* $op:ident $text:literal $(($($argument:ident),+))?;)+
+            $($(#[$does:meta])* $op:ident $code:literal $text:literal $(($($argument:ident),+))?;)+
         }
     )+) => {$(
         $(#[$about])*
-        #[derive(Clone, Copy, Debug)]
+        #[derive(Clone, Copy, Debug, PartialEq, Eq, Hash)]
         pub enum $kind {}
 
         impl Kind for $kind {
@@ -33,6 +46,14 @@ macro_rules! kinds {
         #[derive(Clone, Copy, Debug, PartialEq, Eq, Hash)]
         pub enum $operations {
             $($(#[$does])* $op $(($(kinds!(@value $argument)),+))?,)+
+        }
+
+        impl Operation for $operations {
+            fn word(self) -> u128 {
+                match self {
+                    $($operations::$op $(($($argument),+))? => word($code, [$($($argument),+)?]),)+
+                }
+            }
         }
 
         impl fmt::Display for $operations {
@@ -54,61 +75,61 @@ kinds! {
     /// First in, first out; empty at first.
     Queue "queue" QueueOp {
         /// Puts a value at the end; replies `Done`.
-        Enq "enq" (value);
+        Enq 1 "enq" (value);
         /// Takes the first value; replies it, or `None` where there is none.
-        Deq "deq";
+        Deq 2 "deq";
     }
     /// Last in, first out; empty at first.
     Stack "stack" StackOp {
         /// Puts a value on top; replies `Done`.
-        Push "push" (value);
+        Push 1 "push" (value);
         /// Takes the top value; replies it, or `None` where there is none.
-        Pop "pop";
+        Pop 2 "pop";
     }
     /// One value, 0 at first.
     Register "register" RegisterOp {
         /// Sets the value; replies `Done`.
-        Write "write" (value);
+        Write 1 "write" (value);
         /// Replies the value.
-        Read "read";
+        Read 2 "read";
     }
     /// A number modulo 2^32, 0 at first.
     Counter "counter" CounterOp {
         /// Adds 1; replies the number before.
-        Inc "inc";
+        Inc 1 "inc";
     }
     /// A set of values, empty at first.
     Set "set" SetOp {
         /// Puts a value in; replies `Yes` where it wasn't in the set.
-        Add "add" (value);
+        Add 1 "add" (value);
         /// Takes a value out; replies `Yes` where it was in the set.
-        Remove "remove" (value);
+        Remove 2 "remove" (value);
         /// Replies `Yes` where the value is in the set.
-        Has "has" (value);
+        Has 3 "has" (value);
     }
     /// The least value first; empty at first.
     PriorityQueue "pqueue" PriorityQueueOp {
         /// Puts a value in; replies `Done`.
-        Insert "insert" (value);
+        Insert 1 "insert" (value);
         /// Takes the least value; replies it, or `None` where there is none.
-        Min "min";
+        Min 2 "min";
     }
     /// One value with compare-and-swap, 0 at first.
     CasRegister "casreg" CasRegisterOp {
         /// Sets the value; replies `Done`.
-        Write "write" (value);
+        Write 1 "write" (value);
         /// Replies the value.
-        Read "read";
+        Read 2 "read";
         /// Sets the value to the second where it is the first; replies `Yes` where it was.
-        Cas "cas" (from, to);
+        Cas 3 "cas" (from, to);
     }
     /// Values by keys, empty at first.
     Map "map" MapOp {
         /// Sets a key's value; replies the old one, or `None`.
-        Put "put" (key, value);
+        Put 1 "put" (key, value);
         /// Replies a key's value, or `None`.
-        Get "get" (key);
+        Get 2 "get" (key);
         /// Takes a key out; replies its value, or `None`.
-        Del "del" (key);
+        Del 3 "del" (key);
     }
 }

@@ -25,6 +25,9 @@
 //! # Ok::<_, Box<dyn std::error::Error>>(())
 //! ```
 //!
+//! An [`Enforced`] object checks itself: each call is judged when it has its reply, which is delivered, or is an error
+//! with a book that has no legal order.
+//!
 //! **What it says.** The verdict on a book is proved. The recorder is tested: a book that it makes is always a
 //! text of a book, and where the book has no legal order, the recorded run wasn't linearizable. A run of a wrong
 //! object may be legal all the same: the threads didn't meet in the wrong way, or the recorded intervals, which
@@ -37,22 +40,31 @@ mod book;
 #[forbid(unsafe_code)]
 mod calls;
 #[forbid(unsafe_code)]
+mod enforced;
+#[forbid(unsafe_code)]
 mod fault;
 #[forbid(unsafe_code)]
 mod kind;
 #[allow(unsafe_code)]
 mod library;
 #[forbid(unsafe_code)]
+mod objects;
+#[forbid(unsafe_code)]
 mod recorder;
 #[forbid(unsafe_code)]
 mod reply;
 
 pub use book::Book;
+pub use enforced::{CallError, CallerError, Enforced, EnforcedCaller, OpenError};
 pub use fault::{Fault, Verdict, What};
 pub use kind::{
-    CasRegister, CasRegisterOp, Counter, CounterOp, Kind, Map, MapOp, PriorityQueue,
+    CasRegister, CasRegisterOp, Counter, CounterOp, Kind, Map, MapOp, Operation, PriorityQueue,
     PriorityQueueOp, Queue, QueueOp, Register, RegisterOp, Set, SetOp, Stack, StackOp,
 };
 pub use library::{certify, order, verify};
+pub use objects::{
+    CasRegisterObject, CounterObject, MapObject, PriorityQueueObject, QueueObject, RegisterObject,
+    SetObject, StackObject,
+};
 pub use recorder::{Caller, Incomplete, MAX_CALLERS, MAX_CALLS, Pending, Recorder, TooManyCallers};
 pub use reply::Reply;

@@ -1,6 +1,8 @@
 //! The proved library `selfcheck_c`. Here alone code is unsafe.
 
 use crate::fault::{Fault, Verdict, What};
+use std::ffi::c_void;
+use std::ptr;
 
 /// Why a text was refused, as the library tells it.
 #[repr(C)]
@@ -10,9 +12,18 @@ struct Refusal {
     what: u32,
 }
 
-// The exports of `crates/selfcheck_c/src/lib.rt`: a `&[u8]` crosses as a pointer, not null, and a length, and a
-// `Global` as nothing. They require nothing but what the types say, keep no pointer, and may be called by many threads
-// at once.
+/// A place for one handle of the library: of a table, or of one of its callers. It has one where `in_use` is 1, and then
+/// a pointer to what it owns. The library alone writes to it.
+#[repr(C)]
+#[derive(Debug)]
+struct Slot {
+    in_use: u32,
+    at: *mut c_void,
+}
+
+// The exports of `crates/selfcheck_c`: a `&[u8]` crosses as a pointer, not null, and a length, and a `Global` as
+// nothing. They require nothing but what the types say, and keep no pointer to what they are given. Many threads may
+// call at once, with a slot in one call at a time.
 unsafe extern "C" {
     fn selfcheck_verify(text: *const u8, length: usize, refusal: &mut Refusal) -> u32;
     fn selfcheck_order(text: *const u8, length: usize, refusal: &mut Refusal) -> u32;
@@ -24,13 +35,32 @@ unsafe extern "C" {
         written: &mut usize,
         refusal: &mut Refusal,
     ) -> u32;
+    fn selfcheck_open(
+        kind: *const u8,
+        length: usize,
+        callers: u32,
+        calls: u64,
+        slot: &mut Slot,
+    ) -> u32;
+    fn selfcheck_caller(table: &mut Slot, slot: &mut Slot) -> u32;
+    fn selfcheck_announce(slot: &mut Slot, low: u64, high: u64) -> u32;
+    fn selfcheck_answered(slot: &mut Slot, reply: u64) -> u32;
+    fn selfcheck_witness(slot: &mut Slot, buffer: *mut u8, room: usize, written: &mut usize)
+    -> u32;
+    fn selfcheck_drop(slot: &mut Slot) -> u32;
 }
 
 const LEGAL: u32 = 0;
+const DONE: u32 = 0;
 const ILLEGAL: u32 = 1;
 const REFUSED: u32 = 3;
 const NO_MEMORY: u32 = 6;
 const NO_ROOM: u32 = 8;
+const UNFIT: u32 = 9;
+
+fn no_such_status(status: u32) -> ! {
+    unreachable!("the library has no status {status} here")
+}
 
 fn verdict(status: u32, refusal: &Refusal) -> Result<Verdict, Fault> {
     match status {
@@ -41,7 +71,7 @@ fn verdict(status: u32, refusal: &Refusal) -> Result<Verdict, Fault> {
             what: What::from_number(refusal.what),
         }),
         NO_MEMORY => Err(Fault::NoMemory),
-        _ => unreachable!("the library has no status {status}"),
+        status => no_such_status(status),
     }
 }
 
@@ -128,5 +158,136 @@ pub fn certify(text: impl AsRef<[u8]>) -> Result<Option<String>, Fault> {
                 ))
             }
         };
+    }
+}
+
+// SAFETY: what a slot owns may be used by any thread, which the library proves of its handles (`crossing.rt` of
+// `selfcheck_c`), and each call takes the slot by `&mut`.
+unsafe impl Send for Slot {}
+
+impl Slot {
+    fn empty() -> Slot {
+        Slot {
+            in_use: 0,
+            at: ptr::null_mut(),
+        }
+    }
+}
+
+impl Drop for Slot {
+    fn drop(&mut self) {
+        // SAFETY: the slot is this value's own, and the library alone has written to it; where it has no handle, nothing
+        // is done.
+        unsafe { selfcheck_drop(self) };
+    }
+}
+
+/// A table, which gives its callers one by one.
+#[derive(Debug)]
+pub(crate) struct Table(Slot);
+
+/// A caller of a table, between two calls.
+#[derive(Debug)]
+pub(crate) struct Idle(Slot);
+
+/// A caller whose call is announced.
+#[derive(Debug)]
+pub(crate) struct Announced(Slot);
+
+/// A caller whose last call was an error.
+#[derive(Debug)]
+pub(crate) struct Wrong(Slot);
+
+/// What became of a call whose reply was handed in.
+#[derive(Debug)]
+pub(crate) enum Answer {
+    Delivered(Idle),
+    Illegal(Wrong),
+    /// For want of memory nobody has checked the reply.
+    Unjudged,
+}
+
+/// Why there is no table, and no caller.
+#[derive(Debug)]
+pub(crate) enum Lack {
+    /// There is no such table, or it has given all its callers.
+    Unfit,
+    Memory,
+}
+
+// The slot that a call has filled, by its status.
+fn filled(status: u32, slot: Slot) -> Result<Slot, Lack> {
+    match status {
+        DONE => Ok(slot),
+        UNFIT => Err(Lack::Unfit),
+        NO_MEMORY => Err(Lack::Memory),
+        status => no_such_status(status),
+    }
+}
+
+impl Table {
+    pub(crate) fn open(kind: &str, callers: u32, calls: u64) -> Result<Table, Lack> {
+        let mut slot = Slot::empty();
+        // SAFETY: the pointer and the length are those of a string that is borrowed for the call; the slot is this
+        // function's own, and new.
+        let status =
+            unsafe { selfcheck_open(kind.as_ptr(), kind.len(), callers, calls, &mut slot) };
+        Ok(Table(filled(status, slot)?))
+    }
+
+    pub(crate) fn caller(&mut self) -> Result<Idle, Lack> {
+        let mut slot = Slot::empty();
+        // SAFETY: the table's slot is borrowed for the call; the other one is this function's own, and new.
+        let status = unsafe { selfcheck_caller(&mut self.0, &mut slot) };
+        Ok(Idle(filled(status, slot)?))
+    }
+}
+
+impl Idle {
+    /// The caller as it is where it has no call left.
+    pub(crate) fn announce(mut self, op: u128) -> Result<Announced, Idle> {
+        let (low, high) = (op as u64, (op >> 64) as u64);
+        // SAFETY: the slot is this caller's own.
+        match unsafe { selfcheck_announce(&mut self.0, low, high) } {
+            DONE => Ok(Announced(self.0)),
+            UNFIT => Err(self),
+            status => no_such_status(status),
+        }
+    }
+}
+
+impl Announced {
+    pub(crate) fn answered(mut self, reply: u64) -> Answer {
+        // SAFETY: the slot is this caller's own.
+        match unsafe { selfcheck_answered(&mut self.0, reply) } {
+            DONE => Answer::Delivered(Idle(self.0)),
+            ILLEGAL => Answer::Illegal(Wrong(self.0)),
+            NO_MEMORY => Answer::Unjudged,
+            status => no_such_status(status),
+        }
+    }
+}
+
+impl Wrong {
+    /// The text of the book of the error; none for want of memory.
+    pub(crate) fn witness(mut self) -> Option<String> {
+        let mut buffer = vec![0; 1024];
+        loop {
+            let mut written = 0;
+            // SAFETY: the slot is this caller's own; the pointer and the length are those of a buffer of this function's
+            // own, as the count is, and none overlaps another.
+            let status = unsafe {
+                selfcheck_witness(&mut self.0, buffer.as_mut_ptr(), buffer.len(), &mut written)
+            };
+            match status {
+                DONE => {
+                    buffer.truncate(written);
+                    return Some(String::from_utf8(buffer).expect("a book is ASCII"));
+                }
+                NO_ROOM => buffer.resize(written, 0),
+                NO_MEMORY => return None,
+                status => no_such_status(status),
+            }
+        }
     }
 }

@@ -8,9 +8,9 @@ use std::fmt;
 use std::sync::atomic::{AtomicU64, Ordering};
 use std::sync::{Arc, Mutex, MutexGuard, PoisonError};
 
-/// How many callers a book may have.
+/// How many callers a book, or a table, may have.
 pub const MAX_CALLERS: usize = 16;
-/// How many calls each caller may have.
+/// How many calls each of them may have.
 pub const MAX_CALLS: usize = 256;
 
 /// Records the calls that up to [`MAX_CALLERS`] threads make to one object.
@@ -182,14 +182,14 @@ impl<K: Kind> Recorder<K> {
     pub fn book(&self) -> Result<Book<K>, Incomplete> {
         let pages = self.shared.callers();
         let callers: Result<Vec<_>, _> = (pages.iter().enumerate())
-            .map(|(caller, page)| page.calls(caller).cloned())
+            .map(|(caller, page)| page.calls(caller))
             .collect();
-        Ok(Book::new(callers?))
+        Ok(Book::of_calls(&callers?))
     }
 }
 
 impl<K: Kind> Page<K> {
-    fn calls(&self, caller: usize) -> Result<&Vec<Call<K>>, Incomplete> {
+    fn calls(&self, caller: usize) -> Result<&[Call<K>], Incomplete> {
         match self {
             Page::InUse => Err(Incomplete::InUse { caller }),
             Page::HandedIn(log) if log.after_unanswered > 0 => Err(Incomplete::AfterUnanswered {

@@ -44,6 +44,21 @@ impl From<bool> for Reply {
     }
 }
 
+impl Reply {
+    // The word that stands for it in a table of callers.
+    pub(crate) fn word(self) -> u64 {
+        let (tag, value) = match self {
+            Reply::Done => (0, 0),
+            Reply::None => (1, 0),
+            Reply::Value(value) => (2, value),
+            Reply::No => (3, 0),
+            Reply::Yes => (3, 1),
+            Reply::Bad => (4, 0),
+        };
+        (tag << 32) + u64::from(value)
+    }
+}
+
 /// As a book has it.
 impl fmt::Display for Reply {
     fn fmt(&self, f: &mut fmt::Formatter<'_>) -> fmt::Result {
