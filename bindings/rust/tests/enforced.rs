@@ -125,7 +125,7 @@ fn by_threads<K: selfcheck::Kind, O: Default + Send + Sync>(
     calls: u32,
     step: impl Fn(&mut EnforcedCaller<K, O>, u32) -> Result<(), CallError<K>> + Sync,
 ) {
-    let object = Enforced::<K, O>::new(O::default(), threads, 64).unwrap();
+    let object = Enforced::<K, O>::new(O::default(), threads, 2 * calls as usize).unwrap();
     let start = Barrier::new(threads);
     thread::scope(|scope| {
         for t in 0..threads as u32 {
