@@ -1,3 +1,4 @@
 pub mod Dropping
 pub mod Leading
 pub mod Refuting
+pub mod Succeeding

@@ -7,7 +7,7 @@ use Rattle.history_rules.specs.Container.{Reading}
 use Rattle.object_foresight.specs.declared.deal.Deal.TheVariants as deals
 use Rattle.object_foresight.specs.Deals.{deal_of}
 use Rattle.queue_pairs.specs.Moments.{moment_of, IsHeldBy}
-use Rattle.queue_pairs.specs.Pairs.{Paired, Pair, Pairs, FindNothing, IsPutOf, IsPut, IsTake, IsNext, MayPair, MayFind, after, IsWhole}
+use Rattle.queue_pairs.specs.Pairs.{Paired, Pair, Step, Pairs, FindNothing, IsPutOf, IsPut, IsTake, IsNext, MayPair, MayFind, MayStep, after, IsWhole}
 use Rattle.queue_pairs.specs.Serving.{IsDueNoLater}
 
 -- the standing is one of these
@@ -95,3 +95,11 @@ pub record IsClosedAt (reading : Reading) (book : List Page) (standings : List P
 -- These standings are closed: each of them leads to others of them alone.
 abbrev pub AreClosed : Reading → List Page → List Paired → Type 0
 AreClosed reading book standings = (s : Paired) → IsOneOf standings s → IsClosedAt reading book standings s
+
+-- The standing isn't finished, and these have what stands after each step that may stand next at it.
+pub record HasSuccessors (reading : Reading) (book : List Page) (standings : List Paired) (s : Paired) : Type 0 where
+  pub wide_puts : length book ≤ length s.puts
+  pub wide_takes : length book ≤ length s.takes
+  pub in_turn : s.put_moment ≤ s.take_moment
+  pub unfinished : IsWhole reading book s → ⊥
+  pub successors : (step : Step) → MayStep reading book s step → IsOneOf standings (after s step)

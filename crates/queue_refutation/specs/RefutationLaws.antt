@@ -4,8 +4,8 @@ use Rattle.book_base.specs.Book.{Page, IsValid}
 use Rattle.book_base.specs.Order.{HasLegalOrder}
 use Rattle.book_base.specs.Pruning.{HasOneOpen}
 use Rattle.history_rules.specs.Container.{Reading, IsQueue}
-use Rattle.queue_pairs.specs.Pairs.{Paired, Pair, Step, Pairs, AreSteps, none_paired}
-use Rattle.queue_refutation.specs.Closed.{IsOneOf, AreClosed, IsUnanswered}
+use Rattle.queue_pairs.specs.Pairs.{Paired, Pair, Step, Pairs, MayPair, AreSteps, none_paired}
+use Rattle.queue_refutation.specs.Closed.{IsOneOf, ServesFor, IsUnanswered, AreClosed, HasSuccessors}
 
 -- No steps go on from any of a closed list of standings, in a valid book with one open.
 abbrev pub ClosedStandingsAreDead : Type 0
@@ -22,3 +22,12 @@ ClosedStartsHaveNoOrder = (reading : Reading) (init : List ℕ) (next : List ℕ
 abbrev pub UnansweredPairsAreIdle : Type 0
 UnansweredPairsAreIdle = (reading : Reading) (book : List Page) (s : Paired) (pair : Pair) (steps : List Step) → HasOneOpen book → length book ≤ length s.puts
     → length book ≤ length s.takes → IsUnanswered book pair → AreSteps reading book s (Pairs pair ∷ steps) → AreSteps reading book s steps
+
+-- A pair that may stand next serves for itself.
+abbrev pub PairsServeForThemselves : Type 0
+PairsServeForThemselves = (reading : Reading) (book : List Page) (s : Paired) (pair : Pair) → MayPair reading book s pair → ServesFor reading book s pair pair
+
+-- So a list of standings is closed that has all successors of each.
+abbrev pub SuccessorsSuffice : Type 0
+SuccessorsSuffice = (reading : Reading) (book : List Page) (standings : List Paired)
+    → ((s : Paired) → IsOneOf standings s → HasSuccessors reading book standings s) → AreClosed reading book standings

@@ -1,6 +1,6 @@
 //! Laws of standings that lead to one another alone. Each is the contract of a function with nothing in it.
 
-ghost use Rattle.queue_refutation.specs.RefutationLaws.{ClosedStandingsAreDead, ClosedStartsHaveNoOrder, UnansweredPairsAreIdle};
+ghost use Rattle.queue_refutation.specs.RefutationLaws.{ClosedStandingsAreDead, ClosedStartsHaveNoOrder, PairsServeForThemselves, SuccessorsSuffice, UnansweredPairsAreIdle};
 
 /// No pairs go on from any of a closed list of standings: there would be ever fewer steps, or as many after ever more
 /// takes have found nothing.
@@ -17,4 +17,11 @@ pub fn closed_starts_have_no_order()
 /// Where steps go on with a pair of which neither call is answered, they go on without it.
 pub fn unanswered_pairs_are_idle()
     ensures { UnansweredPairsAreIdle }
+{}
+
+/// A pair that may stand next serves for itself. So a list of standings is closed where none of them is finished and it
+/// has what stands after each step that may stand next.
+pub fn successors_suffice()
+    ensures serves { PairsServeForThemselves }
+    ensures closed { SuccessorsSuffice }
 {}
