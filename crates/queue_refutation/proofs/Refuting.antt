@@ -1,4 +1,5 @@
--- No steps go on from standings that lead to one another alone: there would be ever fewer, or as many after ever more takes found nothing.
+-- No steps go on from standings that lead to one another alone: there would be ever fewer, or as
+-- many after ever more takes found nothing.
 use Rattle.std.proofs.Common.{◌≡◌, ℕ, zero, suc, ◌+◌, ◌<◌, ◌≤◌, List, [], ◌∷◌, length, Some, max, ap, inl, inr, slice_get, arith}
 use Rattle.std.proofs.lemmas.List.{length-replicate}
 use Rattle.std.proofs.lemmas.Option.{same_Some, none-some}
@@ -16,17 +17,22 @@ abbrev latest : List Paired → ℕ
 latest [] = 0
 latest (s ∷ standings) = max s.found (latest standings)
 
-latest-bounds : (standings : List Paired) (k : ℕ) (s : Paired) → slice_get standings k ≡ Some s → s.found ≤ latest standings
+latest-bounds : (standings : List Paired) (k : ℕ) (s : Paired) → slice_get standings k ≡ Some s
+    → s.found ≤ latest standings
 latest-bounds [] k s at = absurd (none-some s at)
 latest-bounds (t ∷ standings) zero s at =
     let same : t.found ≡ s.found = ap (λ (u : Paired). u.found) (same_Some t s at) in
     omega (arith, same)
 latest-bounds (t ∷ standings) (suc k) s at = omega (arith, latest-bounds standings k s at)
 
--- none of as many steps, where there are none of fewer, by how many moments takes may still find nothing at
-dead-within : (reading : Reading) (book : List Page) (standings : List Paired) (few more : ℕ) → IsValid book → HasOneOpen book → AreClosed reading book standings
-    → ((s : Paired) (steps : List Step) → IsOneOf standings s → AreSteps reading book s steps → length steps < few → ⊥)
-    → (s : Paired) (steps : List Step) → IsOneOf standings s → AreSteps reading book s steps → length steps ≤ few → latest standings ≤ s.found + more → ⊥
+-- none of as many steps, where there are none of fewer, by how many moments takes may still find
+-- nothing at
+dead-within : (reading : Reading) (book : List Page) (standings : List Paired) (few more : ℕ)
+    → IsValid book → HasOneOpen book → AreClosed reading book standings
+    → ((s : Paired) (steps : List Step) → IsOneOf standings s → AreSteps reading book s steps
+    → length steps < few → ⊥)
+    → (s : Paired) (steps : List Step) → IsOneOf standings s → AreSteps reading book s steps
+    → length steps ≤ few → latest standings ≤ s.found + more → ⊥
 dead-within reading book standings few zero valid one closed fewer s steps is are long found =
     let on = leads-on reading book standings s steps valid one is (closed s is) are in
     elim on.4 [
@@ -38,22 +44,30 @@ dead-within reading book standings few (suc more) valid one closed fewer s steps
     elim on.4 [
       | inl less ↦ fewer on.0 on.1 on.2 on.3 (omega (arith, less, long))
       | inr later ↦
-          dead-within reading book standings few more valid one closed fewer on.0 on.1 on.2 on.3 (omega (arith, later.0, long)) (omega (arith, later.1, found))
+          dead-within reading book standings few more valid one closed fewer on.0 on.1 on.2 on.3
+          (omega (arith, later.0, long)) (omega (arith, later.1, found))
     ]
 
-dead-below : (reading : Reading) (book : List Page) (standings : List Paired) (few : ℕ) → IsValid book → HasOneOpen book → AreClosed reading book standings
-    → (s : Paired) (steps : List Step) → IsOneOf standings s → AreSteps reading book s steps → length steps < few → ⊥
+dead-below : (reading : Reading) (book : List Page) (standings : List Paired) (few : ℕ)
+    → IsValid book → HasOneOpen book → AreClosed reading book standings
+    → (s : Paired) (steps : List Step) → IsOneOf standings s → AreSteps reading book s steps
+    → length steps < few → ⊥
 dead-below reading book standings zero valid one closed s steps is are long = omega (arith, long)
 dead-below reading book standings (suc few) valid one closed s steps is are long =
-    dead-within reading book standings few (latest standings) valid one closed (dead-below reading book standings few valid one closed) s steps is are
+    dead-within reading book standings few (latest standings) valid one closed
+    (dead-below reading book standings few valid one closed) s steps is are
     (omega (arith, long)) (omega arith)
 
 pub closed_standings_are_dead : ClosedStandingsAreDead
 closed_standings_are_dead reading book standings s steps valid one closed is are =
-    dead-below reading book standings (length steps + 1) valid one closed s steps is are (omega arith)
+    dead-below reading book standings (length steps + 1) valid one closed s steps is are
+    (omega arith)
 
 pub closed_starts_have_no_order : ClosedStartsHaveNoOrder
-closed_starts_have_no_order reading init next book callers standings queue empty valid one closed is has =
-    let fits : length book ≤ callers = omega (arith, (closed (none_paired callers) is).wide_puts, length-replicate {A = ℕ} callers 0) in
+closed_starts_have_no_order reading init next book callers standings queue empty valid one closed is
+    has =
+    let fits : length book ≤ callers = omega
+    (arith, (closed (none_paired callers) is).wide_puts, length-replicate {A = ℕ} callers 0) in
     let on = steps_from_order reading init next book callers queue empty valid one fits has in
-    closed_standings_are_dead reading book standings (none_paired callers) on.0 valid one closed is on.1
+    closed_standings_are_dead reading book standings (none_paired callers) on.0 valid one closed is
+    on.1

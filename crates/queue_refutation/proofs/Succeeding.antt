@@ -30,7 +30,8 @@ pairs_serve_for_themselves reading book s pair may = record {
   take_due = due-itself book pair.take;
 }
 
-finds-lead : (reading : Reading) (book : List Page) (standings : List Paired) (s : Paired) (m : ℕ) → MayFind reading book s m → IsOneOf standings (after s (FindNothing m))
+finds-lead : (reading : Reading) (book : List Page) (standings : List Paired) (s : Paired) (m : ℕ)
+    → MayFind reading book s m → IsOneOf standings (after s (FindNothing m))
     → FindsLead reading book standings s m
 finds-lead reading book standings s m may there =
     elim (cases_lt s.found m) [
@@ -47,7 +48,13 @@ successors_suffice reading book standings has s is =
       leads = inl (record {
         in_turn = h.in_turn;
         unfinished = h.unfinished;
-        pairs = λ pair may. inl (pair, pairs_serve_for_themselves reading book s pair may, inl (h.successors (Pairs pair) may));
-        finds = λ m may. finds-lead reading book standings s m may (h.successors (FindNothing m) may);
+        pairs = λ pair may.
+            inl (
+              pair,
+              pairs_serve_for_themselves reading book s pair may,
+              inl (h.successors (Pairs pair) may),
+            );
+        finds = λ m may. finds-lead reading book standings s m may
+            (h.successors (FindNothing m) may);
       });
     }

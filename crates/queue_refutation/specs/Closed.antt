@@ -16,25 +16,32 @@ IsOneOf standings s = (k : ℕ) × (slice_get standings k ≡ Some s)
 
 -- Some answered put that doesn't stand is due before a moment.
 abbrev pub HasPutBefore : Reading → List Page → Paired → ℕ → Type 0
-HasPutBefore reading book s m = (p : Call) × (r : Record) × IsPut reading book p × (record_of book p ≡ Some r) × (slice_index s.puts p.caller ≤ p.number) × (moment_of r < m)
+HasPutBefore reading book s m = (p : Call) × (r : Record) × IsPut reading book p
+    × (record_of book p ≡ Some r) × (slice_index s.puts p.caller ≤ p.number) × (moment_of r < m)
 
 -- Some take that shows a value and doesn't stand is due before a moment.
 abbrev pub HasTakeBefore : Reading → List Page → Paired → ℕ → Type 0
-HasTakeBefore reading book s m = (t : Call) × (v : ℕ) × (r : Record) × (deal_of reading book t ≡ deals.Took v) × (record_of book t ≡ Some r)
+HasTakeBefore reading book s m = (t : Call) × (v : ℕ) × (r : Record)
+    × (deal_of reading book t ≡ deals.Took v) × (record_of book t ≡ Some r)
     × (slice_index s.takes t.caller ≤ t.number) × (moment_of r < m)
 
 -- Some take that finds nothing and doesn't stand is due before a moment.
 abbrev pub HasFindBefore : Reading → List Page → Paired → ℕ → Type 0
-HasFindBefore reading book s m = (e : Call) × (r : Record) × (deal_of reading book e ≡ deals.FoundNothing) × (record_of book e ≡ Some r)
+HasFindBefore reading book s m = (e : Call) × (r : Record)
+    × (deal_of reading book e ≡ deals.FoundNothing) × (record_of book e ≡ Some r)
     × (IsHeldBy book e s.found → ⊥) × (moment_of r < m)
 
--- Some put that doesn't stand is due before the first of two moments, or some take before the second.
+-- Some put that doesn't stand is due before the first of two moments, or some take before the
+-- second.
 abbrev pub IsOverdue : Reading → List Page → Paired → ℕ → ℕ → Type 0
-IsOverdue reading book s put_moment take_moment = HasPutBefore reading book s put_moment ⊎ HasTakeBefore reading book s take_moment ⊎ HasFindBefore reading book s take_moment
+IsOverdue reading book s put_moment take_moment = HasPutBefore reading book s put_moment
+    ⊎ HasTakeBefore reading book s take_moment ⊎ HasFindBefore reading book s take_moment
 
--- One pair serves for another where they stand next: its put puts in the same value, its take takes out the same or is unanswered too,
--- each of them is next and takes effect no later, and each is due no later.
-pub record ServesFor (reading : Reading) (book : List Page) (s : Paired) (other pair : Pair) : Type 0 where
+-- One pair serves for another where they stand next: its put puts in the same value, its take
+-- takes out the same or is unanswered too, each of them is next and takes effect no later, and
+-- each is due no later.
+pub record ServesFor (reading : Reading) (book : List Page) (s : Paired) (other pair : Pair)
+    : Type 0 where
   pub puts : (v : ℕ) → IsPutOf reading book v pair.put → IsPutOf reading book v other.put
   pub takes : deal_of reading book other.take ≡ deal_of reading book pair.take
   pub put : IsNext (IsPut reading book) s.puts other.put
@@ -54,50 +61,62 @@ pub record IsUnanswered (book : List Page) (pair : Pair) : Type 0 where
   pub put : answers_of book pair.put.caller ≤ pair.put.number
   pub take : answers_of book pair.take.caller ≤ pair.take.number
 
--- A pair that may stand next leads to one of these standings, or to none: one that serves for it does so, or some call is overdue with that one;
--- or neither of its calls is answered.
+-- A pair that may stand next leads to one of these standings, or to none: one that serves for it
+-- does so, or some call is overdue with that one; or neither of its calls is answered.
 abbrev pub PairLeads : Reading → List Page → List Paired → Paired → Pair → Type 0
 PairLeads reading book standings s pair =
-    ((other : Pair) × ServesFor reading book s other pair × (IsOneOf standings (after s (Pairs other)) ⊎ IsOverdue reading book s other.put_moment other.take_moment))
+    ((other : Pair) × ServesFor reading book s other pair
+    × (IsOneOf standings (after s (Pairs other))
+    ⊎ IsOverdue reading book s other.put_moment other.take_moment))
     ⊎ IsUnanswered book pair
 
 -- all takes that find nothing and that some view holds at a moment stand already
 abbrev pub NoneFindAt : Reading → List Page → Paired → ℕ → Type 0
-NoneFindAt reading book s m = (e : Call) → deal_of reading book e ≡ deals.FoundNothing → IsHeldBy book e m → IsHeldBy book e s.found
+NoneFindAt reading book s m = (e : Call) → deal_of reading book e ≡ deals.FoundNothing
+    → IsHeldBy book e m → IsHeldBy book e s.found
 
--- Takes that find nothing at a moment lead to one of these standings, or to none: all of them stand already; or some moment that is no later,
--- and later than that of those that stand, leads to one, or some call is overdue then.
+-- Takes that find nothing at a moment lead to one of these standings, or to none: all of them
+-- stand already; or some moment that is no later, and later than that of those that stand, leads
+-- to one, or some call is overdue then.
 abbrev pub FindsLead : Reading → List Page → List Paired → Paired → ℕ → Type 0
 FindsLead reading book standings s m =
     NoneFindAt reading book s m
-    ⊎ ((g : ℕ) × (s.found < g) × (g ≤ m) × (IsOneOf standings (after s (FindNothing g)) ⊎ IsOverdue reading book s g g))
+    ⊎ ((g : ℕ) × (s.found < g) × (g ≤ m)
+    × (IsOneOf standings (after s (FindNothing g)) ⊎ IsOverdue reading book s g g))
 
--- All that may stand next where these calls stand leads to one of these standings, and something has to stand yet.
-pub record AllLead (reading : Reading) (book : List Page) (standings : List Paired) (s : Paired) : Type 0 where
+-- All that may stand next where these calls stand leads to one of these standings, and something
+-- has to stand yet.
+pub record AllLead (reading : Reading) (book : List Page) (standings : List Paired)
+    (s : Paired) : Type 0 where
   pub in_turn : s.put_moment ≤ s.take_moment
   pub unfinished : IsWhole reading book s → ⊥
   pub pairs : (pair : Pair) → MayPair reading book s pair → PairLeads reading book standings s pair
   pub finds : (m : ℕ) → MayFind reading book s m → FindsLead reading book standings s m
 
--- Takes that find nothing may stand at once, which delays nothing: more of them stand at the moment of the last take, no put is due before it,
--- and they lead to one of these standings.
-pub record FindsStandAtOnce (reading : Reading) (book : List Page) (standings : List Paired) (s : Paired) : Type 0 where
+-- Takes that find nothing may stand at once, which delays nothing: more of them stand at the
+-- moment of the last take, no put is due before it, and they lead to one of these standings.
+pub record FindsStandAtOnce (reading : Reading) (book : List Page) (standings : List Paired)
+    (s : Paired) : Type 0 where
   pub more : s.found < s.take_moment
   pub in_time : HasPutBefore reading book s s.take_moment → ⊥
   pub leads : IsOneOf standings (after s (FindNothing s.take_moment))
 
 -- The standing leads to others of these alone, and it has a number for each caller.
-pub record IsClosedAt (reading : Reading) (book : List Page) (standings : List Paired) (s : Paired) : Type 0 where
+pub record IsClosedAt (reading : Reading) (book : List Page) (standings : List Paired)
+    (s : Paired) : Type 0 where
   pub wide_puts : length book ≤ length s.puts
   pub wide_takes : length book ≤ length s.takes
   pub leads : AllLead reading book standings s ⊎ FindsStandAtOnce reading book standings s
 
 -- These standings are closed: each of them leads to others of them alone.
 abbrev pub AreClosed : Reading → List Page → List Paired → Type 0
-AreClosed reading book standings = (s : Paired) → IsOneOf standings s → IsClosedAt reading book standings s
+AreClosed reading book standings = (s : Paired) → IsOneOf standings s
+    → IsClosedAt reading book standings s
 
--- The standing isn't finished, and these have what stands after each step that may stand next at it.
-pub record HasSuccessors (reading : Reading) (book : List Page) (standings : List Paired) (s : Paired) : Type 0 where
+-- The standing isn't finished, and these have what stands after each step that may stand next at
+-- it.
+pub record HasSuccessors (reading : Reading) (book : List Page) (standings : List Paired)
+    (s : Paired) : Type 0 where
   pub wide_puts : length book ≤ length s.puts
   pub wide_takes : length book ≤ length s.takes
   pub in_turn : s.put_moment ≤ s.take_moment

@@ -9,25 +9,33 @@ use Rattle.queue_refutation.specs.Closed.{IsOneOf, ServesFor, IsUnanswered, AreC
 
 -- No steps go on from any of a closed list of standings, in a valid book with one open.
 abbrev pub ClosedStandingsAreDead : Type 0
-ClosedStandingsAreDead = (reading : Reading) (book : List Page) (standings : List Paired) (s : Paired) (steps : List Step) → IsValid book → HasOneOpen book
+ClosedStandingsAreDead = (reading : Reading) (book : List Page) (standings : List Paired)
+    (s : Paired) (steps : List Step) → IsValid book → HasOneOpen book
     → AreClosed reading book standings → IsOneOf standings s → AreSteps reading book s steps → ⊥
 
--- So a queue's valid book with one open has no legal order where one of them is the start, at which nothing stands.
+-- So a queue's valid book with one open has no legal order where one of them is the start, at
+-- which nothing stands.
 abbrev pub ClosedStartsHaveNoOrder : Type 0
-ClosedStartsHaveNoOrder = (reading : Reading) (init : List ℕ) (next : List ℕ → ℕ → List ℕ × ℕ) (book : List Page) (callers : ℕ) (standings : List Paired)
+ClosedStartsHaveNoOrder = (reading : Reading) (init : List ℕ) (next : List ℕ → ℕ → List ℕ × ℕ)
+    (book : List Page) (callers : ℕ) (standings : List Paired)
     → IsQueue reading next → reading.values init ≡ [] → IsValid book → HasOneOpen book
-    → AreClosed reading book standings → IsOneOf standings (none_paired callers) → HasLegalOrder init next book → ⊥
+    → AreClosed reading book standings → IsOneOf standings (none_paired callers)
+    → HasLegalOrder init next book → ⊥
 
 -- Where steps go on with a pair of which neither call is answered, they go on without it.
 abbrev pub UnansweredPairsAreIdle : Type 0
-UnansweredPairsAreIdle = (reading : Reading) (book : List Page) (s : Paired) (pair : Pair) (steps : List Step) → HasOneOpen book → length book ≤ length s.puts
-    → length book ≤ length s.takes → IsUnanswered book pair → AreSteps reading book s (Pairs pair ∷ steps) → AreSteps reading book s steps
+UnansweredPairsAreIdle = (reading : Reading) (book : List Page) (s : Paired) (pair : Pair)
+    (steps : List Step) → HasOneOpen book → length book ≤ length s.puts
+    → length book ≤ length s.takes → IsUnanswered book pair
+    → AreSteps reading book s (Pairs pair ∷ steps) → AreSteps reading book s steps
 
 -- A pair that may stand next serves for itself.
 abbrev pub PairsServeForThemselves : Type 0
-PairsServeForThemselves = (reading : Reading) (book : List Page) (s : Paired) (pair : Pair) → MayPair reading book s pair → ServesFor reading book s pair pair
+PairsServeForThemselves = (reading : Reading) (book : List Page) (s : Paired) (pair : Pair)
+    → MayPair reading book s pair → ServesFor reading book s pair pair
 
 -- So a list of standings is closed that has all successors of each.
 abbrev pub SuccessorsSuffice : Type 0
 SuccessorsSuffice = (reading : Reading) (book : List Page) (standings : List Paired)
-    → ((s : Paired) → IsOneOf standings s → HasSuccessors reading book standings s) → AreClosed reading book standings
+    → ((s : Paired) → IsOneOf standings s → HasSuccessors reading book standings s)
+    → AreClosed reading book standings
