@@ -1,4 +1,4 @@
--- Closed lists of standings: all that may stand next at each of them leads to another one of them.
+-- Closed lists of standings: all that may stand next at each of them leads to one of them.
 use Rattle.std.specs.Prelude.{◌≡◌, ℕ, ◌<◌, ◌≤◌, ◌⊎◌, List, length, Some, slice_get, slice_index}
 use Rattle.book_base.specs.declared.call.Call.{Call}
 use Rattle.book_base.specs.declared.call.Record.{Record}
@@ -101,14 +101,14 @@ pub record FindsStandAtOnce (reading : Reading) (book : List Page) (standings : 
   pub in_time : HasPutBefore reading book s s.take_moment → ⊥
   pub leads : IsOneOf standings (after s (FindNothing s.take_moment))
 
--- The standing leads to others of these alone, and it has a number for each caller.
+-- The standing leads to these alone, and it has a number for each caller.
 pub record IsClosedAt (reading : Reading) (book : List Page) (standings : List Paired)
     (s : Paired) : Type 0 where
   pub wide_puts : length book ≤ length s.puts
   pub wide_takes : length book ≤ length s.takes
   pub leads : AllLead reading book standings s ⊎ FindsStandAtOnce reading book standings s
 
--- These standings are closed: each of them leads to others of them alone.
+-- These standings are closed: each of them leads to them alone.
 abbrev pub AreClosed : Reading → List Page → List Paired → Type 0
 AreClosed reading book standings = (s : Paired) → IsOneOf standings s
     → IsClosedAt reading book standings s

@@ -1,5 +1,4 @@
-//! Laws of standings that lead to one another alone. Each is the contract of a function with
-//! nothing in it.
+//! Laws of closed lists of standings. Each is the contract of a function with nothing in it.
 
 ghost use Rattle.queue_refutation.specs.RefutationLaws.{
   ClosedStandingsAreDead,
