@@ -1,21 +1,25 @@
 //! The book at the earliest cuts at which it has no legal order.
 ghost use Rattle.std.specs.Prelude.{◌≡◌, ◌<◌, ◌≤◌, length, slice_index, slice_set, IfOk};
-ghost use Rattle.book_base.specs.Book.{answered};
+ghost use Rattle.book_base.specs.Cut.{IsWithin};
+ghost use Rattle.book_base.specs.Book.{answers_of, answered};
 ghost use Rattle.book_base.specs.Order.{HasLegalOrder};
 ghost use Rattle.seq_objects.specs.Objects.{kind_init, kind_next};
 ghost use Rattle.smaller_book.specs.Part.{IsPart, CarriesOver};
 ghost use Rattle.smaller_book.specs.Earliest.{all_numbers, IsEarliest, IsIllegalCut, IsLeastAt, IsLeastCut};
 
 use crate::judging::is_illegal_at;
-use book_base::{Book, Cut, NoMemory};
+use book_base::{Book, Call, Cut, MAX_CALLERS, MAX_CALLS, NoMemory};
 use seq_objects::Kind;
 use std::alloc::Global;
+
+/// No view holds more calls.
+const MOST_HELD: u64 = MAX_CALLERS as u64 * MAX_CALLS;
 
 /// The book at a cut at which it has no legal order, where it has one at each earlier cut. Its calls are
 /// those that its views hold.
 ///
-/// An error is final (Castañeda and Rodríguez 2023), so that for each caller the least count is found by
-/// halving.
+/// An error is final (Castañeda and Rodríguez 2023), so that the cuts are found by halving: first those of the
+/// records whose views hold few calls, and then the least count of each caller.
 pub fn earliest(alloc: Global, kind: Kind, book: &Book) -> Result<Book, NoMemory>
     requires { ¬ HasLegalOrder (kind_init kind) (kind_next kind) book.now }
     ensures part { IfOk result (λ part. IsPart book.now (all_numbers part) part) }
@@ -25,7 +29,8 @@ pub fn earliest(alloc: Global, kind: Kind, book: &Book) -> Result<Book, NoMemory
     ensures earliest { IfOk result (IsEarliest (kind_init kind) (kind_next kind)) }
 {
     let _callers = book.callers();
-    let cut = least_cut(alloc, kind, book, all_records(book))?;
+    let begun = first_illegal(alloc, kind, book)?;
+    let cut = least_cut(alloc, kind, book, begun)?;
     let part = book.at(alloc, &cut)?;
     Ok(part)
 }
@@ -41,6 +46,64 @@ fn all_records(book: &Book) -> Cut
     cut
 }
 
+// A cut at which the book has no legal order, of the records whose views hold at most so many calls: the least
+// such number.
+fn first_illegal(alloc: Global, kind: Kind, book: &Book) -> Result<Cut, NoMemory>
+    requires { ¬ HasLegalOrder (kind_init kind) (kind_next kind) book.now }
+    ensures { IfOk result (IsIllegalCut (kind_init kind) (kind_next kind) book.now) }
+{
+    let _callers = book.callers();
+    let mut cut = all_records(book);
+    let mut low = 0;
+    let mut high = MOST_HELD;
+    while low < high {
+        let middle = low + (high - low) / 2;
+        let tried = records_up_to(book, middle);
+        if is_illegal_at(alloc, kind, book, &tried)? {
+            cut = tried;
+            high = middle;
+        } else {
+            low = middle + 1;
+        }
+    }
+    Ok(cut)
+}
+
+// The cut that holds each caller's first records whose views hold at most so many calls.
+fn records_up_to(book: &Book, most: u64) -> Cut
+    ensures wide { length result ≡ length book.now }
+    ensures within { IsWithin result (answered book.now) }
+{
+    let mut cut = Cut::zero(book.callers());
+    for caller in 0..book.callers() {
+        cut.set(caller, count_up_to(book, caller, most));
+    }
+    cut
+}
+
+// How many first records of a caller have views that hold at most so many calls.
+fn count_up_to(book: &Book, caller: u32, most: u64) -> u64
+    requires { caller < length book.now }
+    ensures { result ≤ answers_of book.now caller }
+{
+    for number in 0..book.answers(caller) {
+        let record = book.record(Call { caller, number });
+        if held_by(&record.view) > most {
+            return number;
+        }
+    }
+    book.answers(caller)
+}
+
+// How many calls a view holds.
+fn held_by(view: &Cut) -> u64 {
+    let mut held: u64 = 0;
+    for count in view.counts() {
+        held = held.saturating_add(*count);
+    }
+    held
+}
+
 // Takes as many records of each caller from a cut as can be, one caller after another.
 fn least_cut(alloc: Global, kind: Kind, book: &Book, cut: Cut) -> Result<Cut, NoMemory>
     requires { IsIllegalCut (kind_init kind) (kind_next kind) book.now cut }
@@ -54,7 +117,8 @@ fn least_cut(alloc: Global, kind: Kind, book: &Book, cut: Cut) -> Result<Cut, No
     Ok(least)
 }
 
-// The least count of a caller at which the book has no legal order, with the other counts of a cut.
+// The least count of a caller at which the book has no legal order, with the other counts of a cut. Few steps
+// are tried first, since most counts are little above the least ones; after a legal order halves are.
 fn least_count(
     alloc: Global,
     kind: Kind,
@@ -72,13 +136,16 @@ fn least_count(
 {
     let mut low = 0;
     let mut high = cut.get(caller);
+    let mut step: u64 = 1;
     while low < high {
-        let middle = low + (high - low) / 2;
+        let middle = high - step.clamp(1, high - low);
         let tried = with_count(cut, caller, middle);
         if is_illegal_at(alloc, kind, book, &tried)? {
             high = middle;
+            step = step.saturating_mul(2);
         } else {
             low = middle + 1;
+            step = (high - low) / 2;
         }
     }
     Ok(high)

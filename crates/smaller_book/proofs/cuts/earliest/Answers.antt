@@ -1,13 +1,6 @@
-use Rattle.std.proofs.Common.{sym, subst}
 use Rattle.seq_objects.specs.Objects.{kind_init, kind_next}
-use Rattle.smaller_book.specs.Earliest.{IsIllegalCut}
-use Rattle.smaller_book.proofs.LeastCuts.{illegal_at_all, part_from_book_at, illegal_from_least, earliest_from_least, carried_to_cut}
+use Rattle.smaller_book.proofs.LeastCuts.{part_from_book_at, illegal_from_least, earliest_from_least, carried_to_cut}
 use Rattle.smaller_book.proofs.cuts.earliest.Goals as goal
-
-pub least_cut-requires : goal.least_cut-requires
-least_cut-requires c =
-    subst (IsIllegalCut (kind_init c.args.kind) (kind_next c.args.kind) c.args.book.now) (sym c.all_records.ensures)
-    (illegal_at_all (kind_init c.args.kind) (kind_next c.args.kind) c.args.book.now c.callers-callers.ensures.valid c.requires)
 
 pub returns-clause-part : goal.returns-clause-part
 returns-clause-part c = part_from_book_at c.args.book.now c.in_ok-cut.cut c.in_ok-part.part c.callers-callers.ensures.valid c.in_ok-part.ensures
