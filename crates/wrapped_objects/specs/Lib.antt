@@ -1,4 +1,1 @@
-pub mod Passes
-pub mod Silence
-pub mod Calls
 pub mod Replies

@@ -1,10 +1,10 @@
 ghost use Rattle.seq_objects.specs.declared.kind.Kind.TheVariants.{Counter};
 ghost use Rattle.wrapped_objects.specs.Replies.{IsPossible};
 
-use crate::counting_pass::CountingPass;
 use book_base::{BAD, OpWord, SeqObject};
 use crossbeam_utils::atomic::AtomicCell;
 use drv_wrapper::{Announced, BlackBox};
+use object_kit::CountingPass;
 use seq_objects::{Kind, value_reply};
 
 /// A counter over a cell of the kit, which stands at 0 at first: an increment is one addition.
@@ -26,7 +26,7 @@ impl CellCounter {
 }
 
 impl BlackBox for CellCounter {
-    ghost use Rattle.wrapped_objects.specs.Silence.{tells_none};
+    ghost use Rattle.object_kit.specs.Silence.{tells_none};
 
     type Pass = CountingPass;
 

@@ -1,11 +1,10 @@
 ghost use Rattle.seq_objects.specs.declared.kind.Kind.TheVariants.{Register};
 ghost use Rattle.wrapped_objects.specs.Replies.{IsPossible};
 
-use crate::counting_pass::CountingPass;
-use crate::register_call::RegisterCall;
 use book_base::{BAD, OpWord};
 use crossbeam_utils::atomic::AtomicCell;
 use drv_wrapper::{Announced, BlackBox};
+use object_kit::{CountingPass, RegisterCall};
 use seq_objects::{DONE, value_reply};
 
 /// A register over a cell of the kit, which holds 0 at first: a write is one store, and a read one load.
@@ -32,7 +31,7 @@ impl CellRegister {
 }
 
 impl BlackBox for CellRegister {
-    ghost use Rattle.wrapped_objects.specs.Silence.{tells_none};
+    ghost use Rattle.object_kit.specs.Silence.{tells_none};
 
     type Pass = CountingPass;
 

@@ -4,16 +4,10 @@
 
 mod cell_counter;
 mod cell_register;
-mod counting_pass;
-mod queue_call;
-mod register_call;
 mod torn_counter;
 
 pub use cell_counter::CellCounter;
 pub use cell_register::CellRegister;
-pub use counting_pass::CountingPass;
-pub use queue_call::QueueCall;
-pub use register_call::RegisterCall;
 pub use torn_counter::TornCounter;
 
 #[cfg(test)]

@@ -2,12 +2,13 @@ ghost use Rattle.std.specs.Prelude.{ℕ};
 
 use crate::bounded_queue::BoundedQueue;
 use crate::twin_queues::TwinQueues;
-use crate::{CellCounter, CellRegister, CountingPass, TornCounter};
+use crate::{CellCounter, CellRegister, TornCounter};
 use book_base::{NoMemory, OpWord};
 use byte_streams::{MemorySink, Status};
 use client_scripts::{Script, make_script, read_script};
 use drv_wrapper::{BlackBox, ObjectPass};
 use named_runs::{replay_fresh, run_fresh};
+use object_kit::CountingPass;
 use run_writer::Form;
 use seq_objects::{Kind, value_reply};
 use std::alloc::Global;

@@ -1,0 +1,17 @@
+-- What a counting pass says of itself.
+use Rattle.std.specs.Prelude.{ℕ}
+use Rattle.object_kit.specs.declared.counting_pass.CountingPass.{CountingPass}
+
+-- The caller whose pass it is, how many calls were made with it, and how many may be made in all.
+abbrev pub caller_of : CountingPass → ℕ
+caller_of pass = pass.caller
+
+abbrev pub made_with : CountingPass → ℕ
+made_with pass = pass.made
+
+abbrev pub cap_of : CountingPass → ℕ
+cap_of pass = pass.cap
+
+-- Every pass is one of the object's own.
+abbrev pub any_pass : CountingPass → Type 0
+any_pass pass = Unit {0}

@@ -1,0 +1,26 @@
+//! What an object of one's own is written with: its calls as values, a pass that serves most
+//! objects, and a lock that no call waits for without end.
+#![tactic(auto)]
+
+mod cas_call;
+mod counter_call;
+mod counting_pass;
+mod map_call;
+mod parts;
+mod pqueue_call;
+mod queue_call;
+mod register_call;
+mod set_call;
+mod short_wait;
+mod stack_call;
+
+pub use cas_call::CasCall;
+pub use counter_call::CounterCall;
+pub use counting_pass::CountingPass;
+pub use map_call::MapCall;
+pub use pqueue_call::PqueueCall;
+pub use queue_call::QueueCall;
+pub use register_call::RegisterCall;
+pub use set_call::SetCall;
+pub use short_wait::lock_or_give_up;
+pub use stack_call::StackCall;

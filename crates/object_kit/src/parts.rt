@@ -1,0 +1,30 @@
+//! The parts of an operation word.
+
+ghost use Rattle.std.specs.Prelude.{◌≡◌, ◌%◌, ◌^◌};
+ghost use Rattle.seq_objects.specs.Words as words;
+
+use book_base::{OpWord, high, low};
+
+/// How many arguments there are: an argument is below this number.
+const ARGUMENTS: u64 = 1 << 32;
+
+/// The code of an operation word, which tells which one of its kind's operations it is.
+pub(crate) fn code_of(word: OpWord) -> u64
+    ensures { result ≡ words.code_of word }
+{
+    low(word) / ARGUMENTS
+}
+
+/// The argument of an operation word.
+pub(crate) fn argument_of(word: OpWord) -> u32
+    ensures { result ≡ words.argument_of word }
+{
+    (low(word) % ARGUMENTS) as u32
+}
+
+/// The second argument of an operation word.
+pub(crate) fn extra_of(word: OpWord) -> u32
+    ensures { result ≡ words.extra_of word % 2 ^ 32 }
+{
+    (high(word) % ARGUMENTS) as u32
+}

@@ -1,9 +1,0 @@
-use Rattle.std.proofs.Common.{◌≡◌, vec_len}
-use Rattle.bench_clients.specs.Places.{AreInOrder}
-use Rattle.run_report.specs.Passes.{IsUnusedPass}
-use Rattle.wrapped_objects.specs.Passes.{caller_of, made_with, cap_of, any_pass}
-use Rattle.wrapped_objects.proofs.counting_pass.CountingPass.for_script.Given as goal
-
-abbrev pub invariant-loop-caller : goal.invariant-loop-caller
-invariant-loop-caller l =
-    (vec_len l.passes ≡ l.caller) × AreInOrder (IsUnusedPass any_pass caller_of made_with cap_of l.script.operations) l.passes.items
