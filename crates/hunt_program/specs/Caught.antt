@@ -1,0 +1,57 @@
+-- What is written of a hunt, and of what it caught.
+use Rattle.std.specs.Prelude.{◌≡◌, ℕ, ◌++◌, List, Option, codes, false}
+use Rattle.book_base.specs.Book.{Page}
+use Rattle.book_base.specs.Order.{HasLegalOrder}
+use Rattle.seq_objects.specs.declared.kind.Kind.{Kind}
+use Rattle.seq_objects.specs.Objects.{kind_init, kind_next}
+use Rattle.text_fields.specs.declared.version.Version.TheVariants.{Second}
+use Rattle.book_text.specs.Grammar as books
+use Rattle.reports.specs.Grammar as reports
+use Rattle.smaller_book.specs.Part.{IsPart}
+use Rattle.smaller_book.specs.Keys.{IsEvidence}
+use Rattle.smaller_book.specs.Minimal.{IsMinimal}
+use Rattle.book_picture.specs.Elements.{ShowsEachCall}
+use Rattle.book_picture.specs.Titles.{SaysVerdict}
+use Rattle.byte_streams.specs.declared.status.Status.{Status}
+use Rattle.byte_streams.specs.declared.status.Status.TheVariants.{Fine, Found}
+use Rattle.hunts.specs.declared.trial.Catch.{Catch}
+use Rattle.hunts.specs.declared.runs.Settings.{Settings}
+use Rattle.hunts.specs.Hunting.{AreQuietBefore, IsCaughtLast}
+use Rattle.hunt_program.specs.declared.shown.Shown.{Shown}
+use Rattle.hunt_program.specs.declared.shown.Shown.TheVariants.{Smaller, Report, Picture}
+
+-- A book made small: a part of it without a legal order, which shows that the book has none either, and which no rule makes smaller.
+pub record IsSmallerWitness (kind : Kind) (book part : List Page) : Type 0 where
+  pub names : List (List ℕ)
+  pub is_part : IsPart book names part
+  pub evidence : IsEvidence kind book part
+  pub illegal : ¬ HasLegalOrder (kind_init kind) (kind_next kind) part
+  pub minimal : IsMinimal kind part
+
+-- The text is that of a book made small.
+abbrev pub IsSmallerText : Kind → List Page → List ℕ → Type 0
+IsSmallerText kind book text = (part : List Page) × IsSmallerWitness kind book part × books.IsWrittenText Second text kind part
+
+-- The text is a picture of a book made small, which says that it has no legal order.
+abbrev pub IsSmallerPicture : Kind → List Page → List ℕ → Type 0
+IsSmallerPicture kind book text = (part : List Page) × IsSmallerWitness kind book part × ShowsEachCall part text × SaysVerdict false text
+
+-- The text is that of a catch's report, and behind it that of its witness.
+abbrev pub IsReportShown : Kind → Catch → List ℕ → Type 0
+IsReportShown kind catch text =
+    (report : List ℕ) × (witness : List ℕ) × reports.IsWrittenText report catch.report
+    × books.IsWrittenText Second witness kind catch.witness × (text ≡ report ++ witness)
+
+-- What is shown of a catch over an object of this kind.
+abbrev pub IsShown : Kind → Catch → Shown → List ℕ → Type 0
+IsShown kind catch Smaller text = IsSmallerText kind catch.witness text
+IsShown kind catch Report text = IsReportShown kind catch text
+IsShown kind catch Picture text = IsSmallerPicture kind catch.witness text
+
+-- The output of a hunt, with its status: what is shown of the catch of the last run that was made, or, where all its runs were made and
+-- were quiet, that no run had an error.
+abbrev pub IsHuntOutput : {T : Type 0} → (T → ℕ) → (T → Option (List (ℕ × ℕ))) → Settings → Shown → Status → List ℕ → Type 0
+IsHuntOutput made told settings shown Found text =
+    (runs : ℕ) × (catch : Catch) × IsCaughtLast made told settings runs catch × IsShown settings.workload.kind catch shown text
+IsHuntOutput made told settings shown Fine text = AreQuietBefore made told settings settings.runs × (text ≡ codes "no run had an error\n")
+IsHuntOutput made told settings shown status text = ⊥

@@ -1,0 +1,76 @@
+//! The texts of what a hunt caught.
+
+ghost use Rattle.std.specs.Prelude.{◌≡◌, IfOk};
+ghost use Rattle.book_base.specs.Order.{HasLegalOrder};
+ghost use Rattle.seq_objects.specs.Objects.{kind_init, kind_next};
+ghost use Rattle.hunt_program.specs.Caught.{IsSmallerWitness, IsSmallerText};
+ghost use Rattle.hunt_program.specs.Caught.{IsSmallerPicture, IsReportShown, IsShown};
+
+use crate::shown::Shown;
+use book_base::{Book, NoMemory};
+use book_picture::draw_book;
+use book_writer::write_book;
+use frontier_check::Verdict;
+use hunts::Catch;
+use report_writer::report_text;
+use seq_objects::Kind;
+use smaller_book::shrink;
+use std::alloc::Global;
+
+/// What is shown of a catch over an object of this kind.
+pub(crate) fn caught_text(
+    alloc: Global,
+    kind: Kind,
+    shown: Shown,
+    catch: &Catch,
+) -> Result<Vec<u8>, NoMemory>
+    requires { ¬ HasLegalOrder (kind_init kind) (kind_next kind) catch.now.witness }
+    ensures { IfOk result (λ text. IsShown kind catch.now shown text.items) }
+{
+    match shown {
+        Shown::Smaller => smaller_text(alloc, kind, &catch.witness),
+        Shown::Report => report_and_witness(alloc, kind, catch),
+        Shown::Picture => picture(alloc, kind, &catch.witness),
+    }
+}
+
+/// The text of a catch's report, and behind it that of its witness.
+fn report_and_witness(alloc: Global, kind: Kind, catch: &Catch) -> Result<Vec<u8>, NoMemory>
+    ensures { IfOk result (λ text. IsReportShown kind catch.now text.items) }
+{
+    let mut text = report_text(alloc, &catch.report)?;
+    let witness = write_book(alloc, kind, &catch.witness)?;
+    text.extend_from_slice(&witness)?;
+    Ok(text)
+}
+
+/// A witness made small.
+fn smaller(alloc: Global, kind: Kind, witness: &Book) -> Result<Book, NoMemory>
+    requires { ¬ HasLegalOrder (kind_init kind) (kind_next kind) witness.now }
+    ensures { IfOk result (IsSmallerWitness kind witness.now) }
+{
+    match shrink(alloc, kind, witness)? {
+        Some(smaller) => Ok(smaller.book),
+        None => unreachable!(),
+    }
+}
+
+/// The text of a witness made small.
+fn smaller_text(alloc: Global, kind: Kind, witness: &Book) -> Result<Vec<u8>, NoMemory>
+    requires { ¬ HasLegalOrder (kind_init kind) (kind_next kind) witness.now }
+    ensures { IfOk result (λ text. IsSmallerText kind witness.now text.items) }
+{
+    let book = smaller(alloc, kind, witness)?;
+    let text = write_book(alloc, kind, &book)?;
+    Ok(text)
+}
+
+/// The picture of a witness made small.
+fn picture(alloc: Global, kind: Kind, witness: &Book) -> Result<Vec<u8>, NoMemory>
+    requires { ¬ HasLegalOrder (kind_init kind) (kind_next kind) witness.now }
+    ensures { IfOk result (λ text. IsSmallerPicture kind witness.now text.items) }
+{
+    let book = smaller(alloc, kind, witness)?;
+    let text = draw_book(alloc, kind, &book, &Verdict::Illegal)?;
+    Ok(text.into_bytes())
+}

@@ -1,0 +1,83 @@
+//! A hunt, and what is written of it.
+
+ghost use Rattle.std.specs.Prelude.{◌≡◌, IfOk};
+ghost use Rattle.random_scripts.specs.Drawn.{IsWorkload};
+ghost use Rattle.byte_streams.specs.Fault.{LeavesSink};
+ghost use Rattle.byte_streams.specs.Writing.{EndsWriting};
+ghost use Rattle.hunt_program.specs.Caught.{IsHuntOutput};
+
+use crate::caught::caught_text;
+use crate::shown::Shown;
+use book_base::NoMemory;
+use byte_streams::{Sink, Status, write_text};
+use drv_wrapper::{BlackBox, ObjectPass};
+use hunts::{Maker, Settings, Watch, hunt};
+use std::alloc::Global;
+use std::thread::Threads;
+
+/// What is written of a hunt that caught nothing.
+const NOTHING: &[u8] = b"no run had an error\n";
+
+// A text, and the status that comes with it.
+#[derive(Drop)]
+struct Output {
+    status: Status,
+    text: Vec<u8>,
+}
+
+/// Hunts over the objects that a maker makes, and writes what is to be shown of the catch, or that
+/// no run had an error.
+pub fn hunt_and_write<R: Threads + Sync, B: BlackBox + Sync + Drop, M: Maker<B>, W: Watch, K: Sink>(
+    rt: &R,
+    alloc: Global,
+    maker: &M,
+    settings: &Settings,
+    shown: Shown,
+    watch: &mut W,
+    sink: &mut K,
+) -> Status
+where
+    B::Pass: Send + Drop,
+    requires { IsWorkload settings.now.workload }
+
+    // What was written, by the status: what is shown of the catch of the last run that was made, of
+    // which the witness has no legal order, or that no run had an error.
+    ensures ends { EndsWriting (IsHuntOutput B.Pass.made B.Pass.told settings.now shown)
+        result (K.taken sink.old) (K.taken sink.new) }
+
+    // A fault has its cause in a count that rose in this call, and every other answer comes where
+    // none rose.
+    ensures faults { LeavesSink K.faults result sink.old sink.new }
+{
+    match hunted_output(rt, alloc, maker, settings, shown, watch) {
+        Ok(output) => write_text(sink, output.status, &output.text),
+        Err(NoMemory) => Status::NoMemory,
+    }
+}
+
+// Hunts: the text of what is to be shown, and its status.
+fn hunted_output<R: Threads + Sync, B: BlackBox + Sync + Drop, M: Maker<B>, W: Watch>(
+    rt: &R,
+    alloc: Global,
+    maker: &M,
+    settings: &Settings,
+    shown: Shown,
+    watch: &mut W,
+) -> Result<Output, NoMemory>
+where
+    B::Pass: Send + Drop,
+    requires { IsWorkload settings.now.workload }
+    ensures { IfOk result (λ output. IsHuntOutput B.Pass.made B.Pass.told settings.now shown
+        output.status output.text.items) }
+{
+    match hunt(rt, alloc, maker, settings, watch)?.caught {
+        Some(catch) => Ok(Output {
+            status: Status::Found,
+            text: caught_text(alloc, settings.workload.kind, shown, &catch)?,
+        }),
+        None => Ok(Output {
+            status: Status::Fine,
+            text: NOTHING.to_vec(alloc)?,
+        }),
+    }
+}

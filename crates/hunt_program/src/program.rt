@@ -1,0 +1,106 @@
+//! What the `main` of a crate with an object of one's own hands everything to.
+
+ghost use Rattle.random_scripts.specs.Drawn.{IsWorkload};
+
+use crate::hunting::hunt_and_write;
+use crate::shown::Shown;
+use byte_streams::{Status, StdSink, write_text};
+use drv_wrapper::{BlackBox, ObjectPass};
+use hunts::{Maker, Settings, Watch};
+use reports::Counts;
+use std::env;
+use std::io::ErrorKind;
+use std::process::ExitCode;
+use std::rt::Env;
+use std::thread::Threads;
+
+/// The code where the system does not hand over the command words.
+const NO_WORDS: u8 = 7;
+
+/// What is written where the words ask for nothing that there is.
+const USAGE: &[u8] = b"usage: [report | picture]\n";
+
+// How many runs were made, and the seed of the last one.
+#[derive(Drop)]
+struct Tally {
+    runs: u64,
+    seed: u64,
+}
+
+impl Watch for Tally {
+    fn ran(&mut self, seed: u64, _counts: Counts) {
+        self.runs = self.runs.saturating_add(1);
+        self.seed = seed;
+    }
+}
+
+/// Hunts over the objects that a maker makes, and writes the catch to standard output: its witness
+/// made small, or by the command word `report` the report of its run with the whole witness behind
+/// it, or by `picture` the picture of the small one. How many runs that took goes to standard
+/// error.
+pub fn run_hunt<
+    R: Env + Print + Eprint + AllocGlobal + Threads + Sync,
+    B: BlackBox + Sync + Drop,
+    M: Maker<B>,
+>(rt: &R, maker: &M, settings: &Settings) -> ExitCode
+where
+    B::Pass: Send + Drop,
+    requires { IsWorkload settings.now.workload }
+{
+    ExitCode::from(match command_words(rt) {
+        Ok(words) => hunt_by_words(rt, maker, settings, &words).code(),
+        Err(code) => code,
+    })
+}
+
+// Hunts, and writes what the words ask for.
+fn hunt_by_words<
+    R: Print + Eprint + AllocGlobal + Threads + Sync,
+    B: BlackBox + Sync + Drop,
+    M: Maker<B>,
+>(rt: &R, maker: &M, settings: &Settings, words: &[String]) -> Status
+where
+    B::Pass: Send + Drop,
+    requires { IsWorkload settings.now.workload }
+{
+    let mut sink = StdSink::new(rt);
+    let Some(shown) = Shown::from_words(words) else {
+        return write_text(&mut sink, Status::Usage, USAGE);
+    };
+    let mut tally = Tally { runs: 0, seed: 0 };
+    let status = hunt_and_write(
+        rt,
+        rt.alloc(),
+        maker,
+        settings,
+        shown,
+        &mut tally,
+        &mut sink,
+    );
+    tell(rt, settings, &tally, status);
+    status
+}
+
+// Tells on standard error how many runs were made. Whoever reads the output alone misses nothing.
+fn tell<R: Eprint>(rt: &R, settings: &Settings, tally: &Tally, status: Status) {
+    let most = settings.runs;
+    let Tally { runs, seed } = tally;
+    let _told = match status {
+        Status::Found => eprintln!(rt;
+            "run {runs} of at most {most} has an error; its seed is {seed}"
+        ),
+        _ => eprintln!(rt; "{runs} of {most} runs were made"),
+    };
+}
+
+// The command words without the program's name, or the code that the program ends with.
+fn command_words<R: Env + AllocGlobal>(rt: &R) -> Result<Vec<String>, u8> {
+    match env::args(rt) {
+        Ok(args) => args
+            .skip(1)
+            .collect(rt.alloc())
+            .map_err(|_| Status::NoMemory.code()),
+        Err(fault) if fault.kind() == ErrorKind::OutOfMemory => Err(Status::NoMemory.code()),
+        Err(_) => Err(NO_WORDS),
+    }
+}
