@@ -1,0 +1,72 @@
+//! A counter over one cell, right or torn.
+
+use book_base::{BAD, NoMemory, OpWord};
+use client_scripts::Script;
+use crossbeam_utils::atomic::AtomicCell;
+use drv_wrapper::{Announced, BlackBox};
+use hunts::{Maker, Noise};
+use object_kit::{CounterCall, CountingPass};
+use seq_objects::value_reply;
+use std::alloc::Global;
+
+/// A counter: an increment is one addition, or, of a torn one, a load and then a store of one more.
+#[derive(Drop)]
+pub(crate) struct Counter {
+    torn: bool,
+    count: AtomicCell<u32>,
+    noise: Noise,
+}
+
+impl Counter {
+    fn increment(&self) -> u32 {
+        if !self.torn {
+            return self.count.fetch_add(1);
+        }
+        let found = self.count.load();
+        self.noise.pause();
+        self.count.store(found.wrapping_add(1));
+        found
+    }
+
+    fn answer(&self, op: OpWord) -> u64 {
+        match CounterCall::from_word(op) {
+            Some(CounterCall::Increment) => value_reply(u64::from(self.increment())),
+            None => BAD,
+        }
+    }
+}
+
+impl BlackBox for Counter {
+    ghost use Rattle.object_kit.specs.Silence.{tells_none};
+
+    type Pass = CountingPass;
+
+    ghost tells_each = { tells_none };
+
+    fn call(&self, pass: &mut CountingPass, announced: &Announced) -> u64 {
+        pass.count();
+        self.answer(announced.op())
+    }
+}
+
+/// Makes counters.
+#[derive(Clone, Copy)]
+pub(crate) struct Counters {
+    pub(crate) torn: bool,
+}
+
+impl Maker<Counter> for Counters {
+    fn open(
+        &self,
+        alloc: Global,
+        script: &Script,
+        noise: Noise,
+    ) -> Result<(Counter, Vec<CountingPass>), NoMemory> {
+        let counter = Counter {
+            torn: self.torn,
+            count: AtomicCell::new(0),
+            noise,
+        };
+        Ok((counter, CountingPass::for_script(alloc, script)?))
+    }
+}

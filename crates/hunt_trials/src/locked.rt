@@ -1,0 +1,67 @@
+//! The sequential object of a kind behind a lock.
+
+use crate::trial::calls_of_all;
+use book_base::{BAD, MAX_ROOM, NoMemory, OpWord, SeqObject, State};
+use client_scripts::Script;
+use drv_wrapper::{Announced, BlackBox};
+use hunts::{Maker, Noise};
+use object_kit::{CountingPass, lock_or_give_up};
+use seq_objects::Kind;
+use std::alloc::Global;
+use std::sync::Mutex;
+
+/// An object of a kind: a call is one step of the sequential object, under a lock.
+#[derive(Drop)]
+pub(crate) struct Locked {
+    kind: Kind,
+    state: Mutex<State>,
+    noise: Noise,
+}
+
+impl Locked {
+    fn answer(&self, op: OpWord) -> Option<u64> {
+        let mut state = lock_or_give_up(&self.state)?;
+        self.noise.pause();
+        if state.len() >= state.room() {
+            return None;
+        }
+        Some(self.kind.step(&mut state, op))
+    }
+}
+
+impl BlackBox for Locked {
+    ghost use Rattle.object_kit.specs.Silence.{tells_none};
+
+    type Pass = CountingPass;
+
+    ghost tells_each = { tells_none };
+
+    fn call(&self, pass: &mut CountingPass, announced: &Announced) -> u64 {
+        pass.count();
+        self.answer(announced.op()).unwrap_or(BAD)
+    }
+}
+
+/// Makes objects of a kind behind a lock.
+#[derive(Clone, Copy)]
+pub(crate) struct LockedObjects {
+    pub(crate) kind: Kind,
+}
+
+impl Maker<Locked> for LockedObjects {
+    fn open(
+        &self,
+        alloc: Global,
+        script: &Script,
+        noise: Noise,
+    ) -> Result<(Locked, Vec<CountingPass>), NoMemory> {
+        let mut state = State::with_room(alloc, calls_of_all(script).min(MAX_ROOM - 1) + 1)?;
+        self.kind.reset(&mut state);
+        let object = Locked {
+            kind: self.kind,
+            state: Mutex::new(state),
+            noise,
+        };
+        Ok((object, CountingPass::for_script(alloc, script)?))
+    }
+}

@@ -1,0 +1,82 @@
+//! A queue behind a lock, or two of them in place of one.
+
+use book_base::{BAD, NoMemory, OpWord};
+use client_scripts::Script;
+use drv_wrapper::{Announced, BlackBox};
+use hunts::{Maker, Noise};
+use object_kit::{CountingPass, QueueCall, lock_or_give_up};
+use seq_objects::{DONE, NONE, value_reply};
+use std::alloc::Global;
+use std::collections::VecDeque;
+use std::sync::Mutex;
+
+/// Two queues behind locks. Of twins, each caller keeps to one of them, so that what a caller
+/// enqueues is never found by the half of the callers that keep to the other; else all keep to the
+/// first.
+#[derive(Drop)]
+pub(crate) struct TwoQueues {
+    twins: bool,
+    even: Mutex<VecDeque<u32>>,
+    odd: Mutex<VecDeque<u32>>,
+    noise: Noise,
+}
+
+impl TwoQueues {
+    // The reply of the queue that this caller keeps to; none, where its lock or memory isn't had.
+    fn answer(&self, caller: u32, op: OpWord) -> Option<u64> {
+        let items = if self.twins && caller % 2 == 1 {
+            &self.odd
+        } else {
+            &self.even
+        };
+        let mut items = lock_or_give_up(items)?;
+        self.noise.pause();
+        match QueueCall::from_word(op)? {
+            QueueCall::Enqueue(value) => match items.push_back(value) {
+                Ok(()) => Some(DONE),
+                Err(_) => None,
+            },
+            QueueCall::Dequeue => match items.pop_front() {
+                Some(value) => Some(value_reply(u64::from(value))),
+                None => Some(NONE),
+            },
+        }
+    }
+}
+
+impl BlackBox for TwoQueues {
+    ghost use Rattle.object_kit.specs.Silence.{tells_none};
+
+    type Pass = CountingPass;
+
+    ghost tells_each = { tells_none };
+
+    fn call(&self, pass: &mut CountingPass, announced: &Announced) -> u64 {
+        pass.count();
+        self.answer(announced.caller(), announced.op())
+            .unwrap_or(BAD)
+    }
+}
+
+/// Makes one queue, or twins.
+#[derive(Clone, Copy)]
+pub(crate) struct Queues {
+    pub(crate) twins: bool,
+}
+
+impl Maker<TwoQueues> for Queues {
+    fn open(
+        &self,
+        alloc: Global,
+        script: &Script,
+        noise: Noise,
+    ) -> Result<(TwoQueues, Vec<CountingPass>), NoMemory> {
+        let queues = TwoQueues {
+            twins: self.twins,
+            even: Mutex::new(VecDeque::new(alloc)),
+            odd: Mutex::new(VecDeque::new(alloc)),
+            noise,
+        };
+        Ok((queues, CountingPass::for_script(alloc, script)?))
+    }
+}
