@@ -23,5 +23,5 @@ module _ (IsOne : Status → List ℕ → Type 0) (text : List ℕ) (taken taken
   written_ends Risen status result is written =
       elim written [
         | inl done ↦ subst (λ s. EndsWriting IsOne s taken taken') (sym done.0) (whole status is done.1)
-        | inr failed ↦ subst (λ s. EndsWriting IsOne s taken taken') (sym failed.0) (status, text, is, failed.1.0)
+        | inr failed ↦ subst (λ s. EndsWriting IsOne s taken taken') (sym failed.0) (status, text, is, failed.1)
       ]
