@@ -75,7 +75,9 @@ impl Model for Book {
 impl Book {
     /// The book of `n` callers without calls.
     pub fn new(alloc: Global, n: u32) -> Result<Book, NoMemory>
+        // There is at least one caller.
         requires some { 1 ≤ n }
+        // There are at most `MAX_CALLERS` callers.
         requires few { n ≤ MAX_CALLERS }
         ensures { IfOk result (λ book. book ≡ replicate n (record { operations = []; records = [] })) }
     {
@@ -92,6 +94,7 @@ impl Book {
     /// The book in which each caller made so many calls, none answered. Each call has the operation
     /// word 0 until [`Book::set_op`] puts in another, and the room for all answers is taken with the calls.
     pub fn with_calls(alloc: Global, calls: &Cut) -> Result<Book, NoMemory>
+        // Each caller has at most `MAX_CALLS` calls.
         requires { (i : ℕ) → slice_index calls.now i ≤ MAX_CALLS }
         ensures { IfOk result (λ book. book ≡ unanswered_book calls.now) }
     {
@@ -104,10 +107,16 @@ impl Book {
 
     /// Adds a call at the end of a caller's calls. A refusal leaves the book as it was.
     pub fn add_call(&mut self, caller: u32, op: OpWord) -> Result<(), BookFault>
+        // The book has a caller with this number.
         requires { caller < length self.old }
+        // After an answer Ok the book has this call as the last of the caller's calls, and is as
+        // before besides.
         ensures ok { OnOk result (self.new ≡ with_call self.old caller op) }
+        // The answer is `TooManyCalls` exactly where the caller has `MAX_CALLS` calls.
         ensures full { IsErrOf result BookFault.TooManyCalls ↔ (calls_of self.old caller ≡ MAX_CALLS) }
+        // A refusal is `TooManyCalls` or want of memory.
         ensures causes { IfErr result (λ e. (e ≡ BookFault.TooManyCalls) ⊎ (e ≡ BookFault.NoMemory)) }
+        // A refusal leaves the book as it was.
         ensures err { OnErr result (self.new ≡ self.old) }
     {
         let operations = &mut self.rows[caller as usize].operations;
@@ -120,6 +129,7 @@ impl Book {
 
     /// Puts in the operation word of a call. All else stays.
     pub fn set_op(&mut self, call: Call, op: OpWord)
+        // The call is one of the book's.
         requires { IsCall self.old call }
         ensures { self.new ≡ with_operation self.old call op }
     {
@@ -129,12 +139,20 @@ impl Book {
     /// Records the answer of a caller's first unanswered call. The first test that the answer fails is
     /// the refusal, and a refusal leaves the book as it was.
     pub fn add_answer(&mut self, caller: u32, reply: u64, view: Cut) -> Result<(), BookFault>
+        // The book has a caller with this number.
         requires caller { caller < length self.old }
+        // The view has a count for each caller of the book.
         requires wide { length view ≡ length self.old }
+        // After an answer Ok the caller's first unanswered call has this reply and this view, and
+        // the book is as before besides.
         ensures ok { OnOk result (self.new ≡ with_answer self.old caller (record { reply = reply; view = view })) }
+        // An answer Ok comes only where the answer keeps the book valid.
         ensures may { OnOk result (MayAnswer self.old caller view) }
+        // The first test that the answer fails is the refusal.
         ensures refused { (fault : BookFault) → IsFirstFault self.old caller view fault → result ≡ Err fault }
+        // A refusal is the first test that the answer fails, or want of memory.
         ensures causes { IfErr result (λ e. IsFirstFault self.old caller view e ⊎ (e ≡ BookFault.NoMemory)) }
+        // A refusal leaves the book as it was.
         ensures err { OnErr result (self.new ≡ self.old) }
     {
         if let Some(fault) = self.first_fault(caller, &view) {
@@ -149,10 +167,16 @@ impl Book {
     /// Records the answer of a caller's first unanswered call as [`Book::add_answer`] does, where the answer is known
     /// to pass each test: none is made.
     pub fn put_answer(&mut self, caller: u32, reply: u64, view: Cut) -> Result<(), NoMemory>
+        // The book has a caller with this number.
         requires caller { caller < length self.old }
+        // The view has a count for each caller of the book.
         requires wide { length view ≡ length self.old }
+        // The answer keeps the book valid.
         requires may { MayAnswer self.old caller view }
+        // After an answer Ok the caller's first unanswered call has this reply and this view, and
+        // the book is as before besides.
         ensures ok { OnOk result (self.new ≡ with_answer self.old caller (record { reply = reply; view = view })) }
+        // A refusal leaves the book as it was.
         ensures err { OnErr result (self.new ≡ self.old) }
     {
         self.rows[caller as usize]
@@ -285,7 +309,9 @@ impl Book {
     /// The book at a cut: the first so many records of each caller, and the calls that some of their
     /// views hold (Castañeda and Rodríguez 2023).
     pub fn at(&self, alloc: Global, cut: &Cut) -> Result<Book, NoMemory>
+        // The cut has a count for each caller of the book.
         requires wide { length cut.now ≡ length self.now }
+        // The cut holds no more records of a caller than the book has.
         requires answered { IsWithin cut.now (answered self.now) }
         ensures { IfOk result (λ book. IsBookAt self.now cut.now book) }
     {
@@ -348,8 +374,12 @@ impl Book {
 
     /// The number of callers.
     pub fn callers(&self) -> u32
+        // The answer is how many callers the book has.
         ensures count { result ≡ length self.now }
+        // The book is valid: its records fit its calls, and its views fit one another.
         ensures valid { IsValid self.now }
+        // The book has at least one caller, and no more callers and calls of each than a book may
+        // have.
         ensures small { IsSmall self.now }
     {
         self.rows.len() as u32
@@ -357,6 +387,7 @@ impl Book {
 
     /// How many calls a caller made.
     pub fn calls(&self, i: u32) -> u64
+        // The book has a caller with this number.
         requires { i < length self.now }
         ensures { result ≡ calls_of self.now i }
     {
@@ -365,6 +396,7 @@ impl Book {
 
     /// How many of a caller's calls are answered.
     pub fn answers(&self, i: u32) -> u64
+        // The book has a caller with this number.
         requires { i < length self.now }
         ensures { result ≡ answers_of self.now i }
     {
@@ -373,6 +405,7 @@ impl Book {
 
     /// The operation word of a call.
     pub fn op(&self, call: Call) -> OpWord
+        // The call is one of the book's.
         requires { IsCall self.now call }
         ensures { operation_of self.now call ≡ Some result }
     {
@@ -381,8 +414,11 @@ impl Book {
 
     /// The record of an answered call.
     pub fn record(&self, call: Call) -> Record
+        // The call is one that is answered in the book.
         requires { IsAnswered self.now call }
+        // The answer is the record that answers the call.
         ensures record { record_of self.now call ≡ Some result }
+        // The view of the record has a count for each caller of the book.
         ensures wide { length result.view ≡ length self.now }
     {
         self.rows[call.caller as usize].records[call.number as usize]
@@ -391,7 +427,9 @@ impl Book {
     /// Whether a call precedes another: it is answered and its view doesn't hold the other, or it is
     /// an earlier call of the same caller (Castañeda and Rodríguez 2023).
     pub fn precedes(&self, a: Call, b: Call) -> bool
+        // Both calls are calls of the book.
         requires first { IsCall self.now a }
+        // Both calls are calls of the book.
         requires second { IsCall self.now b }
         ensures { IsTrue result ↔ Precedes self.now a b }
     {

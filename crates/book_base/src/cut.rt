@@ -49,7 +49,9 @@ impl Copy for Cut {}
 impl Cut {
     /// The cut of `n` callers that holds no call.
     pub fn zero(n: u32) -> Cut
+        // There is at least one caller.
         requires some { 1 ≤ n }
+        // There are at most `MAX_CALLERS` callers.
         requires few { n ≤ MAX_CALLERS }
         ensures { result ≡ replicate n 0 }
     {
@@ -61,8 +63,11 @@ impl Cut {
 
     /// The number of callers.
     pub fn n(&self) -> u32
+        // The answer is how many counts the cut has.
         ensures count { result ≡ length self.now }
+        // The cut has at least one count.
         ensures some { 1 ≤ length self.now }
+        // The cut has at most `MAX_CALLERS` counts.
         ensures few { length self.now ≤ MAX_CALLERS }
     {
         self.n
@@ -70,6 +75,7 @@ impl Cut {
 
     /// The count for a caller.
     pub fn get(&self, i: u32) -> u64
+        // The cut has a count for this caller.
         requires { i < length self.now }
         ensures { result ≡ slice_index self.now i }
     {
@@ -78,6 +84,7 @@ impl Cut {
 
     /// Sets the count for a caller. All other counts stay.
     pub fn set(&mut self, i: u32, count: u64)
+        // The cut has a count for this caller.
         requires { i < length self.old }
         ensures { self.new ≡ slice_set self.old i count }
     {
@@ -93,6 +100,7 @@ impl Cut {
 
     /// Whether the cut holds the call with this number of this caller.
     pub fn holds(&self, caller: u32, number: u64) -> bool
+        // The cut has a count for this caller.
         requires { caller < length self.now }
         ensures { IsTrue result ↔ Holds self.now (record { caller = caller; number = number }) }
     {
@@ -101,6 +109,7 @@ impl Cut {
 
     /// Whether no count is greater than the other cut's.
     pub fn within(&self, other: &Cut) -> bool
+        // The cuts have equally many counts.
         requires { length self.now ≡ length other.now }
         ensures { IsTrue result ↔ IsWithin self.now other.now }
     {
@@ -114,6 +123,7 @@ impl Cut {
 
     /// Whether all counts are the other cut's.
     pub fn equals(&self, other: &Cut) -> bool
+        // The cuts have equally many counts.
         requires { length self.now ≡ length other.now }
         ensures { IsTrue result ↔ (self.now ≡ other.now) }
     {

@@ -55,7 +55,9 @@ impl Model for Foresight {
 impl Foresight {
     /// Nothing is known.
     pub fn none(alloc: Global) -> Foresight
+        // The answer has no bars and no ranks.
         ensures none { result ≡ nothing_known }
+        // The answer is right for each object and each book: it forbids nothing.
         ensures right { (init : List ℕ) (next : List ℕ → ℕ → List ℕ × ℕ) (book : List Page) → IsForesight init next book result }
     {
         Foresight {
@@ -66,8 +68,11 @@ impl Foresight {
 
     /// For each call of a book a bar that bars nothing.
     pub fn blank(alloc: Global, book: &Book) -> Result<Foresight, NoMemory>
+        // The answer has a bar that bars nothing for each call of the book, and no ranks.
         ensures blank { IfOk result (λ known. known ≡ record { bars = blank_bars book.now; ranks = [] }) }
+        // The answer has a bar for each call of the book.
         ensures bars { IfOk result (λ known. (call : Call) → IsCall book.now call → HasBar known call) }
+        // The answer is right for each object and this book: it forbids nothing.
         ensures right { IfOk result (λ known. (init : List ℕ) (next : List ℕ → ℕ → List ℕ × ℕ) → IsForesight init next book.now known) }
     {
         let mut bars = Vec::new(alloc);
@@ -82,11 +87,18 @@ impl Foresight {
 
     /// Bars a call until another one stands.
     pub fn hold_back(&mut self, call: Call, other: Call)
+        // There is a bar for the call.
         requires bar { HasBar self.old call }
+        // The other call's caller is below `MAX_CALLERS`.
         requires caller { other.caller < MAX_CALLERS }
+        // The other call's number is below `MAX_CALLS`.
         requires number { other.number < MAX_CALLS }
+        // The floor of the call's bar holds the other call too, and all else is as before.
         ensures held { self.new ≡ held_back self.old call other }
+        // There still is a bar for each call that had one.
         ensures bars { (c : Call) → HasBar self.old c → HasBar self.new c }
+        // What is known stays right where the other call must come before the call in each legal
+        // order.
         ensures right { (init : List ℕ) (next : List ℕ → ℕ → List ℕ × ℕ) (book : List Page)
             → IsForesight init next book self.old → MustComeFirst init next book other call → IsForesight init next book self.new }
     {
@@ -97,9 +109,14 @@ impl Foresight {
 
     /// Bars a call at each list that has a word of a rank below this limit.
     pub fn hold_back_below(&mut self, call: Call, limit: u64)
+        // There is a bar for the call.
         requires { HasBar self.old call }
+        // The limit of the call's bar is no lower than this one, and all else is as before.
         ensures limited { self.new ≡ limited self.old call limit }
+        // There still is a bar for each call that had one.
         ensures bars { (c : Call) → HasBar self.old c → HasBar self.new c }
+        // What is known stays right where the call is infeasible at each list that has a word of a
+        // rank below the limit.
         ensures right { (init : List ℕ) (next : List ℕ → ℕ → List ℕ × ℕ) (book : List Page) → IsForesight init next book self.old
             → ((cut list : List ℕ) → HasEarly self.old.ranks list limit → IsHopeless init next book cut list call)
             → IsForesight init next book self.new }
@@ -110,11 +127,17 @@ impl Foresight {
 
     /// Gives a word a rank, in place of the one that it has. After want of memory all is as it was.
     pub fn set_rank(&mut self, word: u64, rank: u64) -> Result<(), NoMemory>
+        // After an answer Ok the word has this rank, and all else is as before.
         ensures ranked { OnOk result (self.new ≡ ranked self.old word rank) }
+        // After an answer Ok the rank of this word is this one, and that of each other word is as
+        // before.
         ensures ranks { OnOk result ((other : ℕ) → rank_of self.new.ranks other ≡ (if other == word then Some rank else rank_of self.old.ranks other)) }
+        // After an answer Ok what is known stays right where each call whose limit is above the
+        // rank is infeasible at each list with the word.
         ensures right { OnOk result ((init : List ℕ) (next : List ℕ → ℕ → List ℕ × ℕ) (book : List Page) → IsForesight init next book self.old
             → ((cut list : List ℕ) (call : Call) → Contains list word → rank < (bar_of self.old call).limit → IsHopeless init next book cut list call)
             → IsForesight init next book self.new) }
+        // After want of memory all is as it was.
         ensures err { OnErr result (self.new ≡ self.old) }
     {
         self.ranks.insert(word, rank)?;

@@ -17,27 +17,39 @@ pub fn valid_answers_are_taken()
 /// A caller's views rise, and an answered call's view already gives its precedence over its caller's
 /// later calls.
 pub fn views_of_a_caller_rise()
+    // The view of a caller's later call contains that of an earlier one, in a valid book.
     ensures rise { ViewsRise }
+    // The view of an answered call holds none of its caller's later calls, in a valid book.
     ensures precedes { PrecedesByItsView }
 {}
 
 /// The low and the high word of an operation word are those that it is joined of.
 pub fn operation_words_are_two_words()
+    // The low and the high word of a joined operation word are those of which it was joined, and
+    // each operation word is joined of its own.
     ensures words { WordsAreJoinedAndParted }
+    // The operation word joined of 5 and 3 is 3 * 2^64 + 5.
     ensures worked { joined 5 3 ≡ 55340232221128654853 }
 {}
 
 /// What an order reaches grows place by place, and is one cut and one list.
 pub fn orders_reach_place_by_place()
+    // No places reach the cut without calls and the list with which the object begins.
     ensures start { NoPlacesReachTheStart }
+    // One more place, the next call of its caller, reaches the cut with that call and the list
+    // after its operation.
     ensures more { OneMorePlaceReachesOn }
+    // An order reaches one cut of a width, and one list.
     ensures one { OneCutIsReached }
 {}
 
 /// A hopeless call stands in no legal order where it is hopeless, and a call that precedes another one
 /// must come first.
 pub fn hopeless_and_first_calls()
+    // A call isn't infeasible where it stands in a legal order.
     ensures hopeless { WhatStandsIsNotHopeless }
+    // A call that precedes another one stands before it in each legal order where the other one
+    // stands.
     ensures first { PrecedingComesFirst }
 {}
 

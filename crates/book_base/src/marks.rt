@@ -13,6 +13,7 @@ pub struct Marks {
 impl Marks {
     /// No caller is marked.
     pub fn none() -> Marks
+        // The answer marks no caller.
         ensures none { (i : ℕ) → IsMarked result i → ⊥ }
     {
         Marks {
@@ -22,6 +23,7 @@ impl Marks {
 
     /// One caller is marked.
     pub fn only(caller: u32) -> Marks
+        // The caller is below `MAX_CALLERS`.
         requires { caller < MAX_CALLERS }
         ensures { (i : ℕ) → IsMarked result i ↔ (i ≡ caller) }
     {
@@ -30,6 +32,7 @@ impl Marks {
 
     /// One more caller is marked.
     pub fn with(self, caller: u32) -> Marks
+        // The caller is below `MAX_CALLERS`.
         requires { caller < MAX_CALLERS }
         ensures { (i : ℕ) → IsMarked result i ↔ ((i ≡ caller) ⊎ IsMarked self i) }
     {
@@ -40,6 +43,7 @@ impl Marks {
 
     /// One caller less is marked.
     pub fn without(self, caller: u32) -> Marks
+        // The caller is below `MAX_CALLERS`.
         requires { caller < MAX_CALLERS }
         ensures { (i : ℕ) → IsMarked result i ↔ ((i ≢ caller) × IsMarked self i) }
     {

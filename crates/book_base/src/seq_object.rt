@@ -38,13 +38,17 @@ pub trait SeqObject {
 
     /// Makes the list the one that the object begins with. The room stays.
     fn reset(&self, state: &mut State)
+        // The state has room for one word.
         requires { 1 ≤ state.old.room }
         ensures { state.new ≡ record state.old { words = init self.now } };
 
     /// Makes one operation: the list becomes the next one, and the answer is the reply. The room stays.
     fn step(&self, state: &mut State, op: OpWord) -> u64
+        // The state has room for one word more.
         requires { length state.old.words < state.old.room }
+        // The list becomes the one that follows it by the operation, and the room stays.
         ensures list { state.new ≡ record state.old { words = (next self.now state.old.words op).0 } }
+        // The answer is the object's reply to the operation at the list before.
         ensures reply { result ≡ (next self.now state.old.words op).1 };
 
     /// What the object knows of a book before a search: each call that it forbids next, after a cut and
@@ -84,13 +88,23 @@ pub trait SeqObject {
         forced: u32,
         marks: Marks,
     ) -> Marks
+        // The sight is one that the object prepared of this book.
         requires sight { sees self.now book.now sight.now }
+        // Each view of the book holds at most one unanswered call of each caller.
         requires open { HasOneOpen book.now }
+        // The cut has a count for each caller of the book.
         requires wide { length cut.now ≡ length book.now }
+        // Some order reaches the cut and the list, and makes a legal order with all that goes on
+        // from there.
         requires reached { IsReached (init self.now) (next self.now) book.now cut.now words.now }
+        // Of all answered calls outside the cut the forced caller's first one has the least view.
         requires forced { IsForced book.now cut.now forced }
+        // The callers are marked whose next calls may come next after the cut, and no others.
         requires marks { MarksAllNext book.now cut.now marks }
+        // Each caller that the answer marks was marked.
         ensures fewer { IsMarkedWithin result marks }
+        // All that goes on from here goes on by the next call of a caller that the answer marks as
+        // well, with no more places.
         ensures suffice { MarksSuffice book.now (next self.now) cut.now words.now result }
     {
         marks

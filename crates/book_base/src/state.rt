@@ -31,6 +31,7 @@ impl Model for State {
 impl State {
     /// An empty list with this room.
     pub fn with_room(alloc: Global, room: u64) -> Result<State, NoMemory>
+        // The room is at most `MAX_ROOM`.
         requires { room ≤ MAX_ROOM }
         ensures { IfOk result (λ state. state ≡ record { words = []; room = room }) }
     {
@@ -40,7 +41,9 @@ impl State {
 
     /// The length of the list.
     pub fn len(&self) -> u64
+        // The answer is how many words the list has.
         ensures count { result ≡ length self.now.words }
+        // The list has no more words than its room.
         ensures fits { length self.now.words ≤ self.now.room }
     {
         self.words.len() as u64
@@ -55,7 +58,9 @@ impl State {
 
     /// The greatest length of the list.
     pub fn room(&self) -> u64
+        // The answer is the room of the list.
         ensures room { result ≡ self.now.room }
+        // The room is at most `MAX_ROOM`.
         ensures few { self.now.room ≤ MAX_ROOM }
     {
         self.room
@@ -63,6 +68,7 @@ impl State {
 
     /// The word at a place.
     pub fn get(&self, i: u64) -> u64
+        // The list has a word at this place.
         requires { i < length self.now.words }
         ensures { slice_get self.now.words i ≡ Some result }
     {
@@ -78,6 +84,7 @@ impl State {
 
     /// Adds a word at the end.
     pub fn push(&mut self, word: u64)
+        // The list has fewer words than its room.
         requires { length self.old.words < self.old.room }
         ensures { self.new ≡ record self.old { words = self.old.words ++ word ∷ [] } }
     {
@@ -86,7 +93,9 @@ impl State {
 
     /// Puts a word at a place, before the words from there on.
     pub fn insert(&mut self, i: u64, word: u64)
+        // The place is one of the list's, or that after its last word.
         requires place { i ≤ length self.old.words }
+        // The list has fewer words than its room.
         requires room { length self.old.words < self.old.room }
         ensures { self.new ≡ record self.old { words = insert self.old.words i word } }
     {
@@ -95,8 +104,11 @@ impl State {
 
     /// Takes out the word at a place.
     pub fn remove(&mut self, i: u64) -> u64
+        // The list has a word at this place.
         requires { i < length self.old.words }
+        // The answer is the word that was at this place.
         ensures word { slice_get self.old.words i ≡ Some result }
+        // The list has the other words in their order, and the room stays.
         ensures rest { self.new ≡ record self.old { words = remove self.old.words i } }
     {
         self.words.remove(i as usize)
@@ -111,6 +123,7 @@ impl State {
 
     /// Takes over another state's list. The room stays.
     pub fn copy_from(&mut self, other: &State)
+        // The other list has no more words than this state's room.
         requires { length other.now.words ≤ self.old.room }
         ensures { self.new ≡ record self.old { words = other.now.words } }
     {

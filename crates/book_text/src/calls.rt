@@ -27,12 +27,18 @@ pub fn read_calls<T: OpText>(
     calls: &Cut,
     operations: &T,
 ) -> Result<Book, ReadFault>
+    // There is one number of calls for each caller.
     requires callers { length calls.now ≡ n }
+    // Each caller has at most `MAX_CALLS` calls.
     requires few { (i : ℕ) → slice_index calls.now i ≤ MAX_CALLS }
+    // A book that was read is that of the lines of calls with which the text began, and these are
+    // taken.
     ensures found { IfOk result (λ book.
         AreCallLines Second (T.operations operations.now) calls.now book lines.old lines.new) }
+    // A refusal is the first fault of the lines, or want of memory.
     ensures refused { IfErr result
         (AreNoCallLines Second (T.operations operations.now) calls.now lines.old) }
+    // A refusal leaves the lines as they were.
     ensures unchanged { IfErr result (λ _. lines.new ≡ lines.old) }
     // The lines of a book's calls are read as that book, unless memory runs out, and leave what stands
     // behind them.
@@ -163,9 +169,12 @@ fn record_entry(book: &mut Book, call: Call, entry: Entry) -> Result<(), BookFau
 
 /// What a text is refused with where the book refused the view in this line.
 pub fn refusal(line: u64, fault: BookFault) -> ReadFault
+    // The fault is one of a test of views, or want of memory.
     requires { MayRefuse fault }
+    // A fault of a test of views is answered as a refusal of this line with the name of that test.
     ensures text { IfSome (view_test fault) (λ what.
         result ≡ ReadFault.Text (record { line = line; what = what })) }
+    // Want of memory is answered as such.
     ensures memory { IfNone (view_test fault) (result ≡ ReadFault.NoMemory) }
 {
     let what = match fault {

@@ -11,7 +11,11 @@ use text_fields::{Lines, Words};
 
 /// The last line of a text, and nothing behind it.
 pub fn read_end(lines: &mut Lines) -> Result<(), TextFault>
+    // An answer Ok comes only where the next line is the last of a text, with nothing after it, and
+    // it is taken.
     ensures found { IfOk result (λ _. IsEnded lines.old lines.new) }
+    // A fault says that no line is whole, that the next one isn't the last line of a text, or that
+    // bytes follow it.
     ensures refused { IfErr result (IsNoEnd lines.old) }
     // The end of a text is read as such, and leaves what it leaves.
     ensures only { (left : Unread) → IsEnded lines.old left

@@ -51,7 +51,10 @@ pub(crate) fn read_entry<T: OpText>(
 
 /// Takes the caller and the number of this call.
 pub fn take_place(words: &mut Words, call: Call) -> Option<()>
+    // An answer Some comes only where the words began with the call's caller and number, and these
+    // are taken.
     ensures found { IfSome result (λ _. words.old ≡ place_words call ++ words.new) }
+    // An answer None comes only where the words don't begin with the call's caller and number.
     ensures none { IfNone result ((behind : List (List ℕ))
         → words.old ≢ place_words call ++ behind) }
 {
@@ -70,8 +73,10 @@ fn take_due(words: &mut Words, due: u64) -> Option<()>
 
 /// Takes the words of an operation.
 pub fn take_operation<T: OpText>(operations: &T, words: &mut Words) -> Option<OpWord>
+    // An operation that was found is that with whose words the words began, and these are taken.
     ensures found { IfSome result (λ op.
         BeginWith (T.operations operations.now) words.old op words.new) }
+    // No operation is found only where the words begin with those of none.
     ensures none { IfNone result (BeginWithNone (T.operations operations.now) words.old) }
 {
     let first = words.next()?;

@@ -49,7 +49,9 @@ fn second_view(words: &mut Words, n: u32) -> Option<Cut>
 
 /// Takes the next word, which is to be this.
 pub fn take_word(words: &mut Words, wanted: &[u8]) -> Option<()>
+    // An answer Some comes only where the next word was this, and it is taken.
     ensures found { IfSome result (λ _. words.old ≡ wanted.now ∷ words.new) }
+    // An answer None comes only where the next word isn't this.
     ensures none { IfNone result ((behind : List (List ℕ)) → words.old ≢ wanted.now ∷ behind) }
 {
     if words.next()? == wanted {

@@ -21,7 +21,9 @@ pub enum BookVerdict {
 ///
 /// A text fault names the first line that is wrong, and of its tests the first that it fails.
 pub fn verify(alloc: Global, bytes: &[u8]) -> Result<BookVerdict, ReadFault>
+    // A verdict is that on the book that the bytes are the text of.
     ensures verdict { IfOk result (IsBookVerdict bytes.now) }
+    // A refusal has the first fault of the bytes as the text of a book, or says want of memory.
     ensures refused { IfErr result (IsFaultOf (IsFirstBookFault Second bytes.now)) }
     // A book of either kind is answered so, unless memory runs out.
     ensures only { (verdict : BookVerdict) → IsBookVerdict bytes.now verdict

@@ -16,12 +16,16 @@ use std::alloc::Global;
 ///
 /// A text fault names the first line that is wrong, and of its tests the first that it fails.
 pub fn certify(alloc: Global, bytes: &[u8]) -> Result<Option<Vec<u8>>, ReadFault>
+    // A text that is answered certifies the book that the bytes are the text of, and none is
+    // answered only where that book has no legal order.
     ensures certificate { IfOk result (λ found.
         MatchOption found (IsIllegalBook bytes.now) (λ text. Certifies bytes.now text.items)) }
+    // A refusal has the first fault of the bytes as the text of a book, or says want of memory.
     ensures refused { IfErr result (IsFaultOf (IsFirstBookFault Second bytes.now)) }
     // A book is answered so, unless memory runs out.
     ensures legal { IsLegalBook bytes.now
         → MatchResult result IsSome (λ e. e ≡ ReadFault.NoMemory) }
+    // A book without a legal order has no certificate, and is answered so, want of memory aside.
     ensures illegal { IsIllegalBook bytes.now
         → MatchResult result IsNone (λ e. e ≡ ReadFault.NoMemory) }
     // Where the bytes have a first fault, the answer is that fault, unless memory runs out.

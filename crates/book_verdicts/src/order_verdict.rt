@@ -20,7 +20,10 @@ pub enum OrderVerdict {
 ///
 /// A text fault names the first line that is wrong, and of its tests the first that it fails.
 pub fn order(alloc: Global, bytes: &[u8]) -> Result<OrderVerdict, ReadFault>
+    // A verdict is that on the certificate that the bytes are the text of.
     ensures verdict { IfOk result (IsOrderVerdict bytes.now) }
+    // A refusal has the first fault of the bytes as the text of a certificate, or says want of
+    // memory.
     ensures refused { IfErr result (IsFaultOf (IsFirstCertificateFault bytes.now)) }
     // A certificate is answered so, unless memory runs out.
     ensures only { (verdict : OrderVerdict) → IsOrderVerdict bytes.now verdict

@@ -21,6 +21,7 @@ pub fn events_text(
     book: &Book,
     events: &[Event],
 ) -> Result<Vec<u8>, NoMemory>
+    // Each of the events is one of the book's.
     requires { AreEventsOf book.now events.now }
     ensures { IfOk result (λ bytes. bytes.items ≡ text_of (sketch_lines kind book.now events.now)) }
 {

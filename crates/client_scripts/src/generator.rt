@@ -22,8 +22,11 @@ pub fn make_script(
     calls: u64,
     kind: Kind,
 ) -> Result<Script, NoMemory>
+    // There is at least one caller.
     requires some { 1 ≤ callers }
+    // There are at most as many callers as texts have.
     requires few { callers ≤ TEXT_CALLERS }
+    // Each caller has at most as many calls as texts have.
     requires calls { calls ≤ TEXT_CALLS }
     ensures { IfOk result (λ script. script ≡ generated number callers calls kind) }
 {

@@ -60,7 +60,9 @@ impl Script {
 
     /// The number of callers.
     pub fn callers(&self) -> u32
+        // The answer is how many callers the script has.
         ensures count { result ≡ length self.now.operations }
+        // The script is one that texts of version 2 have.
         ensures plan { IsPlan Second self.now }
     {
         self.clients.len() as u32
@@ -68,6 +70,7 @@ impl Script {
 
     /// How many calls a caller makes.
     pub fn calls(&self, i: u32) -> u64
+        // The caller is one of the script's.
         requires { i < length self.now.operations }
         ensures { result ≡ length (operations_of self.now i) }
     {
@@ -76,6 +79,7 @@ impl Script {
 
     /// The operation words of a caller, one a call.
     pub fn operations(&self, i: u32) -> &[OpWord]
+        // The caller is one of the script's.
         requires { i < length self.now.operations }
         ensures { result.now ≡ operations_of self.now i }
     {
@@ -84,6 +88,7 @@ impl Script {
 
     /// The operation word of a call.
     pub fn op(&self, call: Call) -> OpWord
+        // The call is one of the script's.
         requires { IsCall self.now call }
         ensures { slice_get (operations_of self.now call.caller) call.number ≡ Some result }
     {
@@ -92,6 +97,7 @@ impl Script {
 
     /// After how many phases a caller stops, counted over all its calls, where it does.
     pub fn stop(&self, i: u32) -> Option<u64>
+        // The caller is one of the script's.
         requires { i < length self.now.operations }
         ensures { result ≡ slice_index_or self.now.stops i None }
     {

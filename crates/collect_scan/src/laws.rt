@@ -13,21 +13,29 @@ use world_core::{Program, Region};
 /// The cut of a scan is the last of those that its caller was given. The scan leaves the caller's calls as
 /// they are, but that the view's scan hands over the reply.
 pub fn scans_add_one_cut()
+    // A scan adds its cut to the cuts that its caller was given, as the last of them.
     ensures cut { ScansAddTheirCut }
+    // A scan leaves its caller's calls as they are, but that the view's scan hands over the reply
+    // with which it begins.
     ensures work { ScansLeaveWork }
 {}
 
 /// No count of a cut is above the cap; and a cut that embeds, is a view or is a seen cut has the caller's own
 /// count for the caller.
 pub fn cuts_are_of_counts()
+    // No count of a scan's cut is above the cap.
     ensures few { CutsAreFew }
+    // A scan's cut that serves for something has its caller's own count in the region after the
+    // scan for its caller.
     ensures own { OwnEntriesAreCounts }
 {}
 
 /// The cuts of a caller rise: a cut contains each earlier one of its region, and each count of it that the
 /// caller had looked at before the scan.
 pub fn cuts_rise()
+    // A scan's cut contains each cut of its region that the caller was given before the scan.
     ensures given { CutsHoldGiven }
+    // A scan's cut contains each count of its region that the caller had looked at before the scan.
     ensures looked { CutsHoldLooks }
 {}
 
@@ -44,8 +52,11 @@ pub fn view_scans_have_phase()
 
 /// In each phase but that of the view a caller may begin a scan that carries no reply.
 pub fn plain_scan_may_begin<P: Program>(rows: &Rows<P>, caller: &Caller<P>, region: Region)
+    // The caller is one of these rows.
     requires caller { IsCallerOf P.meaning rows.now caller.now }
+    // The caller isn't in the phase of its view.
     requires phase { (local_with caller.now).phase ≢ Viewing }
+    // A scan of the region by this caller carries no reply.
     requires plain { opening_at caller.now region ≡ Begins_scan }
     ensures { MayScan P.meaning rows.now caller.now region }
 {}

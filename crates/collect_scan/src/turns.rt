@@ -25,8 +25,11 @@ impl<P: Program> Scan<P> {
 
     /// A scan of a region by this caller of these rows, before its first turn. No step is made.
     pub fn begin(_rows: &Rows<P>, caller: &Caller<P>, region: Region) -> Scan<P>
+        // The scan is of this caller.
         ensures scanner { scanner_of result ≡ who_of caller.now }
+        // The scan is of this region.
         ensures region { region_of result ≡ region }
+        // The scan hasn't made its first turn.
         ensures unbegun { has_begun result ≡ false }
     {
         Scan {
@@ -46,14 +49,26 @@ impl<P: Program> Scan<P> {
         caller: &mut Caller<P>,
         steps: &mut Steps<L>,
     ) -> Option<Cut>
+        // The caller is one of these rows.
         requires caller { IsCallerOf P.meaning rows.now caller.old }
+        // The caller may make the scan's next turn, and the scan is its own.
         requires turn { MayTurn P.meaning rows.now caller.old self.old }
+        // The caller is still one of these rows, with the same number.
         ensures caller { IsStill P.meaning rows.now caller.old caller.new }
+        // The first turn begins the scan in the caller's stance, and each later turn leaves the
+        // stance.
         ensures stance { stance_of caller.new ≡ stance_turned (has_begun self.old) (stance_of caller.old) (region_of self.old) }
+        // The scan keeps its caller and its region, and has made its first turn.
         ensures scan { (scanner_of self.new ≡ scanner_of self.old) × (region_of self.new ≡ region_of self.old) × (has_begun self.new ≡ true) }
+        // The first turn takes one word, or ends the scan with the answered cut, from the local
+        // before.
         ensures first { has_begun self.old ≡ false → HasTurned rows.now.callers (region_of self.old) (opening_at caller.old (region_of self.old)) [] result (local_with caller.old) (local_with caller.new) }
+        // A later turn takes one word more than the scan had taken, or ends the scan with the
+        // answered cut.
         ensures later { (before : Local) (opening : Opening) (taken : List ℕ) → has_begun self.old ≡ true → local_with caller.old ≡ local_in_scan rows.now.callers before (region_of self.old) opening taken → HasTurned rows.now.callers (region_of self.old) opening taken result before (local_with caller.new) }
+        // Where no cut is answered, the caller may make the scan's next turn.
         ensures goes_on { result ≡ None → MayTurn P.meaning rows.now caller.new self.new }
+        // The counter of steps has risen by 1.
         ensures tick { steps.new ≡ steps.old + 1 }
     {
         if self.begun {

@@ -24,13 +24,24 @@ pub fn scan<P: Program, L: Ledger>(
     region: Region,
     steps: &mut Steps<L>,
 ) -> Cut
+    // The caller is one of these rows.
     requires caller { IsCallerOf P.meaning rows.now caller.old }
+    // The caller may begin a scan of this region.
     requires begins { MayScan P.meaning rows.now caller.old region }
+    // The caller is still one of these rows, with the same number.
     ensures caller { IsStill P.meaning rows.now caller.old caller.new }
+    // The caller means to begin no scan any more, and has handed over a reply that it kept for a
+    // scan of N.
     ensures stance { stance_of caller.new ≡ stance_scanned (stance_of caller.old) region }
+    // The caller's local is the one before after one scan of the region, with no other event, which
+    // ended with the answered cut.
     ensures scanned { HasScanned rows.now.callers region (opening_at caller.old region) result (local_with caller.old) (local_with caller.new) }
+    // The answered cut contains each count of the region that the caller had looked at before the
+    // scan.
     ensures looked { HoldsLooks region result (local_with caller.old) }
+    // The answered cut has one count for each caller.
     ensures wide { length result ≡ rows.now.callers }
+    // The counter of steps has risen by at most n * (n + 1) + n for n callers.
     ensures ticks { (steps.old ≤ steps.new) × (steps.new ≤ steps.old + most_words rows.now.callers) }
 {
     set_out(rows, caller, region, steps);

@@ -27,15 +27,27 @@ pub fn announce<P: Program, L: Ledger>(
     op: OpWord,
     steps: &mut Steps<L>,
 ) -> Announced<P>
+    // The caller is one of these rows.
     requires rows { IsCallerOf P.meaning rows.now caller }
+    // The caller is idle.
     requires idle { IsIdle (local_with caller) }
+    // The caller has announced fewer calls than the cap.
     requires left { (local_with caller).announced < rows.now.cap }
+    // The caller makes calls, means to begin no scan, and keeps no reply.
     requires stands { stance_of caller ≡ ready }
+    // The caller is still one of these rows, with the same number.
     ensures caller { IsStill P.meaning rows.now caller (caller_announced result) }
+    // The announced call has this operation.
     ensures operation { op_announced result ≡ op }
+    // The caller's local is the one before after a scan of N and the row of this operation, with no
+    // other event.
     ensures announced { HasAnnounced rows.now.callers op (local_with caller) (announced_local result) }
+    // The caller's calls are those before with the announced one at the end, and its published
+    // records are those before.
     ensures progress { progress_of (announced_local result) ≡ after_announcing op (progress_of (local_with caller)) }
+    // The caller's local has each look, peek and cut that it had before.
     ensures grows { Grows (local_with caller) (announced_local result) }
+    // The counter of steps has risen by at most the most words that a scan takes.
     ensures ticks { (steps.old ≤ steps.new) × (steps.new ≤ steps.old + most_words rows.now.callers) }
 {
     let cut = scan(rows, &mut caller, Region::N, steps);

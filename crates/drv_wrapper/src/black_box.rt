@@ -87,12 +87,20 @@ pub trait BlackBox {
 
     /// Makes the announced call, once, and answers the object's reply to it.
     fn call(&self, pass: &mut Self::Pass, announced: &Announced) -> u64
+        // The pass is one of this object's.
         requires own { is_own self.now pass.old }
+        // The pass is that of the announced call's caller.
         requires caller { Self.Pass.caller pass.old ≡ who_announced announced.now }
+        // The pass has made fewer calls than it may make.
         requires left { Self.Pass.made pass.old < Self.Pass.cap pass.old }
+        // The pass is still one of this object's.
         ensures own { is_own self.now pass.new }
+        // The pass has made one call more.
         ensures made { Self.Pass.made pass.new ≡ Self.Pass.made pass.old + 1 }
+        // The pass keeps its caller and how many calls it may make.
         ensures same { (Self.Pass.caller pass.new ≡ Self.Pass.caller pass.old) × (Self.Pass.cap pass.new ≡ Self.Pass.cap pass.old) }
+        // A pass that tells its calls tells one more, with this operation and the object's reply;
+        // one that tells none still tells none.
         ensures told { Self.Pass.told pass.new ≡ told_after (op_announced announced.now) result (Self.Pass.told pass.old) };
 
     /// The list that a pass of the object tells has as many pairs as calls were made with it.

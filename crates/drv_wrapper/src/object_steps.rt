@@ -20,8 +20,11 @@ impl<P: InWorld> Announced<P> {
     /// Like the three calls below it, it has the condition that the program allows the step for every word
     /// that may be found.
     pub fn object_load(&mut self, rows: &Rows<P>, place: u64) -> u64
+        // The caller is one of these rows.
         requires rows { IsCallerOf P.meaning rows.now (caller_announced self.old) }
+        // The table has an object word at this place.
         requires place { place < rows.now.objects }
+        // The program allows the caller a step that leaves whichever word it finds there.
         requires program { MayStep P.meaning rows.now (caller_announced self.old) place (λ x. x) }
         ensures { HasStepped P.meaning rows.now self.old self.new (record { place = place; old = result; new = result }) }
     {
@@ -30,8 +33,12 @@ impl<P: InWorld> Announced<P> {
 
     /// Stores a word into an object word, which is one object step.
     pub fn object_store(&mut self, rows: &Rows<P>, place: u64, word: u64)
+        // The caller is one of these rows.
         requires rows { IsCallerOf P.meaning rows.now (caller_announced self.old) }
+        // The table has an object word at this place.
         requires place { place < rows.now.objects }
+        // The program allows the caller a step that stores this word over whichever word it finds
+        // there.
         requires program { MayStep P.meaning rows.now (caller_announced self.old) place (λ _. word) }
         ensures { (x : ℕ) × (x < 2 ^ 64) × HasStepped P.meaning rows.now self.old self.new (record { place = place; old = x; new = word }) }
     {
@@ -40,8 +47,12 @@ impl<P: InWorld> Announced<P> {
 
     /// Adds to an object word, modulo 2^64, which is one object step. It answers the word that it found.
     pub fn object_add(&mut self, rows: &Rows<P>, place: u64, add: u64) -> u64
+        // The caller is one of these rows.
         requires rows { IsCallerOf P.meaning rows.now (caller_announced self.old) }
+        // The table has an object word at this place.
         requires place { place < rows.now.objects }
+        // The program allows the caller a step that adds this number, modulo 2^64, to whichever
+        // word it finds there.
         requires program { MayStep P.meaning rows.now (caller_announced self.old) place (λ x. (x + add) % 2 ^ 64) }
         ensures { HasStepped P.meaning rows.now self.old self.new (record { place = place; old = result; new = (result + add) % 2 ^ 64 }) }
     {
@@ -57,11 +68,19 @@ impl<P: InWorld> Announced<P> {
         old: u64,
         new: u64,
     ) -> Result<u64, u64>
+        // The caller is one of these rows.
         requires rows { IsCallerOf P.meaning rows.now (caller_announced self.old) }
+        // The table has an object word at this place.
         requires place { place < rows.now.objects }
+        // The program allows the caller a step that puts `new` over `old`, and leaves each other
+        // word.
         requires program { MayStep P.meaning rows.now (caller_announced self.old) place (λ x. either (x == old) new x) }
+        // The announced call has made one object step more, which found the answered word, and left
+        // `new` exactly where that was `old`.
         ensures stepped { HasStepped P.meaning rows.now self.old self.new (record { place = place; old = found_by result; new = either (found_by result == old) new (found_by result) }) }
+        // An answer Ok has the word `old`.
         ensures won { IfOk result (λ x. x ≡ old) }
+        // An answer Err has a word other than `old`.
         ensures lost { IfErr result (λ x. x ≢ old) }
     {
         rows.object_exchange(&mut self.caller, place, old, new)
@@ -70,10 +89,15 @@ impl<P: InWorld> Announced<P> {
     /// Keeps a reply that the caller found by its object steps, and that the program allows it by its local. It is
     /// allowed still as [`view`](crate::view) hands it over.
     pub fn answer(self, reply: u64) -> Answered<P>
+        // The program allows the caller this reply, by its local.
         requires allowed { MayGet P.meaning (caller_announced self) reply }
+        // The caller keeps its number and its local, and is still one of its rows.
         ensures caller { IsSame (caller_announced self) (caller_answered result) }
+        // The answered call has the operation of the announced one.
         ensures operation { op_answered result ≡ op_announced self }
+        // The answered call has this reply.
         ensures reply { reply_answered result ≡ reply }
+        // The program still allows the caller the reply.
         ensures allowed { MayGet P.meaning (caller_answered result) (reply_answered result) }
     {
         let Announced { mut caller, op } = self;

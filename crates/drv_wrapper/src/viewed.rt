@@ -40,7 +40,9 @@ impl<P> Viewed<P> {
 
     /// The live caller, with its local as it is.
     pub fn into_caller(self) -> Caller<P>
+        // The caller keeps its number and its local, and is still one of its rows.
         ensures caller { IsSame (caller_viewed self) result }
+        // The caller's stance stays.
         ensures stance { stance_of result ≡ stance_of (caller_viewed self) }
     {
         let Viewed {

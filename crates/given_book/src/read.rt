@@ -18,10 +18,12 @@ use text_fields::Version;
 /// first that it fails. A report or a verdict without a witness is refused as the text of a book that is cut
 /// in line 1.
 pub fn read_given(alloc: Global, bytes: &[u8]) -> Result<(Kind, Book), ReadFault>
+    // A kind and a book that are answered are those that the input gives.
     ensures found { IfOk result (λ (kind, book). IsGiven bytes.now kind book) }
     // The book that an input gives is what is read of it, unless memory runs out.
     ensures only { (kind : Kind) (book : List Page) → IsGiven bytes.now kind book
         → MatchResult result (λ (k, b). (k ≡ kind) × (b ≡ book)) (λ e. e ≡ ReadFault.NoMemory) }
+    // A refusal is the input's first fault, or want of memory.
     ensures refused { IfErr result (IsNotGiven bytes.now) }
     // Where an input has a first fault, the answer is that fault, unless memory runs out.
     ensures first { (fault : TextFault) → IsFirstGivenFault bytes.now fault

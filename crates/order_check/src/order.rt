@@ -23,10 +23,13 @@ pub fn check_order<S: SeqObject>(
     book: &Book,
     order: &[Place],
 ) -> Result<Result<(), OrderFault>, NoMemory>
+    // An answer Ok comes only where the list is a legal order of the book.
     ensures legal { IfOk result (λ answer. OnOk answer
         (IsLegalOrder (S.init object.now) (S.next object.now) book.now order.now)) }
+    // A list that is a legal order of the book is answered Ok, want of memory aside.
     ensures accepted { IsLegalOrder (S.init object.now) (S.next object.now) book.now order.now
         → IfOk result IsOk }
+    // A fault is that of the first test that the list fails.
     ensures fault { IfOk result (λ answer. IfErr answer
         (IsFirstFault (S.init object.now) (S.next object.now) book.now order.now)) }
 {

@@ -14,7 +14,9 @@ use std::alloc::Global;
 /// The greatest seen cut of a delivered line, of each caller the greatest count: the cut of zeros
 /// where no line is delivered.
 pub fn delivered_cut(report: &Report) -> Cut
+    // The answer is the greatest seen cut of a delivered line.
     ensures greatest { result ≡ delivered_cut_of report.now.lines }
+    // The answer is a cut of the book of the report's lines.
     ensures fits { IsInBook report.now.lines result }
 {
     let mut greatest = Cut::zero(report.callers());

@@ -17,7 +17,9 @@ use std::alloc::Global;
 impl Report {
     /// How many lines each caller has.
     pub fn sizes(&self) -> Cut
+        // The answer is how many lines each caller has.
         ensures counts { result ≡ sizes self.now.lines }
+        // The value is a report.
         ensures report { IsReport self.now }
     {
         sizes_of(self.all())
@@ -50,6 +52,7 @@ fn sizes_of(callers: &[Own]) -> Cut
 /// There are no more callers and calls than a book may have, and each line has its record, but for a
 /// caller's last, which may have none.
 pub fn book_of(alloc: Global, callers: &[Own]) -> Result<Book, NoMemory>
+    // The lines are those of a book.
     requires { AreOfABook (lines_in callers.now) }
     ensures { IfOk result (λ book. book ≡ book_of_lines (lines_in callers.now)) }
 {

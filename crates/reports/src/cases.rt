@@ -17,34 +17,56 @@ use std::alloc::Global;
 
 /// Lines with all four ends are a report, of which the second caller's error has the witness.
 pub fn a_report_has_a_witness()
+    // The worked lines are a report of a queue.
     ensures report { IsReport worked }
+    // The first error of the worked lines is that of caller 1, which saw a record of each of the
+    // first two callers.
     ensures first { IsFirstError worked_lines (call 1 0) (1 ∷ 1 ∷ 0 ∷ []) }
+    // The witness of the worked lines is the book with these two records and the calls that their
+    // views hold.
     ensures witness { IsWitness worked_lines worked_witness }
+    // One of the worked lines is an error.
     ensures any { list_any any_error worked_lines ≡ true }
+    // The worked lines have four calls, of which one is delivered and one is an error.
     ensures counts { counts_of worked_lines ≡ record { calls = 4; delivered = 1; errors = 1 } }
 {}
 
 /// Of two errors the earlier caller's is the first, whatever they saw.
 pub fn the_earlier_callers_error_is_first()
+    // Of the two errors that of caller 0 is the first.
     ensures first { IsFirstError two_errors (call 0 0) (1 ∷ 0 ∷ []) }
+    // Of the two errors that of caller 1 isn't the first.
     ensures second { ¬ IsFirstError two_errors (call 1 0) (1 ∷ 1 ∷ []) }
+    // The two lines have two calls, none delivered and two errors.
     ensures counts { counts_of two_errors ≡ record { calls = 2; delivered = 0; errors = 2 } }
 {}
 
 /// Lines behind one that isn't delivered are no report, and neither are lines that saw what they
 /// can't have seen, or that no text can have.
 pub fn lines_that_are_no_report()
+    // Lines with one after a pending line are no report.
     ensures behind_pending { ¬ IsReport (of_queue behind_pending) }
+    // Lines with one after an unchecked line are no report.
     ensures behind_unchecked { ¬ IsReport (of_queue behind_unchecked) }
+    // Lines with one after an error line are no report.
     ensures behind_error { ¬ IsReport (of_queue behind_error) }
+    // A line whose seen cut lacks its own call is in no report.
     ensures own_unseen { ¬ IsReport (of_queue own_unseen) }
+    // A line whose seen cut has a count more than there are callers is in no report.
     ensures of_two_callers { ¬ IsReport (of_queue of_two_callers) }
+    // A line whose seen cut has a record more than its caller has is in no report.
     ensures one_too_many { ¬ IsReport (of_queue one_too_many) }
+    // A line whose operation is no operation word is in no report.
     ensures no_operation { ¬ IsReport (of_queue no_operation) }
+    // A line whose reply is no reply word is in no report.
     ensures no_reply { ¬ IsReport (of_queue no_reply) }
+    // Lines with two views of which neither is within the other are no report.
     ensures crossing { ¬ IsReport (of_queue crossing) }
+    // Lines of no caller are no report.
     ensures no_callers { ¬ IsReport (of_queue []) }
+    // Lines of 17 callers are no report.
     ensures too_many_callers { ¬ IsReport (of_queue (replicate 17 [])) }
+    // Lines of a caller with 257 calls are no report.
     ensures too_many_calls { ¬ IsReport (of_queue (replicate 257 (pending 5) ∷ [])) }
 {}
 

@@ -5,8 +5,12 @@ ghost use Rattle.reports.specs.Errors.{SomeErrorIsFirst, FirstErrorsAreErrors, F
 /// There is a first error exactly where a line is an error. It is one line, and its witness is one
 /// book.
 pub fn errors_have_one_witness()
+    // Where a line is an error there is a first error.
     ensures some { SomeErrorIsFirst }
+    // Where there is a first error a line is an error.
     ensures only { FirstErrorsAreErrors }
+    // The first error is one line, which saw one cut.
     ensures one { FirstErrorIsOne }
+    // The witness of lines is one book.
     ensures witness { WitnessIsOne }
 {}

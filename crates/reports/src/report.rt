@@ -40,6 +40,7 @@ impl Model for Report {
 impl Report {
     /// The report with these lines of each caller.
     pub fn of_lines(kind: Kind, callers: Vec<Own>) -> Report
+        // The lines are those of a report.
         requires { IsReport (findings_in kind callers.items) }
         ensures { result ≡ findings_in kind callers.items }
     {
@@ -55,7 +56,9 @@ impl Report {
 
     /// The number of callers.
     pub fn callers(&self) -> u32
+        // The answer is how many callers the report has.
         ensures count { result ≡ length self.now.lines }
+        // The value is a report.
         ensures report { IsReport self.now }
     {
         self.callers.len() as u32
@@ -63,6 +66,7 @@ impl Report {
 
     /// How many lines a caller has.
     pub fn lines(&self, i: u32) -> u64
+        // The report has a caller with this number.
         requires { i < length self.now.lines }
         ensures { result ≡ length (lines_at self.now.lines i) }
     {
@@ -71,6 +75,7 @@ impl Report {
 
     /// The line of a call.
     pub fn line(&self, call: Call) -> &Line
+        // The report has a line of this call.
         requires { HasLine self.now.lines call }
         ensures { line_at self.now.lines call ≡ Some result.now }
     {

@@ -13,7 +13,9 @@ impl Report {
     /// The book at what the first error line saw, by caller and then by number. There is none
     /// exactly where no line is an error.
     pub fn witness(&self, alloc: Global) -> Result<Option<Book>, NoMemory>
+        // A book that is answered is the witness of the report's lines.
         ensures found { IfOk result (λ found. IfSome found (IsWitness self.now.lines)) }
+        // None is answered only where no line of the report is an error.
         ensures none { IfOk result (λ found. IfNone found (HasNoError self.now.lines)) }
     {
         let Some(cut) = self.first_error() else {

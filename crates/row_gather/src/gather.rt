@@ -65,18 +65,32 @@ pub fn grow_at<P: Program, L: Ledger>(
     cut: &Cut,
     steps: &mut Steps<L>,
 ) -> Result<Gathered, NoMemory>
+    // The caller is one of these rows.
     requires caller { IsCallerOf P.meaning rows.now caller.old }
+    // The cut is one of M that a scan gave the caller.
     requires given { IsGivenIn (local_with caller.old).cuts Region.M cut.now }
+    // The caller has no scan under way.
     requires unscanned { (local_with caller.old).scan ≡ None }
+    // The caller has peeked each word of the book that it gathered before, where there is one.
     requires gathered { IsGatheredBy (local_with caller.old) gathered }
+    // The caller is still one of these rows, with the same number.
     ensures caller { IsStill P.meaning rows.now caller.old caller.new }
+    // The caller's stance stays.
     ensures stance { stance_of caller.new ≡ stance_of caller.old }
+    // The caller has made peeks alone, and the counter of steps has risen by 1 for each of them.
     ensures peeks { OnlyPeeks caller.old caller.new steps.old steps.new }
+    // What was gathered is at this cut.
     ensures cut { IfOk result (λ g. g.cut ≡ cut.now) }
+    // The caller has peeked each word of the book, which is one at this cut.
     ensures gathered { IfOk result (λ g.
         IsGathered rows.now.callers (local_with caller.new) cut.now g.book) }
+    // In whichever reachable world has this local at the caller, the book is the one at the cut of
+    // all callers' calls.
     ensures exact { IfOk result (λ g. IsTheBookAt P.meaning rows.now caller.new cut.now g.book) }
+    // The counter of steps has risen once for each row word of the book that what was gathered
+    // before lacks, where that is of as many callers and its cut is within this one.
     ensures ticks { IfOk result (λ g. TicksForNew rows.now.callers gathered g steps.old steps.new) }
+    // The counter of steps has risen by at most the number of row words that the book has.
     ensures most { IfOk result (λ g. steps.new ≤ steps.old + words_of_book g.book) }
 {
     let mut book = begin(alloc, gathered, cut)?;

@@ -19,10 +19,16 @@ pub fn publish_row<P: Program>(
     view: &Cut,
     cut: &Cut,
 )
+    // The caller is one of these rows.
     requires caller { IsCallerOf P.meaning rows.now caller.old }
+    // The caller may publish the record of its last call, with this reply and this view, in a row
+    // that embeds this cut.
     requires may { MayPublish rows.now.callers reply view.now cut.now (local_with caller.old) }
+    // The caller is still one of these rows, with the same number.
     ensures caller { IsStill P.meaning rows.now caller.old caller.new }
+    // The caller's local is the one before after the publication of its record.
     ensures published { HasDone rows.now caller.old caller.new event.Publish }
+    // The caller's stance stays.
     ensures stance { stance_of caller.new ≡ stance_of caller.old }
 {
     rows.stage(caller, Region::M, 0, reply);

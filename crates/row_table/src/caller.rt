@@ -78,7 +78,10 @@ impl<P> Caller<P> {
 
     /// What its scan under way wants next, if one is under way. No step is made.
     pub fn wants(&self) -> Option<Want>
+        // The answer is what the scan under way wants next, and None where no scan is under way.
         ensures wants { result ≡ wanted_next self.now.callers (local_with self.now).scan }
+        // What is wanted names a caller of the table, and a finished cut has one count for each
+        // caller.
         ensures fits { IfSome result (λ want. FitsCallers self.now.callers want) }
     {
         match &self.notes.scan {
@@ -99,8 +102,11 @@ impl<P> Caller<P> {
 
     /// The caller, with its local as it is, which makes no more calls.
     pub fn halt(mut self) -> Caller<P>
+        // The caller no longer makes calls, and means what it meant before besides.
         ensures stance { stance_of result ≡ record (stance_of self) { live = false } }
+        // The caller keeps its number and its local.
         ensures local { (who_of result ≡ who_of self) × (local_with result ≡ local_with self) }
+        // The caller is still one of each table that it was one of.
         ensures rows { StaysWith self result }
     {
         self.stance.live = false;
@@ -110,9 +116,14 @@ impl<P> Caller<P> {
     /// The next look begins a scan of this region: it has to be at the count of caller 0 there. No step is
     /// made.
     pub fn begin_scan(&mut self, region: Region)
+        // No view's scan is under way.
         requires { event.is_view_under_way (local_with self.old).scan ≡ false }
+        // The caller means to begin a scan of this region with its next look, and its stance is as
+        // it was besides.
         ensures stance { stance_of self.new ≡ record (stance_of self.old) { begins = Some region } }
+        // The caller keeps its number and its local.
         ensures local { (who_of self.new ≡ who_of self.old) × (local_with self.new ≡ local_with self.old) }
+        // The caller is still one of each table that it was one of.
         ensures rows { StaysWith self.old self.new }
     {
         self.stance.begins = Some(region);
@@ -126,12 +137,19 @@ impl<P: Program> Caller<P> {
     ///
     /// The program allows the caller this reply, by its local.
     pub fn keep_reply(&mut self, reply: u64)
+        // The program allows the caller this reply, by its local.
         requires allowed { MayGet P.meaning self.old reply }
+        // The caller has announced a call that isn't replied yet.
         requires asking { (local_with self.old).phase ≡ local.Asking }
+        // The caller keeps no reply yet.
         requires unreplied { (stance_of self.old).reply ≡ None }
+        // The program still allows the caller this reply.
         ensures allowed { MayGet P.meaning self.new reply }
+        // The caller keeps this reply, and its stance is as it was besides.
         ensures stance { stance_of self.new ≡ record (stance_of self.old) { reply = Some reply } }
+        // The caller keeps its number and its local.
         ensures local { (who_of self.new ≡ who_of self.old) × (local_with self.new ≡ local_with self.old) }
+        // The caller is still one of each table that it was one of.
         ensures rows { StaysWith self.old self.new }
     {
         self.stance.reply = Some(reply);

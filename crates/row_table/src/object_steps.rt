@@ -21,11 +21,19 @@ impl<P: InWorld> Rows<P> {
     /// Like the three calls below it, it is for a caller that has announced its call and keeps no reply yet,
     /// and the program allows the step for every word that may be found.
     pub fn object_load(&self, caller: &mut Caller<P>, place: u64) -> u64
+        // The caller is one of these rows, has announced its call, and keeps no reply of the object
+        // yet.
         requires caller { IsCallerOf P.meaning self.now caller.old × IsAsking caller.old }
+        // The table has an object word at this place.
         requires place { place < self.now.objects }
+        // The program allows the caller a step that leaves whichever word it finds there.
         requires program { MayStep P.meaning self.now caller.old place (λ x. x) }
+        // The caller is still one of these rows, with the same number.
         ensures caller { IsStill P.meaning self.now caller.old caller.new }
+        // The caller's local is the one before after one object step, which found the answered word
+        // and left it there.
         ensures event { HasDone self.now caller.old caller.new (object_step place result result) }
+        // The caller's stance stays.
         ensures stance { stance_of caller.new ≡ stance_of caller.old }
     {
         let index = row_words(self.callers, self.cap) + place as usize;
@@ -34,11 +42,20 @@ impl<P: InWorld> Rows<P> {
 
     /// Stores a word into an object word, which is one object step.
     pub fn object_store(&self, caller: &mut Caller<P>, place: u64, word: u64)
+        // The caller is one of these rows, has announced its call, and keeps no reply of the object
+        // yet.
         requires caller { IsCallerOf P.meaning self.now caller.old × IsAsking caller.old }
+        // The table has an object word at this place.
         requires place { place < self.now.objects }
+        // The program allows the caller a step that stores this word over whichever word it finds
+        // there.
         requires program { MayStep P.meaning self.now caller.old place (λ _. word) }
+        // The caller is still one of these rows, with the same number.
         ensures caller { IsStill P.meaning self.now caller.old caller.new }
+        // The caller's local is the one before after one object step, which found some word and
+        // left the stored one.
         ensures event { (x : ℕ) × (x < 2 ^ 64) × (HasDone self.now caller.old caller.new (object_step place x word)) }
+        // The caller's stance stays.
         ensures stance { stance_of caller.new ≡ stance_of caller.old }
     {
         let index = row_words(self.callers, self.cap) + place as usize;
@@ -47,11 +64,20 @@ impl<P: InWorld> Rows<P> {
 
     /// Adds to an object word, modulo 2^64, which is one object step. It answers the word that it found.
     pub fn object_add(&self, caller: &mut Caller<P>, place: u64, add: u64) -> u64
+        // The caller is one of these rows, has announced its call, and keeps no reply of the object
+        // yet.
         requires caller { IsCallerOf P.meaning self.now caller.old × IsAsking caller.old }
+        // The table has an object word at this place.
         requires place { place < self.now.objects }
+        // The program allows the caller a step that adds this number, modulo 2^64, to whichever
+        // word it finds there.
         requires program { MayStep P.meaning self.now caller.old place (λ x. (x + add) % 2 ^ 64) }
+        // The caller is still one of these rows, with the same number.
         ensures caller { IsStill P.meaning self.now caller.old caller.new }
+        // The caller's local is the one before after one object step, which found the answered word
+        // and left the sum modulo 2^64.
         ensures event { HasDone self.now caller.old caller.new (object_step place result ((result + add) % 2 ^ 64)) }
+        // The caller's stance stays.
         ensures stance { stance_of caller.new ≡ stance_of caller.old }
     {
         let index = row_words(self.callers, self.cap) + place as usize;
@@ -67,13 +93,24 @@ impl<P: InWorld> Rows<P> {
         old: u64,
         new: u64,
     ) -> Result<u64, u64>
+        // The caller is one of these rows, has announced its call, and keeps no reply of the object
+        // yet.
         requires caller { IsCallerOf P.meaning self.now caller.old × IsAsking caller.old }
+        // The table has an object word at this place.
         requires place { place < self.now.objects }
+        // The program allows the caller a step that puts `new` over `old`, and leaves each other
+        // word.
         requires program { MayStep P.meaning self.now caller.old place (λ x. either (x == old) new x) }
+        // The caller is still one of these rows, with the same number.
         ensures caller { IsStill P.meaning self.now caller.old caller.new }
+        // The caller's local is the one before after one object step, which found the answered
+        // word, and left `new` exactly where that was `old`.
         ensures event { HasDone self.now caller.old caller.new (object_step place (found_by result) (either (found_by result == old) new (found_by result))) }
+        // The caller's stance stays.
         ensures stance { stance_of caller.new ≡ stance_of caller.old }
+        // An answer Ok has the word `old`.
         ensures won { IfOk result (λ x. x ≡ old) }
+        // An answer Err has a word other than `old`.
         ensures lost { IfErr result (λ x. x ≢ old) }
     {
         let index = row_words(self.callers, self.cap) + place as usize;

@@ -26,13 +26,23 @@ impl<P: Program> Rows<P> {
         j: u32,
         steps: &mut Steps<L>,
     ) -> u64
+        // The caller is one of these rows.
         requires caller { IsCallerOf P.meaning self.now caller.old }
+        // The table has a caller `j`.
         requires counted { j < self.now.callers }
+        // The region is the one of the scan that the caller means to begin, if it means to begin
+        // one.
         requires region { FitsRegion (stance_of caller.old).begins region }
+        // The caller's next look, at this count, may begin what the caller means it to.
         requires begins { MayBegin P.meaning self.now caller.old region j }
+        // The caller is still one of these rows, with the same number.
         ensures caller { IsStill P.meaning self.now caller.old caller.new }
+        // The caller's local is the one before after one look, which found the answered count and
+        // began what the caller meant it to.
         ensures event { HasDone self.now caller.old caller.new (event.Look region j result (opening_of caller.old)) }
+        // The caller means to begin no scan any more, and keeps no reply that the look carried.
         ensures stance { stance_of caller.new ≡ looked (stance_of caller.old) }
+        // The counter of steps has risen by 1.
         ensures tick { steps.new ≡ steps.old + 1 }
     {
         let opening = caller.stance.opening();
@@ -58,13 +68,22 @@ impl<P: Program> Rows<P> {
         place: u32,
         steps: &mut Steps<L>,
     ) -> u64
+        // The caller is one of these rows.
         requires caller { IsCallerOf P.meaning self.now caller.old }
+        // The table has a caller `j`.
         requires caller_fits { j < self.now.callers }
+        // A row has this place in this region.
         requires place_fits { place < places self.now.callers region }
+        // The caller knows, by its local, that this row of caller `j` is counted in the region.
         requires known { IsTrue (event.knows_row self.now.callers (local_with caller.old) region j row) }
+        // The caller is still one of these rows, with the same number.
         ensures caller { IsStill P.meaning self.now caller.old caller.new }
+        // The caller's local is the one before after one peek, which found the answered word at
+        // that place.
         ensures event { HasDone self.now caller.old caller.new (event.Peek region j row place result) }
+        // The caller's stance stays.
         ensures stance { stance_of caller.new ≡ stance_of caller.old }
+        // The counter of steps has risen by 1.
         ensures tick { steps.new ≡ steps.old + 1 }
     {
         let index = place_index(self.callers, self.cap, region, j, row, place);
@@ -78,10 +97,15 @@ impl<P: Program> Rows<P> {
     /// Stores a word at a place of the caller's own row under way, in a region. The row exists, and the word
     /// is what belongs there in its phase.
     pub fn stage(&self, caller: &mut Caller<P>, region: Region, place: u32, word: u64)
+        // The caller is one of these rows.
         requires caller { IsCallerOf P.meaning self.now caller.old }
+        // The caller has a row under way in the region, and this word belongs at this place of it.
         requires due { MayStage P.meaning self.now caller.old region place word }
+        // The caller is still one of these rows, with the same number.
         ensures caller { IsStill P.meaning self.now caller.old caller.new }
+        // The caller's local is the one before after it staged this word at this place.
         ensures event { HasDone self.now caller.old caller.new (event.Stage region place word) }
+        // The caller's stance stays.
         ensures stance { stance_of caller.new ≡ stance_of caller.old }
     {
         let row = caller.notes.count(region);
@@ -93,10 +117,15 @@ impl<P: Program> Rows<P> {
 
     /// Raises the caller's own count in N, which announces its call. All places of its row are staged.
     pub fn announce(&self, caller: &mut Caller<P>)
+        // The caller is one of these rows.
         requires caller { IsCallerOf P.meaning self.now caller.old }
+        // All places of the caller's row in N are staged, in a phase that stages N.
         requires staged { IsTrue (event.is_row_staged self.now.callers (local_with caller.old) Region.N) }
+        // The caller is still one of these rows, with the same number.
         ensures caller { IsStill P.meaning self.now caller.old caller.new }
+        // The caller's local is the one before after the announcement of its call.
         ensures event { HasDone self.now caller.old caller.new event.Announce }
+        // The caller's stance stays.
         ensures stance { stance_of caller.new ≡ stance_of caller.old }
     {
         let index = count_index(self.callers, Region::N, caller.seat.who);
@@ -107,10 +136,15 @@ impl<P: Program> Rows<P> {
 
     /// Raises the caller's own count in M, which publishes its record. All places of its row are staged.
     pub fn publish(&self, caller: &mut Caller<P>)
+        // The caller is one of these rows.
         requires caller { IsCallerOf P.meaning self.now caller.old }
+        // All places of the caller's row in M are staged, in a phase that stages M.
         requires staged { IsTrue (event.is_row_staged self.now.callers (local_with caller.old) Region.M) }
+        // The caller is still one of these rows, with the same number.
         ensures caller { IsStill P.meaning self.now caller.old caller.new }
+        // The caller's local is the one before after the publication of its record.
         ensures event { HasDone self.now caller.old caller.new event.Publish }
+        // The caller's stance stays.
         ensures stance { stance_of caller.new ≡ stance_of caller.old }
     {
         let index = count_index(self.callers, Region::M, caller.seat.who);

@@ -177,12 +177,20 @@ impl<P: Program> Rows<P> {
         n: u32,
         cap: u64,
     ) -> Result<(Rows<P>, Bench<P>), NoMemory>
+        // There is at least one caller.
         requires some_callers { 1 ≤ n }
+        // There are at most `MAX_CALLERS` callers.
         requires few_callers { n ≤ MAX_CALLERS }
+        // Each caller has at least one call.
         requires some_calls { 1 ≤ cap }
+        // Each caller has at most `MAX_CALLS` calls.
         requires few_calls { cap ≤ MAX_CALLS }
+        // The rows have this many callers, this cap and this program, and as many object words as
+        // the program says.
         ensures rows { IfOk result (λ r. (r.0.callers ≡ n) × (r.0.cap ≡ cap) × (r.0.program ≡ program) × (r.0.objects ≡ (P.meaning program n cap).objects)) }
+        // The bench is one of these rows, and its locals are those of one reachable world.
         ensures bench { IfOk result (λ r. IsBenchOf P.meaning r.0 r.1) }
+        // The bench has each caller with the local and the stance of the start.
         ensures fresh { IfOk result (λ r. (i : ℕ) → i < n → (on_bench r.1 i ≡ Some local.fresh) × (stance_on r.1 i ≡ Some fresh_stance)) }
     {
         let places = all_kept(alloc, n)?;
@@ -222,8 +230,11 @@ impl<P: Program> Rows<P> {
 
     /// The place for the entry of a caller of the cut that a row embeds in a region.
     pub fn embedded_place(&self, region: Region, caller: u32) -> u32
+        // The caller is one of the table's.
         requires { caller < self.now.callers }
+        // The answer is the place that the layout gives that entry in a row of the region.
         ensures place { result ≡ words.embedded_place self.now.callers region caller }
+        // A row of the region has that place.
         ensures fits { result < words.places self.now.callers region }
     {
         embedded_place(self.callers, region, caller) as u32
@@ -239,14 +250,23 @@ impl<P: Program> Rows<P> {
     /// A caller leaves the bench with its local, and as live as it was there: where the bench holds it free, it is
     /// free. One load of word 0, which is no event.
     pub fn part(&self, bench: &mut Bench<P>, caller: u32) -> Caller<P>
+        // The bench is one of these rows, and its locals are those of one reachable world.
         requires bench { IsBenchOf P.meaning self.now bench.old }
+        // The bench holds the caller.
         requires held { Holds bench.old caller }
+        // The bench is still one of these rows, and its locals are those of one reachable world.
         ensures bench { IsBenchOf P.meaning self.now bench.new }
+        // The bench no longer has the local of the caller.
         ensures gone { on_bench bench.new caller ≡ None }
+        // The bench has the local and the stance of each other caller as before.
         ensures others { (i : ℕ) → i ≢ caller → (on_bench bench.new i ≡ on_bench bench.old i) × (stance_on bench.new i ≡ stance_on bench.old i) }
+        // The answered caller is one of these rows, and has this number.
         ensures caller { IsCallerOf P.meaning self.now result × (who_of result ≡ caller) }
+        // The answered caller has the local that the bench had of it.
         ensures local { on_bench bench.old caller ≡ Some (local_with result) }
+        // The answered caller has the stance that the bench had of it.
         ensures stance { stance_on bench.old caller ≡ Some (stance_of result) }
+        // A caller that the bench held free for its next call is free for it.
         ensures free { HoldsFree bench.old caller → IsFree result }
     {
         let Some(kept) = bench.places[caller as usize].take() else {
@@ -267,11 +287,17 @@ impl<P: Program> Rows<P> {
     /// A caller comes back to the bench with its local, and as live as it is. Two loads of word 0, which are
     /// no events: the second tells that the locals on the bench are those of one reachable world.
     pub fn back(&self, bench: &mut Bench<P>, caller: Caller<P>)
+        // The bench is one of these rows, and its locals are those of one reachable world.
         requires bench { IsBenchOf P.meaning self.now bench.old }
+        // The caller is one of these rows.
         requires caller { IsCallerOf P.meaning self.now caller }
+        // The bench doesn't have the local of the caller.
         requires gone { on_bench bench.old (who_of caller) ≡ None }
+        // The bench is still one of these rows, and its locals are those of one reachable world.
         ensures bench { IsBenchOf P.meaning self.now bench.new }
+        // The bench has the caller's local and its stance.
         ensures here { (on_bench bench.new (who_of caller) ≡ Some (local_with caller)) × (stance_on bench.new (who_of caller) ≡ Some (stance_of caller)) }
+        // The bench has the local and the stance of each other caller as before.
         ensures others { (i : ℕ) → i ≢ who_of caller → (on_bench bench.new i ≡ on_bench bench.old i) × (stance_on bench.new i ≡ stance_on bench.old i) }
     {
         let Caller {
@@ -292,7 +318,9 @@ impl<P: Program> Rows<P> {
 
     /// The locals of a bench that holds all callers are those of one reachable world.
     pub fn whole_bench_is_together(&self, bench: &Bench<P>)
+        // The bench is one of these rows, and its locals are those of one reachable world.
         requires bench { IsBenchOf P.meaning self.now bench.now }
+        // The bench holds all callers.
         requires all { HoldsAll bench.now }
         ensures { AreTogether (shape_of P.meaning self.now) (locals_on bench.now) }
     {}
@@ -300,9 +328,13 @@ impl<P: Program> Rows<P> {
     /// The words of the table, which with the locals of the bench are a reachable world. The bench holds all
     /// callers. For want of memory the table is given up.
     pub fn close(self, alloc: Global, bench: Bench<P>) -> Result<World<P>, NoMemory>
+        // The bench is one of these rows, and its locals are those of one reachable world.
         requires bench { IsBenchOf P.meaning self bench }
+        // The bench holds all callers.
         requires all { HoldsAll bench }
+        // The closed table's words are, with the bench's locals, a reachable world.
         ensures world { IfOk result (λ world. IsWorldOf (shape_of P.meaning self) (words_in world) (locals_on bench)) }
+        // There are as many words as the table's layout has.
         ensures count { IfOk result (λ world. length (words_in world) ≡ words_of (shape_of P.meaning self)) }
     {
         let Rows {

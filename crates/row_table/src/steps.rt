@@ -23,7 +23,9 @@ impl<L: Ledger> Model for Steps<L> {
 impl<L: Ledger> Steps<L> {
     /// A counter at 0.
     pub fn new(blank: Blank) -> Steps<L>
+        // The blank has the name of the ledger.
         requires name { blank.name ≡ L.name }
+        // The blank has all parts of the ledger, at least one.
         requires parts { (blank.parts ≡ L.parts) × (0 < blank.parts) }
         ensures { result ≡ 0 }
     {

@@ -16,6 +16,7 @@ impl<P> World<P> {
     /// The word at an index of the table: the counts of N and of M, the rows, caller by caller, and the
     /// object words.
     pub fn word(&self, index: u64) -> u64
+        // The table has a word at this index.
         requires { index < length (words_in self.now) }
         ensures { result ≡ slice_index (words_in self.now) index }
     {

@@ -76,6 +76,8 @@ impl SeqObject for Counter {
     }
 
     fn leaves(&self, op: OpWord, reply: u64) -> bool
+        // The answer is whether the operation of a counter leaves every list at which it has this
+        // reply.
         ensures { IsTrue result ↔ Leaves (λ list op. counter_after list (counter_operation op)) op reply }
     {
         match CounterOperation::from_word(op) {
@@ -98,12 +100,22 @@ impl SeqObject for Counter {
         forced: u32,
         marks: Marks,
     ) -> Marks
+        // The cut has a count for each caller of the book.
         requires wide { length cut.now ≡ length book.now }
+        // Some order of a counter reaches the cut and the list, and makes a legal order with all
+        // that goes on from there.
         requires reached { IsReached (0 ∷ []) counter_next book.now cut.now words.now }
+        // Of all answered calls outside the cut the forced caller's first one has the least view.
         requires forced { IsForced book.now cut.now forced }
+        // The callers are marked whose next calls may come next after the cut, and no others.
         requires marks { MarksAllNext book.now cut.now marks }
+        // Each caller that the answer marks was marked.
         ensures fewer { IsMarkedWithin result marks }
+        // All that goes on from here goes on by the next call of a caller that the answer marks as
+        // well, with no more places.
         ensures suffice { MarksSuffice book.now counter_next cut.now words.now result }
+        // Those of the marked callers keep their marks whose next calls may go next at the present
+        // count.
         ensures narrowed { IsNarrowedToCount book.now cut.now (items.first_or_zero words.now) marks
             result }
     {

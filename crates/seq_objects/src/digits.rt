@@ -14,7 +14,9 @@ fn begins_as_number(word: &[u8]) -> bool
 
 /// The number that a word spells in decimal digits, without a leading zero.
 pub fn number(word: &[u8]) -> Option<u64>
+    // A number that is answered is the one whose decimal digits the word is.
     ensures found { IfSome result (λ n. decimal n ≡ word.now) }
+    // None is answered only where the word is the decimal digits of no number below 2^64.
     ensures none { IfNone result ((n : ℕ) → n < 2 ^ 64 → decimal n ≢ word.now) }
 {
     if !begins_as_number(word) {
@@ -36,7 +38,9 @@ pub fn argument(word: &[u8]) -> Option<u32>
 
 /// Appends a number in decimal digits.
 pub fn put_number(out: &mut Vec<u8>, n: u64) -> Result<(), NoMemory>
+    // After an answer Ok the vector has the digits of the number after what it held.
     ensures ok { OnOk result (out.new.items ≡ out.old.items ++ decimal n) }
+    // After want of memory the vector has what it held.
     ensures err { OnErr result (out.new.items ≡ out.old.items) }
 {
     out.extend_from_slice(Buffer::new().format(n).as_bytes())?;

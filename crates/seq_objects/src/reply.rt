@@ -129,7 +129,9 @@ fn unknown_reply(digits: &[u8]) -> Option<u64>
 
 /// The reply word whose text is this word.
 pub fn reply_from_word(word: &[u8]) -> Option<u64>
+    // A reply that is answered is the one whose text the word is.
     ensures found { IfSome result (λ reply. reply_word reply ≡ word.now) }
+    // None is answered only where the word is the text of no reply word.
     ensures none { IfNone result ((reply : ℕ) → reply < 2 ^ 64 → reply_word reply ≢ word.now) }
 {
     if let Some(entry) = reply_named(word) {
@@ -143,7 +145,9 @@ pub fn reply_from_word(word: &[u8]) -> Option<u64>
 
 /// Appends the text of a reply word.
 pub fn put_reply(out: &mut Vec<u8>, reply: u64) -> Result<(), NoMemory>
+    // After an answer Ok the vector has the text of the reply after what it held.
     ensures ok { OnOk result (out.new.items ≡ out.old.items ++ reply_word reply) }
+    // After want of memory the vector has what it held and a prefix of the text of the reply.
     ensures err { OnErr result (AppendsFront out.old.items out.new.items (reply_word reply)) }
 {
     if let Some(entry) = named(reply) {

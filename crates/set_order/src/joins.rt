@@ -26,6 +26,7 @@ pub struct Joins;
 impl Joins {
     /// The operation that joins a number below 32.
     pub fn join(number: u32) -> OpWord
+        // The number is below 32.
         requires { number < 32 }
         ensures { result ≡ 2 ^ 32 + number }
     {

@@ -15,6 +15,7 @@ pub trait SetObject {
 
     /// Makes the list the one that the object begins with. The room stays.
     fn reset(&self, state: &mut State)
+        // The state has room for one word.
         requires { 1 ≤ state.old.room }
         ensures { state.new ≡ record state.old { words = init self.now } };
 
@@ -22,14 +23,23 @@ pub trait SetObject {
     /// turn. Where they may not be served together the answer is `false`, and the state stays. Both rooms
     /// stay, and no memory is taken.
     fn serve(&self, state: &mut State, ops: &[OpWord], replies: &mut State) -> bool
+        // There is at least one operation.
         requires some { 1 ≤ length ops.now }
+        // The state has room for one word more for each operation.
         requires room { length state.old.words + length ops.now ≤ state.old.room }
+        // The replies have room for one word for each operation.
         requires replies { length ops.now ≤ replies.old.room }
+        // An answer `true` comes only where the object serves the operations at once, and leaves
+        // the list and the replies that it gives.
         ensures served { IsTrue result → served self.now state.old.words ops.now
             ≡ Some (state.new.words, replies.new.words) }
+        // The answer is `false` exactly where the object doesn't serve these operations at once.
         ensures refused { IsFalse result ↔ (served self.now state.old.words ops.now ≡ None) }
+        // The state stays where the answer is `false`.
         ensures unchanged { IsFalse result → state.new ≡ state.old }
+        // The room of the state stays.
         ensures room { state.new.room ≡ state.old.room }
+        // The room of the replies stays.
         ensures replies { replies.new.room ≡ replies.old.room };
 
     /// Whether an operation may still get this reply, alone or beside others, at this list or after more is

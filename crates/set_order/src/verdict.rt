@@ -26,6 +26,8 @@ pub fn check_sets<O: SetObject>(
     object: &O,
     book: &Book,
 ) -> Result<SetVerdict, NoMemory>
+    // The answer `Legal` carries a legal set order of the book, and `Illegal` comes only where the
+    // book has none.
     ensures verdict { IfOk result (λ verdict.
         IsRight (O.init object.now) (O.served object.now) book.now verdict) }
 {

@@ -11,7 +11,10 @@ pub fn books_have_one_sketch()
 /// Each call of a book is invoked once, and each answered call returns once, after its invocation.
 #[tactic(auto, using(crate::proofs::Orderly::events_stand_once, crate::proofs::Orderly::calls_return_after_they_are_invoked))]
 pub fn calls_are_invoked_and_return_once()
+    // An event stands at one place of a book's sketch at most.
     ensures once { EventsStandOnce }
+    // Each call of a valid book is invoked in its sketch, and each answered call returns after its
+    // invocation.
     ensures after { CallsReturnAfterTheyAreInvoked }
 {}
 

@@ -21,11 +21,18 @@ const MOST_HELD: u64 = MAX_CALLERS as u64 * MAX_CALLS;
 /// An error is final (Castañeda and Rodríguez 2023), so that the cuts are found by halving: first those of the
 /// records whose views hold few calls, and then the least count of each caller.
 pub fn earliest(alloc: Global, kind: Kind, book: &Book) -> Result<Book, NoMemory>
+    // The book has no legal order.
     requires { ¬ HasLegalOrder (kind_init kind) (kind_next kind) book.now }
+    // The answer is the part of the book that has the first calls of each caller, as many as it has
+    // calls.
     ensures part { IfOk result (λ part. IsPart book.now (all_numbers part) part) }
+    // Where the book has a legal order, the part has one, whichever list the object begins with.
     ensures evidence { IfOk result (CarriesOver (kind_next kind) book.now) }
+    // The part has no legal order.
     ensures illegal { IfOk result (λ part.
         ¬ HasLegalOrder (kind_init kind) (kind_next kind) part) }
+    // The part has a legal order at each cut that lacks a record of it, and each of its calls is in
+    // some view.
     ensures earliest { IfOk result (IsEarliest (kind_init kind) (kind_next kind)) }
 {
     let _callers = book.callers();

@@ -12,8 +12,11 @@ use std::alloc::Global;
 /// The part of a book that has the calls with these numbers, a rising list for each caller. What is
 /// answered in the book is answered in the part.
 pub fn part(alloc: Global, book: &Book, numbers: &[Vec<u64>]) -> Result<Book, NoMemory>
+    // The numbers are rising numbers of calls of the book, a list for each caller.
     requires { AreNumbersOf book.now (numbers_in numbers.now) }
+    // The answer is the part of the book that has the calls with these numbers.
     ensures part { IfOk result (IsPart book.now (numbers_in numbers.now)) }
+    // What is answered in the book is answered in the part.
     ensures answers { IfOk result (KeepsAnswers book.now (numbers_in numbers.now)) }
 {
     let callers = book.callers();

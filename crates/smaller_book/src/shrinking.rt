@@ -30,14 +30,20 @@ use std::alloc::Global;
 /// The numbers of the calls and their views are made anew, and the numbers that the calls had come with the
 /// book.
 pub fn shrink(alloc: Global, kind: Kind, book: &Book) -> Result<Option<Smaller>, NoMemory>
+    // No book is answered only where the book has a legal order.
     ensures none { IfOk result (λ found. IfNone found
         (HasLegalOrder (kind_init kind) (kind_next kind) book.now)) }
+    // The smaller book is the part of the book that has the calls with the answered numbers.
     ensures part { IfOk result (λ found. IfSome found (λ smaller.
         IsPart book.now (numbers_in smaller.numbers.items) smaller.book)) }
+    // Where the book has a legal order, the smaller book has one without the calls of some keys: it
+    // is evidence of the book.
     ensures evidence { IfOk result (λ found. IfSome found (λ smaller.
         IsEvidence kind book.now smaller.book)) }
+    // The smaller book has no legal order.
     ensures illegal { IfOk result (λ found. IfSome found (λ smaller.
         ¬ HasLegalOrder (kind_init kind) (kind_next kind) smaller.book)) }
+    // No rule makes the smaller book smaller still and leaves it without a legal order.
     ensures minimal { IfOk result (λ found. IfSome found (λ smaller.
         IsMinimal kind smaller.book)) }
 {

@@ -30,11 +30,15 @@ pub struct Head {
 /// The head of a text of version 2 with this title, a word such as `book`. After a refusal the
 /// lines stay as they were.
 pub fn read_head(lines: &mut Lines, title: &[u8]) -> Result<Head, TextFault>
+    // A head that was found is that with which the lines began in version 2, and it is taken.
     ensures found { IfOk result (λ head.
         IsHead Second title.now head.kind head.calls lines.old lines.new) }
+    // A head that was found has as many callers and calls as texts of version 2 may have.
     ensures says { IfOk result (λ head.
         AreCallers Second head.n × AreCalls Second head.n head.calls) }
+    // A refusal is the first fault of the head of these lines.
     ensures refused { IfErr result (IsHeadFault Second title.now TitleDue lines.old) }
+    // A refusal leaves the lines as they were.
     ensures unchanged { IfErr result (λ _. lines.new ≡ lines.old) }
     // A head with a title that is a word is read as that head, and leaves what stands behind it.
     ensures only { (kind : Kind) (calls : List ℕ) (left : Unread) → IsSolid title.now
@@ -52,11 +56,15 @@ pub fn read_head(lines: &mut Lines, title: &[u8]) -> Result<Head, TextFault>
 /// The head of a text of version 1 with this title, a word such as `book`. After a refusal the
 /// lines stay as they were.
 pub fn read_head1(lines: &mut Lines, title: &[u8]) -> Result<Head, TextFault>
+    // A head that was found is that with which the lines began in version 1, and it is taken.
     ensures found { IfOk result (λ head.
         IsHead First title.now head.kind head.calls lines.old lines.new) }
+    // A head that was found has as many callers and calls as texts of version 1 may have.
     ensures says { IfOk result (λ head.
         AreCallers First head.n × AreCalls First head.n head.calls) }
+    // A refusal is the first fault of the head of these lines.
     ensures refused { IfErr result (IsHeadFault First title.now TitleDue lines.old) }
+    // A refusal leaves the lines as they were.
     ensures unchanged { IfErr result (λ _. lines.new ≡ lines.old) }
     // A head with a title that is a word is read as that head, and leaves what stands behind it.
     ensures only { (kind : Kind) (calls : List ℕ) (left : Unread) → IsSolid title.now
@@ -73,11 +81,15 @@ pub fn read_head1(lines: &mut Lines, title: &[u8]) -> Result<Head, TextFault>
 
 /// The head of a text of this version with this title. After a refusal the lines stay as they were.
 pub fn read_head_of(version: Version, lines: &mut Lines, title: &[u8]) -> Result<Head, TextFault>
+    // A head that was found is that with which the lines began in this version, and it is taken.
     ensures found { IfOk result (λ head.
         IsHead version title.now head.kind head.calls lines.old lines.new) }
+    // A head that was found has as many callers and calls as texts of this version may have.
     ensures says { IfOk result (λ head.
         AreCallers version head.n × AreCalls version head.n head.calls) }
+    // A refusal is the first fault of the head of these lines.
     ensures refused { IfErr result (IsHeadFault version title.now TitleDue lines.old) }
+    // A refusal leaves the lines as they were.
     ensures unchanged { IfErr result (λ _. lines.new ≡ lines.old) }
     // A head with a title that is a word is read as that head, and leaves what stands behind it.
     ensures only { (kind : Kind) (calls : List ℕ) (left : Unread) → IsSolid title.now
@@ -197,7 +209,11 @@ fn read_callers(
 
 /// The number of callers that a line gives.
 pub fn callers_of(version: Version, words: &mut Words) -> Option<u32>
+    // A number of callers that was found is one that texts of the version have, and the words were
+    // its line.
     ensures found { IfSome result (λ n. AreCallers version n × (words.old ≡ callers_words n)) }
+    // No number is found only where the words aren't the line of a number of callers that texts of
+    // the version have.
     ensures none { IfNone result ((n : ℕ)
         → AreCallers version n → words.old ≢ callers_words n) }
 {
@@ -243,10 +259,16 @@ fn read_calls_line(
 
 /// The numbers of calls that a line gives, one for each of `n` callers.
 pub fn calls_of(version: Version, words: &mut Words, n: u32) -> Option<Cut>
+    // There is at least one caller.
     requires some { 1 ≤ n }
+    // There are at most `MAX_CALLERS` callers.
     requires few { n ≤ MAX_CALLERS }
+    // The numbers of calls that were found are those that texts of the version have, and the words
+    // were their line.
     ensures found { IfSome result (λ calls.
         AreCalls version n calls × (words.old ≡ calls_words calls)) }
+    // No numbers are found only where the words aren't the line of numbers of calls that texts of
+    // the version have.
     ensures none { IfNone result ((calls : List ℕ)
         → AreCalls version n calls → words.old ≢ calls_words calls) }
 {

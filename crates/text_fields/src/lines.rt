@@ -39,7 +39,9 @@ impl<'a> Lines<'a> {
     /// The next line, without its line feed. Where no whole line is left, the text is cut, and what
     /// is left stays.
     pub fn line(&mut self) -> Result<&'a [u8], TextFault>
+        // An answered line is what the bytes had before the first line feed, and is taken with it.
         ensures line { IfOk result (λ line. line_at self.old ≡ Ok (line.now, self.new)) }
+        // An error comes only where no whole line is left: the text is cut there, and stays.
         ensures cut { IfErr result (λ fault. (line_at self.old ≡ Err fault) × (self.new ≡ self.old)) }
     {
         match cut_at(b'\n', self.rest) {

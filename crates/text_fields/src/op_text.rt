@@ -24,9 +24,12 @@ pub trait OpText {
         second: Option<&[u8]>,
         third: Option<&[u8]>,
     ) -> Option<(OpWord, u32)>
+        // An operation that was found is spelled by the first word with as many further words as
+        // are answered.
         ensures found { IfSome result (λ (op, used).
             let others = further (option_copied second.entry) (option_copied third.entry) in
             IsSpelled (operations self.now) (first.now ∷ others) op used) }
+        // No operation is found only where the words begin with those of none.
         ensures none { IfNone result ((op used : ℕ) →
             let others = further (option_copied second.entry) (option_copied third.entry) in
             ¬ (IsSpelled (operations self.now) (first.now ∷ others) op used)) };

@@ -22,12 +22,21 @@ pub fn narrow_holds_last<R: Reader>(
     forced: u32,
     marks: Marks,
 ) -> Marks
+    // The sight lists each call of the book that puts in a value, and each answered one that takes
+    // it out.
     requires sight { ListsValues (R.reading reader.now) book.now sight.now }
+    // Each view of the book holds at most one unanswered call of each caller.
     requires open { HasOneOpen book.now }
+    // The cut has a count for each caller of the book.
     requires wide { length cut.now ≡ length book.now }
+    // Of all answered calls outside the cut the forced caller's first one has the least view.
     requires forced { IsForced book.now cut.now forced }
+    // The callers are marked whose next calls may come next after the cut, and no others.
     requires marks { MarksAllNext book.now cut.now marks }
+    // Each caller that the answer marks was marked.
     ensures fewer { IsMarkedWithin result marks }
+    // For each object that holds the value written last, and holds this one: all that goes on from
+    // here goes on by the next call of a caller that the answer marks as well, with no more places.
     ensures suffice { (held_in : List ℕ → ℕ) (next : List ℕ → ℕ → List ℕ × ℕ) (list : List ℕ) → HoldsLast (R.reading reader.now) held_in next
         → held_in list ≡ held → MarksSuffice book.now next cut.now list result }
 {

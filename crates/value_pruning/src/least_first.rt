@@ -21,12 +21,22 @@ pub fn narrow_least_first<R: Reader>(
     forced: u32,
     marks: Marks,
 ) -> Marks
+    // The sight lists each call of the book that puts in a value, and each answered one that takes
+    // it out.
     requires sight { ListsValues (R.reading reader.now) book.now sight.now }
+    // Each view of the book holds at most one unanswered call of each caller.
     requires open { HasOneOpen book.now }
+    // The cut has a count for each caller of the book.
     requires wide { length cut.now ≡ length book.now }
+    // Of all answered calls outside the cut the forced caller's first one has the least view.
     requires forced { IsForced book.now cut.now forced }
+    // The callers are marked whose next calls may come next after the cut, and no others.
     requires marks { MarksAllNext book.now cut.now marks }
+    // Each caller that the answer marks was marked.
     ensures fewer { IsMarkedWithin result marks }
+    // For each object that gives its least value first, from a rising list on that some order
+    // reaches with this cut: all that goes on from here goes on by the next call of a caller that
+    // the answer marks as well, with no more places.
     ensures suffice { (init : List ℕ) (next : List ℕ → ℕ → List ℕ × ℕ) (bound : ℕ) → GivesLeastFirst (R.reading reader.now) next bound
         → IsRising bound init → IsReached init next book.now cut.now words.now → MarksSuffice book.now next cut.now words.now result }
 {
@@ -71,10 +81,17 @@ pub fn next_take<R: Reader>(
     marks: Marks,
     value: u64,
 ) -> Option<u32>
+    // The sight lists each call of the book that puts in a value, and each answered one that takes
+    // it out.
     requires sight { ListsValues (R.reading reader.now) book.now sight.now }
+    // The cut has a count for each caller of the book.
     requires wide { length cut.now ≡ length book.now }
+    // A caller that is answered is one of the book's.
     ensures caller { IfSome result (λ i. i < length book.now) }
+    // A caller that is answered is marked.
     ensures marked { IfSome result (IsMarked marks) }
+    // The next call of the answered caller takes out the value, and has the least view of all
+    // answered calls outside the cut that do.
     ensures take { IfSome result (λ i. IsLeastTake (R.reading reader.now) book.now cut.now value (next_call cut.now i)) }
 {
     let take = least_take(sight, book, cut, value)?;

@@ -10,7 +10,10 @@ use object_foresight::Reader;
 
 /// Whether an answered call outside a cut reads a value.
 pub fn is_read<R: Reader>(reader: &R, sight: &Sight, book: &Book, cut: &Cut, value: u64) -> bool
+    // The sight lists each call of the book that puts in a value, and each answered one that takes
+    // it out.
     requires sight { ListsValues (R.reading reader.now) book.now sight.now }
+    // The cut has a count for each caller of the book.
     requires wide { length cut.now ≡ length book.now }
     ensures { IsTrue result ↔ IsRead (R.reading reader.now) book.now cut.now value }
 {
@@ -22,7 +25,10 @@ pub fn is_read<R: Reader>(reader: &R, sight: &Sight, book: &Book, cut: &Cut, val
 
 /// Whether a call outside a cut writes a value.
 pub fn is_written<R: Reader>(reader: &R, sight: &Sight, book: &Book, cut: &Cut, value: u64) -> bool
+    // The sight lists each call of the book that puts in a value, and each answered one that takes
+    // it out.
     requires sight { ListsValues (R.reading reader.now) book.now sight.now }
+    // The cut has a count for each caller of the book.
     requires wide { length cut.now ≡ length book.now }
     ensures { IsTrue result ↔ IsWritten (R.reading reader.now) book.now cut.now value }
 {

@@ -7,8 +7,11 @@ use object_foresight::{Reader, Role};
 
 /// The value that a call puts in, if it puts one in.
 pub fn value_put<R: Reader>(reader: &R, book: &Book, call: Call) -> Option<u64>
+    // The call is one of the book's.
     requires { IsCall book.now call }
+    // A value that is answered is put in by the call.
     ensures some { IfSome result (PutsIn (R.reading reader.now) book.now call) }
+    // None is answered only where the call puts in no value.
     ensures none { IfNone result ((v : ℕ) → PutsIn (R.reading reader.now) book.now call v → ⊥) }
 {
     match reader.role(book.op(call)) {
@@ -19,7 +22,9 @@ pub fn value_put<R: Reader>(reader: &R, book: &Book, call: Call) -> Option<u64>
 
 /// The value that an answered call takes out, if it takes one out.
 pub fn value_taken<R: Reader>(reader: &R, book: &Book, call: Call) -> Option<u64>
+    // A value that is answered is taken out by the call, which is answered.
     ensures some { IfSome result (TakesOut (R.reading reader.now) book.now call) }
+    // None is answered only where the call takes out no value.
     ensures none { IfNone result ((v : ℕ) → TakesOut (R.reading reader.now) book.now call v → ⊥) }
 {
     if call.caller >= book.callers() || call.number >= book.answers(call.caller) {
