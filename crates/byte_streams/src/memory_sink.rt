@@ -42,6 +42,7 @@ impl MemorySink {
         fails: Vec<u64>,
         most: usize,
     ) -> Result<MemorySink, NoMemory>
+        // A call may take or give at least one byte.
         requires { 1 ≤ most }
         ensures { IfOk result (λ sink. sink ≡ record { taken = []; room = room; fails = fails.items; most = most; calls = 0; faults = 0 }) }
     {
@@ -58,7 +59,9 @@ impl MemorySink {
 
     /// The bytes that it has taken.
     pub fn bytes(&self) -> &[u8]
+        // The answer is the bytes that the sink has taken.
         ensures taken { result.now ≡ self.now.taken }
+        // The sink has taken no more bytes than its room.
         ensures room { length self.now.taken ≤ self.now.room }
     {
         &self.bytes
@@ -71,18 +74,28 @@ impl Sink for MemorySink {
     ghost faults = { λ s. s.faults };
 
     fn write(&mut self, piece: &[u8]) -> Result<usize, Failed>
+        // A write takes no more bytes than the piece has.
         ensures bound { IfOk result (λ count. count ≤ length piece.now) }
+        // The sink has taken the first bytes of the piece, as many as are answered, and none where
+        // the write failed.
         ensures bytes { WriteAppends (Some self.old.taken) (Some self.new.taken) result piece.now }
+        // The sink's count of faults isn't lower than before.
         ensures later { self.old.faults ≤ self.new.faults }
+        // A write that failed, or took nothing of a piece that isn't empty, raised the count of
+        // faults.
         ensures cause { IsRefusal result piece.now → Rose self.old.faults self.new.faults }
+        // A write that wasn't refused left the count of faults.
         ensures calm { ¬ IsRefusal result piece.now → self.new.faults ≡ self.old.faults }
 
         // It fails exactly where the number of the call says so, or where no room is left.
         ensures fails { IsErr result ↔ WriteFails self.old piece.now }
+        // A failed write takes nothing, and counts as a call and as a fault.
         ensures failed { OnErr result (self.new ≡ after_failed_write self.old) }
 
         // How much it takes, and what stands afterwards.
         ensures count { IfOk result (λ count. count ≡ taken_count self.old (length piece.now)) }
+        // A write takes the first bytes of the piece, as many as are answered, and counts as a
+        // call.
         ensures after { IfOk result (λ count. self.new ≡ after_write self.old (take count piece.now)) }
     {
         self.calls = self.calls.saturating_add(1);

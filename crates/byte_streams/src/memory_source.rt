@@ -34,6 +34,7 @@ impl MemorySource {
     /// A source of these bytes. A read gives at most `most` bytes, and fails exactly where the number of the
     /// call, counted from 1, is in `fails`.
     pub fn new(bytes: Vec<u8>, fails: Vec<u64>, most: usize) -> MemorySource
+        // A call may take or give at least one byte.
         requires { 1 ≤ most }
         ensures { result ≡ record { left = bytes.items; fails = fails.items; most = most; calls = 0; faults = 0 } }
     {
@@ -54,19 +55,28 @@ impl Source for MemorySource {
     ghost faults = { λ s. s.faults };
 
     fn read(&mut self, piece: &mut [u8]) -> Result<usize, Failed>
+        // A read gives no more bytes than the piece has.
         ensures bound { IfOk result (λ count. count ≤ length piece.old) }
+        // The source has lost the bytes that are given to the piece, and none where the read
+        // failed.
         ensures bytes { ReadConsumes (Some self.old.left) (Some self.new.left) result piece.new }
+        // The source's count of faults isn't lower than before.
         ensures later { self.old.faults ≤ self.new.faults }
+        // A read that failed raised the count of faults.
         ensures cause { OnErr result (Rose self.old.faults self.new.faults) }
+        // A read that didn't fail left the count of faults.
         ensures calm { OnOk result (self.new.faults ≡ self.old.faults) }
 
         // It fails exactly where the number of the call says so.
         ensures fails { IsErr result ↔ ReadFails self.old }
+        // A failed read gives nothing, and counts as a call and as a fault.
         ensures failed { OnErr result (self.new ≡ after_failed_read self.old) }
 
         // What it gives, how much, and what is left.
         ensures count { IfOk result (λ count. count ≡ given_count self.old (length piece.old)) }
+        // The piece begins with the bytes that are given, and is as before besides.
         ensures given { IfOk result (λ count. piece.new ≡ take count self.old.left ++ drop count piece.old) }
+        // A read takes as many bytes off the source as are answered, and counts as a call.
         ensures after { IfOk result (λ count. self.new ≡ after_read self.old count) }
     {
         self.calls = self.calls.saturating_add(1);

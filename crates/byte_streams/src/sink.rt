@@ -15,9 +15,16 @@ pub trait Sink {
 
     /// Takes the front of the piece, and answers how many bytes it took.
     fn write(&mut self, piece: &[u8]) -> Result<usize, Failed>
+        // A write takes no more bytes than the piece has.
         ensures bound { IfOk result (λ count. count ≤ length piece.now) }
+        // The sink has taken the first bytes of the piece, as many as are answered, and none where
+        // the write failed.
         ensures bytes { WriteAppends (taken self.old) (taken self.new) result piece.now }
+        // The sink's count of faults isn't lower than before.
         ensures later { faults self.old ≤ faults self.new }
+        // A write that failed, or took nothing of a piece that isn't empty, raised the count of
+        // faults.
         ensures cause { IsRefusal result piece.now → Rose (faults self.old) (faults self.new) }
+        // A write that wasn't refused left the count of faults.
         ensures calm { ¬ IsRefusal result piece.now → faults self.new ≡ faults self.old };
 }

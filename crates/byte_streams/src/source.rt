@@ -15,9 +15,15 @@ pub trait Source {
     /// Fills the front of the piece, and answers how many bytes it gave: none of a piece that isn't empty
     /// is the end of input.
     fn read(&mut self, piece: &mut [u8]) -> Result<usize, Failed>
+        // A read gives no more bytes than the piece has.
         ensures bound { IfOk result (λ count. count ≤ length piece.old) }
+        // The source has lost the bytes that are given to the piece, and none where the read
+        // failed.
         ensures bytes { ReadConsumes (left self.old) (left self.new) result piece.new }
+        // The source's count of faults isn't lower than before.
         ensures later { faults self.old ≤ faults self.new }
+        // A read that failed raised the count of faults.
         ensures cause { OnErr result (Rose (faults self.old) (faults self.new)) }
+        // A read that didn't fail left the count of faults.
         ensures calm { OnOk result (faults self.new ≡ faults self.old) };
 }

@@ -15,7 +15,9 @@ pub struct StdSink<W> {
 impl<W: Write> StdSink<W> {
     /// A sink over a writer.
     pub fn over(output: W) -> StdSink<W>
+        // The sink has taken what the writer holds.
         ensures held { ⟦<StdSink<W> as Sink>⟧.taken result ≡ ⟦<W as Write>⟧.contents output }
+        // The sink has counted no fault.
         ensures no_fault { ⟦<StdSink<W> as Sink>⟧.faults result ≡ 0 }
     {
         StdSink { output, faults: 0 }
@@ -25,6 +27,7 @@ impl<W: Write> StdSink<W> {
 impl<'a, R: Print> StdSink<Printer<'a, R>> {
     /// A sink over the runtime's standard output.
     pub fn new(rt: &'a R) -> StdSink<Printer<'a, R>>
+        // The sink has counted no fault.
         ensures no_fault { ⟦<StdSink<Printer<'a, R>> as Sink>⟧.faults result ≡ 0 }
     {
         StdSink::over(io::writer(rt))

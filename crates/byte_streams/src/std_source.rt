@@ -14,6 +14,7 @@ pub struct StdSource<I> {
 impl<I: Read> StdSource<I> {
     /// A source over the runtime's standard input.
     pub fn new<R: Input<Reader = I>>(rt: &R) -> StdSource<I>
+        // The source has counted no fault.
         ensures no_fault { ⟦<StdSource<I> as Source>⟧.faults result ≡ 0 }
     {
         StdSource {

@@ -39,7 +39,9 @@ impl Source for SteadySource {
     fn read(&mut self, piece: &mut [u8]) -> Result<usize, Failed>
         // It never fails, and gives as much as there is.
         ensures count { IsOkAnd result (λ count. count ≡ min (length piece.old) (length self.old)) }
+        // The piece begins with the bytes that are given, and is as before besides.
         ensures given { IfOk result (λ count. piece.new ≡ take count self.old ++ drop count piece.old) }
+        // The source has lost as many bytes as are answered.
         ensures after { IfOk result (λ count. self.new ≡ drop count self.old) }
     {
         let count = fill(piece, &self.bytes[self.at..], piece.len());

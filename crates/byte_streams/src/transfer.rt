@@ -36,13 +36,19 @@ fn read_more<S: Source>(
 
 /// Reads a source to its end, or until one byte more than [`INPUT_LIMIT`] was read.
 pub fn read_all<S: Source>(alloc: Global, source: &mut S) -> Result<Vec<u8>, ReadAllError>
+    // The answer is the bytes that the source had, or the first `INPUT_LIMIT` + 1 of them where it
+    // had more, and these are read.
     ensures read { IfOk result (λ bytes. HasRead (S.left source.old) (S.left source.new) bytes.items) }
+    // At most `INPUT_LIMIT` + 1 bytes are answered.
     ensures bound { IfOk result (λ bytes. length bytes.items ≤ INPUT_LIMIT + 1) }
 
     // After an error, the bytes that are left are an end of those that were left.
     ensures err { OnErr result ((given : List ℕ) × Consumes (S.left source.old) (S.left source.new) given) }
+    // The source's count of faults isn't lower than before.
     ensures later { S.faults source.old ≤ S.faults source.new }
+    // An answer `Fault` comes only where the source's count of faults rose in this call.
     ensures cause { IsErrOf result ReadAllError.Fault → Rose (S.faults source.old) (S.faults source.new) }
+    // An answer other than `Fault` left the source's count of faults.
     ensures calm { ¬ IsErrOf result ReadAllError.Fault → S.faults source.new ≡ S.faults source.old }
 {
     let mut bytes = Vec::new(alloc);
@@ -58,10 +64,15 @@ pub fn read_all<S: Source>(alloc: Global, source: &mut S) -> Result<Vec<u8>, Rea
 
 /// Writes a whole text, and offers all that is left of it at each write.
 pub fn write_all<K: Sink>(sink: &mut K, text: &[u8]) -> Result<(), Failed>
+    // After an answer Ok the sink has taken the whole text.
     ensures whole { OnOk result (Appends (K.taken sink.old) (K.taken sink.new) text.now) }
+    // After an error the sink has taken a prefix of the text, and not all of it.
     ensures part { OnErr result (AppendsPart (K.taken sink.old) (K.taken sink.new) text.now) }
+    // The sink's count of faults isn't lower than before.
     ensures later { K.faults sink.old ≤ K.faults sink.new }
+    // An error comes only where the sink's count of faults rose in this call.
     ensures cause { OnErr result (Rose (K.faults sink.old) (K.faults sink.new)) }
+    // An answer Ok left the sink's count of faults.
     ensures calm { OnOk result (K.faults sink.new ≡ K.faults sink.old) }
 {
     let mut at = 0;
@@ -77,10 +88,14 @@ pub fn write_all<K: Sink>(sink: &mut K, text: &[u8]) -> Result<(), Failed>
 
 /// Writes a text, and answers its status where the sink took all of it.
 pub fn write_text<K: Sink>(sink: &mut K, status: Status, text: &[u8]) -> Status
+    // The status is answered where the sink took the whole text, and `WriteFault` where it took a
+    // prefix of it and its count of faults rose.
     ensures written { ((result ≡ status) × Appends (K.taken sink.old) (K.taken sink.new) text.now)
         ⊎ ((result ≡ Status.WriteFault) × AppendsPart (K.taken sink.old) (K.taken sink.new) text.now
         × Rose (K.faults sink.old) (K.faults sink.new)) }
+    // The sink's count of faults isn't lower than before.
     ensures later { K.faults sink.old ≤ K.faults sink.new }
+    // An answer other than `WriteFault` left the sink's count of faults.
     ensures calm { ¬ (result ≡ Status.WriteFault) → K.faults sink.new ≡ K.faults sink.old }
 {
     match write_all(sink, text) {

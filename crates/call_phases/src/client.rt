@@ -44,19 +44,35 @@ impl<'a, P: Program, T, E: Ending> Client<'a, P, T, E> {
         shared: &Shared<A, P>,
         steps: &mut Steps<L>,
     ) -> Client<'a, P, T, E>
+        // The client's caller is one of these rows, and its lines and its local are those of the
+        // phases that it has made.
         requires course { IsUnderWay P.meaning shared.now.rows.now (E.says (E.object self.sheet.ending)) self }
+        // The passes serve these rows.
         requires serves { A.serves shared.now.asks.now shared.now.rows.now }
+        // The client's pass fits its caller, and has counted its calls, where it counts them.
         requires pass { HasPass (A.fits shared.now.asks.now) A.count self }
+        // There is a row and capacity for a line for each operation.
         requires room { HasRoom shared.now.rows.now self }
+        // What the sheet keeps of an order stands for the object in the book that it keeps.
         requires standing { KeepsStanding (E.object self.sheet.ending) self.sheet }
+        // The client's caller isn't halted.
         requires goes { GoesOnFrom self.stand }
+        // The client has made fewer phases than its operations have.
         requires left { phases_by self < 5 * length self.sheet.operations.now }
+        // The client has made one phase more.
         ensures phase { phases_by result ≡ phases_by self.entry + 1 }
+        // The client's caller is still one of these rows, and its lines and its local are those of
+        // the phases that it has made.
         ensures course { IsUnderWay P.meaning shared.now.rows.now (E.says (E.object result.sheet.ending)) result }
+        // The client's pass still fits its caller, and has counted its calls, where it counts them.
         ensures pass { HasPass (A.fits shared.now.asks.now) A.count result }
+        // There still is a row and capacity for a line for each operation.
         ensures room { HasRoom shared.now.rows.now result }
+        // What the sheet keeps of an order still stands for the object in the book that it keeps.
         ensures standing { KeepsStanding (E.object result.sheet.ending) result.sheet }
+        // The client has the same caller and operations, and no less capacity for lines.
         ensures same { IsSameClient self.entry result }
+        // The sequential object of the client's ending stays.
         ensures object { E.object result.sheet.ending ≡ E.object self.entry.sheet.ending }
     {
         let Client {
@@ -86,19 +102,35 @@ impl<'a, P: Program, T, E: Ending> Client<'a, P, T, E> {
         count: u64,
         steps: &mut Steps<L>,
     ) -> Client<'a, P, T, E>
+        // The client's caller is one of these rows, and its lines and its local are those of the
+        // phases that it has made.
         requires course { IsUnderWay P.meaning shared.now.rows.now (E.says (E.object self.sheet.ending)) self }
+        // The passes serve these rows.
         requires serves { A.serves shared.now.asks.now shared.now.rows.now }
+        // The client's pass fits its caller, and has counted its calls, where it counts them.
         requires pass { HasPass (A.fits shared.now.asks.now) A.count self }
+        // There is a row and capacity for a line for each operation.
         requires room { HasRoom shared.now.rows.now self }
+        // What the sheet keeps of an order stands for the object in the book that it keeps.
         requires standing { KeepsStanding (E.object self.sheet.ending) self.sheet }
+        // The client's caller isn't halted.
         requires goes { GoesOnFrom self.stand }
+        // The client's operations have that many phases more.
         requires left { phases_by self + count ≤ 5 * length self.sheet.operations.now }
+        // The client has made these phases, or was halted before.
         ensures spent { HasSpent (phases_by self.entry + count) result }
+        // The client's caller is still one of these rows, and its lines and its local are those of
+        // the phases that it has made.
         ensures course { IsUnderWay P.meaning shared.now.rows.now (E.says (E.object result.sheet.ending)) result }
+        // The client's pass still fits its caller, and has counted its calls, where it counts them.
         ensures pass { HasPass (A.fits shared.now.asks.now) A.count result }
+        // There still is a row and capacity for a line for each operation.
         ensures room { HasRoom shared.now.rows.now result }
+        // What the sheet keeps of an order still stands for the object in the book that it keeps.
         ensures standing { KeepsStanding (E.object result.sheet.ending) result.sheet }
+        // The client has the same caller and operations, and no less capacity for lines.
         ensures same { IsSameClient self.entry result }
+        // The sequential object of the client's ending stays.
         ensures object { E.object result.sheet.ending ≡ E.object self.entry.sheet.ending }
     {
         let mut client = self;
@@ -117,17 +149,33 @@ impl<'a, P: Program, T, E: Ending> Client<'a, P, T, E> {
     ///
     /// A call that wasn't judged for want of memory has no line.
     pub fn finish(self, _rows: &Rows<P>) -> Finished<P, T, E>
+        // The client's caller is one of these rows, and its lines and its local are those of the
+        // phases that it has made.
         requires course { IsUnderWay P.meaning _rows.now (E.says (E.object self.sheet.ending)) self }
+        // There is capacity for a line for each operation.
         requires room { length self.sheet.operations.now ≤ vec_capacity self.sheet.lines }
+        // The caller that is left has the number and the local of the client's caller, and is of
+        // the same rows.
         ensures caller { IsSame (caller_at self.entry.stand) result.caller }
+        // The pass that is left is the client's.
         ensures pass { result.pass ≡ self.entry.pass }
+        // The ending that is left is the client's.
         ensures ending { result.ending ≡ self.entry.sheet.ending }
+        // Memory is wanted exactly where the last call was left unjudged.
         ensures wants_memory { result.wants_memory ≡ is_unjudged self.entry.stand }
+        // The caller has made exactly the phases of the client.
         ensures made { HasMade self.entry.sheet.operations.now (phases_by self.entry) (local_with result.caller) }
+        // A call that was announced and not asked has no object step, and to one that was asked and
+        // has no view the program allows a reply.
         ensures asked { KeepsAsked (shape_of P.meaning _rows.now).program self.entry.sheet.who (phases_by self.entry) (local_with result.caller) }
+        // Within a call the caller is halted, and where it is live it is free for its next call.
         ensures standing { IsLeftStanding (phases_by self.entry) (local_with result.caller) (stance_of result.caller) }
+        // Between two calls, without an error and where memory wasn't wanted, the caller stands as
+        // at the start.
         ensures free { is_unjudged self.entry.stand ≡ false → any_error result.lines.items ≡ false
             → phases_by self.entry % 5 ≡ 0 → stance_of result.caller ≡ fresh_stance }
+        // Where memory wasn't wanted, the lines that are left are those of the phases that the
+        // client has made.
         ensures leaves { Leaves (E.says (E.object result.ending)) _rows.now.callers self.entry.sheet.operations.now self.entry.stand self.entry.sheet.lines.items (local_with result.caller) result.lines.items }
     {
         let Client {

@@ -40,17 +40,31 @@ pub trait Ending {
         standing: &mut Option<Standing>,
         steps: &mut Steps<L>,
     ) -> Ended<P>
+        // The caller of the seen call is one of these rows.
         requires rows { IsCallerOf P.meaning rows.now (caller_seen seen) }
+        // The caller has peeked each word of the book that was gathered before, where there is one.
         requires gathered { IsGatheredBy (local_with (caller_seen seen)) gathered.old }
+        // What is kept of an order stands for the object in the book that was gathered before.
         requires standing { StandsBy (object self.old) gathered.old standing.old }
+        // The sequential object of the ending stays.
         ensures object { object self.new ≡ object self.old }
+        // The caller is still one of these rows, with the same number.
         ensures caller { IsStill P.meaning rows.now (caller_seen seen) (caller_ended result) }
+        // The caller has come no further with its calls.
         ensures progress { progress_of (local_ended result) ≡ progress_of (local_with (caller_seen seen)) }
+        // The caller's local has each look, peek and cut that it had before.
         ensures grows { Grows (local_with (caller_seen seen)) (local_ended result) }
+        // A caller that goes on is free for its next call, and one that is halted or wants memory
+        // makes no calls.
         ensures stands { StandsBehind result }
+        // A caller that goes on has no error, and one that is halted has one.
         ensures error { FitsError result }
+        // What the ending says is said of the record, the seen cut and the line's end, and where
+        // memory was wanted the record and the cut are handed back.
         ensures says { SaysOf (says (object self.new) rows.now.callers) (record_seen seen) (cut_seen seen) result }
+        // The caller has peeked each word of the book that is gathered now, where there is one.
         ensures kept { IsGatheredBy (local_ended result) gathered.new }
+        // What is kept of an order now stands for the object in the book that is gathered now.
         ensures standing { StandsBy (object self.new) gathered.new standing.new };
 
     /// What the end of a line says stays so while the caller goes on.

@@ -50,8 +50,13 @@ impl<P> Stand<P> {
     /// The caller, with its local as it is, and how the line of its call under way ends, where it leaves one. Between
     /// two calls it stays live, and else it is halted.
     pub fn stop(self) -> (Caller<P>, Option<LineEnd>)
+        // The caller keeps its number and its local, and is still one of its rows.
         ensures caller { IsSame (caller_at self) result.0 }
+        // The line of a call under way ends pending without its record, and unchecked with it; else
+        // no line is left.
         ensures end { result.1 ≡ end_at self }
+        // The caller's stance stays where no call of it is under way, and else the caller is
+        // halted.
         ensures stance { stance_of result.0 ≡ stance_left self }
     {
         match self {

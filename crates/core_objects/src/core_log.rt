@@ -57,11 +57,18 @@ impl<S: SeqObject + Copy> CoreLog<S> {
         n: u32,
         cap: u64,
     ) -> Result<(CoreLog<S>, Vec<CorePass>), NoMemory>
+        // There is at least one caller.
         requires some_callers { 1 ≤ n }
+        // There are at most `MAX_CALLERS` callers.
         requires few_callers { n ≤ MAX_CALLERS }
+        // Each caller has at least one call.
         requires some_calls { 1 ≤ cap }
+        // Each caller has at most `MAX_CALLS` calls.
         requires few_calls { cap ≤ MAX_CALLS }
+        // The log is that of this object.
         ensures object { IfOk result (λ r. object_of r.0 ≡ object) }
+        // There is one pass for each caller, in order, which fits the caller, the number of callers
+        // and the cap, and knows no entry.
         ensures passes { IfOk result (λ r. ArePassesFor (FitsLog (S.init (object_of r.0)) (S.next (object_of r.0))) n cap r.1.items) }
     {
         let passes = log_passes_for(alloc, &object, n, cap)?;

@@ -54,10 +54,16 @@ pub trait CoreObject {
         announced: &mut Announced<Self::P>,
         pass: &mut Self::Pass,
     ) -> u64
+        // The rows were opened with the program of this object.
         requires program { AreOpenedWith Self.P.meaning (program_of self.now) rows.now }
+        // The caller of the announced call is one of these rows.
         requires caller { IsCallerOf Self.P.meaning rows.now (caller_announced announced.old) }
+        // The announced call has made no object step.
         requires first { steps_now (announced_local announced.old) ≡ [] }
+        // The pass fits the caller and all object steps that it has made.
         requires fits { fits self.now pass.old (who_announced announced.old) rows.now.callers rows.now.cap (all_steps_of (announced_local announced.old)) }
+        // The caller has made some object steps and no other event, its program now allows it this
+        // reply, and the pass fits it still.
         ensures made { (made : HasReplied Self.P.meaning rows.now announced.old announced.new result)
             × fits self.now pass.new (who_announced announced.old) rows.now.callers rows.now.cap (all_steps_of (announced_local announced.old) ++ made.steps) };
 

@@ -48,10 +48,16 @@ impl CoreTally {
         n: u32,
         cap: u64,
     ) -> Result<(CoreTally, Vec<CoreTallyPass>), NoMemory>
+        // There is at least one caller.
         requires some_callers { 1 ≤ n }
+        // There are at most `MAX_CALLERS` callers.
         requires few_callers { n ≤ MAX_CALLERS }
+        // Each caller has at least one call.
         requires some_calls { 1 ≤ cap }
+        // Each caller has at most `MAX_CALLS` calls.
         requires few_calls { cap ≤ MAX_CALLS }
+        // There is one pass for each caller, in order, which fits the caller, the number of callers
+        // and the cap.
         ensures passes { IfOk result (λ r. ArePassesFor FitsOneWord n cap r.1.items) }
     {
         let passes = OneWordPass::for_callers(alloc, n, cap)?;

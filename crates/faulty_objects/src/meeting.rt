@@ -45,14 +45,21 @@ impl Meeting {
     /// A meeting for `n` callers, of whom there are two, with `cap` calls each, and a pass for each caller, in order.
     /// No flag is up.
     pub fn open(alloc: Global, n: u32, cap: u64) -> Result<(Meeting, Vec<WordsPass>), NoMemory>
+        // There are two callers.
         requires two_callers { n ≡ 2 }
+        // Each caller has at least one call.
         requires some_calls { 1 ≤ cap }
+        // Each caller has at most `MAX_CALLS` calls.
         requires few_calls { cap ≤ MAX_CALLS }
+        // The meeting has this many callers and this cap.
         ensures meeting { IfOk result (λ r. (callers_of r.0.words ≡ n)
             × (cap_of r.0.words ≡ cap)) }
+        // The passes are those of all callers, in order.
         ensures callers { IfOk result (λ r. map caller_of_pass r.1.items
             ≡ range_with_len 0 n) }
+        // Each pass is one of this meeting.
         ensures own { IfOk result (λ r. All (IsMeetingPass r.0) r.1.items) }
+        // Each pass has made no call, and may make as many as the cap.
         ensures fresh { IfOk result (λ r. All (IsFreshPass cap) r.1.items) }
     {
         let (words, passes) = SharedWords::open(alloc, n, cap, n as usize)?;
@@ -101,14 +108,22 @@ impl Meeting {
 
     /// Makes one call of the pass's caller, the same one whatever the operation. It takes no memory.
     pub fn make(&self, pass: &mut WordsPass, op: OpWord) -> u64
+        // The pass is one of this meeting.
         requires own { IsMeetingPass self.now pass.old }
+        // The pass has made fewer calls than it may make.
         requires left { made_with pass.old < cap_of_pass pass.old }
+        // The pass is still one of this meeting.
         ensures own { IsMeetingPass self.now pass.new }
+        // The pass keeps its caller and how many calls it may make.
         ensures same { (caller_of_pass pass.new ≡ caller_of_pass pass.old)
             × (cap_of_pass pass.new ≡ cap_of_pass pass.old) }
+        // The pass has this operation and this reply after the calls that it had.
         ensures pairs { pairs_in pass.new ≡ pairs_in pass.old ++ (op, result) ∷ [] }
+        // The accesses that the pass knew are the first of those that it knows.
         ensures history { IsPrefix (history_in pass.old) (history_in pass.new) }
+        // A reply done comes only where the other caller has raised its flag.
         ensures raised { result ≡ reply_done → HasRaised (other_caller (caller_of_pass pass.old)) (history_in pass.new) }
+        // The reply is done or `bad`.
         ensures form { IsMeetingReply result }
     {
         let reply = self.reply(&mut pass.seat);

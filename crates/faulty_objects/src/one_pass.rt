@@ -40,13 +40,21 @@ impl OnePass {
 
     /// A queue for `n` callers with `cap` calls each, and a pass for each caller, in order. It is empty.
     pub fn open(alloc: Global, n: u32, cap: u64) -> Result<(OnePass, Vec<WordsPass>), NoMemory>
+        // There is at least one caller.
         requires some_callers { 1 ≤ n }
+        // There are at most `MAX_CALLERS` callers.
         requires few_callers { n ≤ MAX_CALLERS }
+        // Each caller has at least one call.
         requires some_calls { 1 ≤ cap }
+        // Each caller has at most `MAX_CALLS` calls.
         requires few_calls { cap ≤ MAX_CALLS }
+        // The queue has this many callers and this cap.
         ensures queue { IfOk result (λ r. (callers_of r.0.words ≡ n) × (cap_of r.0.words ≡ cap)) }
+        // The passes are those of all callers, in order.
         ensures callers { IfOk result (λ r. map caller_of_pass r.1.items ≡ range_with_len 0 n) }
+        // Each pass is one of this queue.
         ensures own { IfOk result (λ r. All (IsQueuePass r.0) r.1.items) }
+        // Each pass has made no call, and may make as many as the cap.
         ensures fresh { IfOk result (λ r. All (IsFreshPass cap) r.1.items) }
     {
         let places = n as usize * cap as usize;
@@ -115,12 +123,20 @@ impl OnePass {
 
     /// Makes one call of the pass's caller. It takes no memory.
     pub fn make(&self, pass: &mut WordsPass, op: OpWord) -> u64
+        // The pass is one of this queue.
         requires own { IsQueuePass self.now pass.old }
+        // The pass has made fewer calls than it may make.
         requires left { made_with pass.old < cap_of_pass pass.old }
+        // The pass is still one of this queue.
         ensures own { IsQueuePass self.now pass.new }
+        // The pass keeps its caller and how many calls it may make.
         ensures same { (caller_of_pass pass.new ≡ caller_of_pass pass.old) × (cap_of_pass pass.new ≡ cap_of_pass pass.old) }
+        // The pass has this operation and this reply after the calls that it had.
         ensures pairs { pairs_in pass.new ≡ pairs_in pass.old ++ (op, result) ∷ [] }
+        // The accesses that the pass knew are the first of those that it knows.
         ensures history { IsPrefix (history_in pass.old) (history_in pass.new) }
+        // The reply is done exactly to an enqueue, a value or none exactly to the dequeue, and else
+        // `bad`.
         ensures form { IsQueueReply op result }
     {
         let reply = self.reply(&mut pass.seat, op);

@@ -30,13 +30,21 @@ impl SplitTally {
 
     /// A split tally for `n` callers with `cap` calls each, and a pass for each caller, in order. The count is 0.
     pub fn open(alloc: Global, n: u32, cap: u64) -> Result<(SplitTally, Vec<WordsPass>), NoMemory>
+        // There is at least one caller.
         requires some_callers { 1 ≤ n }
+        // There are at most `MAX_CALLERS` callers.
         requires few_callers { n ≤ MAX_CALLERS }
+        // Each caller has at least one call.
         requires some_calls { 1 ≤ cap }
+        // Each caller has at most `MAX_CALLS` calls.
         requires few_calls { cap ≤ MAX_CALLS }
+        // The tally has this many callers and this cap.
         ensures tally { IfOk result (λ r. (callers_of r.0.words ≡ n) × (cap_of r.0.words ≡ cap)) }
+        // The passes are those of all callers, in order.
         ensures callers { IfOk result (λ r. map caller_of_pass r.1.items ≡ range_with_len 0 n) }
+        // Each pass is one of this tally.
         ensures own { IfOk result (λ r. All (IsSplitPass r.0) r.1.items) }
+        // Each pass has made no call, and may make as many as the cap.
         ensures fresh { IfOk result (λ r. All (IsFreshPass cap) r.1.items) }
     {
         let (words, passes) = SharedWords::open(alloc, n, cap, 1)?;
@@ -62,13 +70,22 @@ impl SplitTally {
 
     /// Makes one call of the pass's caller. It takes no memory.
     pub fn make(&self, pass: &mut WordsPass, op: OpWord) -> u64
+        // The pass is one of this tally.
         requires own { IsSplitPass self.now pass.old }
+        // The pass has made fewer calls than it may make.
         requires left { made_with pass.old < cap_of_pass pass.old }
+        // The pass is still one of this tally.
         ensures own { IsSplitPass self.now pass.new }
+        // The pass keeps its caller and how many calls it may make.
         ensures same { (caller_of_pass pass.new ≡ caller_of_pass pass.old) × (cap_of_pass pass.new ≡ cap_of_pass pass.old) }
+        // The pass has this operation and this reply after the calls that it had.
         ensures pairs { pairs_in pass.new ≡ pairs_in pass.old ++ (op, result) ∷ [] }
+        // The accesses that the pass knew are the first of those that it knows.
         ensures history { IsPrefix (history_in pass.old) (history_in pass.new) }
+        // The call loaded the word and then stored one more, maybe with others' accesses between,
+        // and its reply is the word loaded.
         ensures torn { op ≡ increment → IsTorn (caller_of_pass pass.old) result (history_in pass.new) }
+        // The reply is a value exactly to the increment, and else `bad`.
         ensures form { IsTallyReply op result }
     {
         let reply = self.reply(&mut pass.seat, op);

@@ -17,6 +17,8 @@ pub trait Maker<B: BlackBox> {
         script: &Script,
         noise: Noise,
     ) -> Result<(B, Vec<B::Pass>), NoMemory>
+        // There is an unused pass of the object for each caller of the script, in order, with a
+        // call for each of its operations.
         ensures unused { IfOk result (λ r. AreUnusedPasses (B.is_own r.0) B.Pass.caller B.Pass.made
             B.Pass.cap script.now.operations r.1.items) };
 }

@@ -50,6 +50,8 @@ pub fn hunt<R: Threads + Sync, B: BlackBox + Sync + Drop, M: Maker<B>, W: Watch>
 ) -> Result<Hunted, NoMemory>
 where
     B::Pass: Send + Drop,
+    // The settings' workload is one that texts of scripts have room for, with a value and an
+    // operation to draw.
     requires { IsWorkload settings.now.workload }
     ensures { IfOk result (λ hunted. IsHunted B.Pass.made B.Pass.told settings.now hunted) }
 {

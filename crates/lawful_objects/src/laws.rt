@@ -19,13 +19,19 @@ pub fn pairs_have_the_calls()
 /// Each reply of a tally has the form of a tally's replies, and each of a cell that of a cell's.
 #[tactic(auto, using(crate::proofs::Forming::tallies_are_formed, crate::proofs::Forming::cells_are_formed))]
 pub fn replies_are_formed()
+    // Each reply of a tally's calls has the form of a tally's replies: a value exactly to the
+    // increment, and else `bad`.
     ensures tallies { TalliesAreFormed }
+    // Each reply of a cell's calls has the form of a cell's replies: done exactly to a write, a
+    // value exactly to the read, and else `bad`.
     ensures cells { CellsAreFormed }
 {}
 
 /// The word of a tally is the number of its increments modulo 2^64, and that of a cell is the last one stored.
 #[tactic(auto, using(crate::proofs::Counting::tallies_count, crate::proofs::Counting::cells_hold_the_last))]
 pub fn words_are_of_histories()
+    // The word of a tally is the number of its increments modulo 2^64.
     ensures tallies { TalliesCount }
+    // The word of a cell is the last one stored.
     ensures cells { CellsHoldTheLast }
 {}

@@ -28,13 +28,22 @@ impl<M: Machine> LogBox<M> {
     /// Makes one call of the pass's caller: it is appended to the log, and answered from the log up to it. It
     /// takes no memory.
     pub fn make(&self, pass: &mut LogPass, op: OpWord) -> u64
+        // The pass is one of this box.
         requires own { IsPassOf M.reply_to M.has_seen self.now pass.old }
+        // The pass has made fewer calls than it may make.
         requires left { made_with pass.old < cap_of_pass pass.old }
+        // The pass is still one of this box.
         ensures own { IsPassOf M.reply_to M.has_seen self.now pass.new }
+        // The pass keeps its caller and how many calls it may make.
         ensures same { (caller_of_pass pass.new ≡ caller_of_pass pass.old) × (cap_of_pass pass.new ≡ cap_of_pass pass.old) }
+        // The pass has made one call more.
         ensures made { made_with pass.new ≡ made_with pass.old + 1 }
+        // The log that the pass saw is the one that it saw before, then others' calls, and this
+        // call as the last one.
         ensures log { IsAfterCall (caller_of_pass pass.old) op (log_in pass.old) (log_in pass.new) }
+        // The reply is that of the machine to the log up to this call.
         ensures reply { result ≡ M.reply_to (machine_in self.now) (log_in pass.new) }
+        // The pass has this operation and this reply after the calls that it had.
         ensures pairs { pairs_in pass.new ≡ pairs_in pass.old ++ (op, result) ∷ [] }
     {
         let known = pass.seat.log().len();
@@ -81,12 +90,19 @@ impl<M: Machine + Drop> LogBox<M> {
         n: u32,
         cap: u64,
     ) -> Result<(LogBox<M>, Vec<LogPass>), NoMemory>
+        // There is at least one caller.
         requires some_callers { 1 ≤ n }
+        // There are at most `MAX_CALLERS` callers.
         requires few_callers { n ≤ MAX_CALLERS }
+        // Each caller has at least one call.
         requires some_calls { 1 ≤ cap }
+        // Each caller has at most `MAX_CALLS` calls.
         requires few_calls { cap ≤ MAX_CALLS }
+        // The box has this many callers, this cap and this machine.
         ensures log { IfOk result (λ r. (callers_in r.0 ≡ n) × (cap_in r.0 ≡ cap) × (machine_in r.0 ≡ machine)) }
+        // The passes are those of all callers of the box, in order.
         ensures passes { IfOk result (λ r. ArePassesOf M.reply_to M.has_seen r.0 r.1.items) }
+        // Each pass has made no call, and may make as many as the cap.
         ensures fresh { IfOk result (λ r. All (IsFresh cap) r.1.items) }
     {
         let tools = Tools::for_all(alloc, n, cap)?;
@@ -106,9 +122,14 @@ impl<M: Machine + Drop> LogBox<M> {
 
     /// The one log of all calls. The passes of all callers come back, in order. It takes no memory.
     pub fn close(self, passes: Vec<LogPass>) -> Vec<Entry>
+        // The passes are those of all callers of this box, in order.
         requires passes { ArePassesOf M.reply_to M.has_seen self passes.items }
+        // Each entry of the log is a call of one of the box's callers.
         ensures callers { All (λ e. e.caller < callers_in self) result.items }
+        // The log that each pass saw is a prefix of the answered one.
         ensures fronts { All (λ p. BeginsWith result.items (log_in p)) passes.items }
+        // Each pass has the calls of its caller in the log, each with the machine's reply to the
+        // log up to it.
         ensures told { All (λ p. pairs_in p ≡ pairs_of (M.reply_to (machine_in self)) result.items (caller_of_pass p)) passes.items }
     {
         let LogBox { machine: _, log } = self;
@@ -131,17 +152,27 @@ impl<M: Machine> BlackBox for LogBox<M> {
     ghost tells_each = { λ b pass pairs own told. ap (λ (l : List (ℕ × ℕ)). length l) (sym (same_Some (pairs_in pass) pairs told)) ∙ own.count };
 
     fn call(&self, pass: &mut LogPass, announced: &Announced) -> u64
+        // The pass is one of this box.
         requires own { IsPassOf M.reply_to M.has_seen self.now pass.old }
+        // The pass is that of the announced call's caller.
         requires caller { caller_of_pass pass.old ≡ who_announced announced.now }
+        // The pass has made fewer calls than it may make.
         requires left { made_with pass.old < cap_of_pass pass.old }
+        // The pass is still one of this box.
         ensures own { IsPassOf M.reply_to M.has_seen self.now pass.new }
+        // The pass has made one call more.
         ensures made { made_with pass.new ≡ made_with pass.old + 1 }
+        // The pass keeps its caller and how many calls it may make.
         ensures same { (caller_of_pass pass.new ≡ caller_of_pass pass.old)
             × (cap_of_pass pass.new ≡ cap_of_pass pass.old) }
+        // The pass tells one call more, with this operation and this reply.
         ensures told { Some (pairs_in pass.new)
             ≡ told_after (op_announced announced.now) result (Some (pairs_in pass.old)) }
+        // The log that the pass saw is the one that it saw before, then others' calls, and the
+        // announced call as the last one.
         ensures log { IsAfterCall (caller_of_pass pass.old) (op_announced announced.now)
             (log_in pass.old) (log_in pass.new) }
+        // The reply is that of the machine to the log up to this call.
         ensures reply { result ≡ M.reply_to (machine_in self.now) (log_in pass.new) }
     {
         self.make(pass, announced.op())

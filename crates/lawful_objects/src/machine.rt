@@ -19,22 +19,36 @@ pub trait Machine {
     ///
     /// It may use the scratch as it likes: its rooms stay, and what it held before doesn't matter.
     fn answer(&self, log: &[Entry], scratch: &mut Scratch) -> u64
+        // The log has at least one entry.
         requires some { 0 < length log.now }
+        // Each entry of the log is a call of one of the callers that the scratch is for.
         requires callers { All (λ e. e.caller < vec_len scratch.old.waiting) log.now }
+        // Both states of the scratch have room for more words than the log has entries.
         requires room { HasRoom (length log.now) scratch.old }
+        // The answer is the machine's reply to the log.
         ensures reply { result ≡ reply_to self.now log.now }
+        // The scratch keeps its rooms.
         ensures room { KeepsRoom scratch.old scratch.new }
+        // The scratch holds what the machine keeps of the log.
         ensures seen { has_seen self.now log.now scratch.new };
 
     /// The same, where the machine may go on from its last answer: of the first `known` entries the scratch
     /// holds what the machine keeps.
     fn go_on(&self, log: &[Entry], known: usize, scratch: &mut Scratch) -> u64
+        // The log has more entries than the machine has answered.
         requires more { known < length log.now }
+        // Each entry of the log is a call of one of the callers that the scratch is for.
         requires callers { All (λ e. e.caller < vec_len scratch.old.waiting) log.now }
+        // Both states of the scratch have room for more words than the log has entries.
         requires room { HasRoom (length log.now) scratch.old }
+        // The scratch holds what the machine keeps of the first `known` entries, where there are
+        // some.
         requires seen { 0 < known → has_seen self.now (take known log.now) scratch.old }
+        // The answer is the machine's reply to the log.
         ensures reply { result ≡ reply_to self.now log.now }
+        // The scratch keeps its rooms.
         ensures room { KeepsRoom scratch.old scratch.new }
+        // The scratch holds what the machine keeps of the log.
         ensures seen { has_seen self.now log.now scratch.new }
     {
         self.answer(log, scratch)

@@ -21,9 +21,13 @@ impl Scratch {
     /// A scratch for logs of `n` callers with `cap` calls each: both states are empty, with room for one word
     /// more than there are calls, and nothing waits.
     pub fn new(alloc: Global, n: u32, cap: u64) -> Result<Scratch, NoMemory>
+        // There is at least one caller.
         requires some_callers { 1 ≤ n }
+        // There are at most `MAX_CALLERS` callers.
         requires few_callers { n ≤ MAX_CALLERS }
+        // Each caller has at least one call.
         requires some_calls { 1 ≤ cap }
+        // Each caller has at most `MAX_CALLS` calls.
         requires few_calls { cap ≤ MAX_CALLS }
         ensures { IfOk result (IsClear n cap) }
     {

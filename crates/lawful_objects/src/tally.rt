@@ -36,13 +36,21 @@ impl Tally {
 
     /// A tally for `n` callers with `cap` calls each, and a pass for each caller, in order. The count is 0.
     pub fn open(alloc: Global, n: u32, cap: u64) -> Result<(Tally, Vec<WordsPass>), NoMemory>
+        // There is at least one caller.
         requires some_callers { 1 ≤ n }
+        // There are at most `MAX_CALLERS` callers.
         requires few_callers { n ≤ MAX_CALLERS }
+        // Each caller has at least one call.
         requires some_calls { 1 ≤ cap }
+        // Each caller has at most `MAX_CALLS` calls.
         requires few_calls { cap ≤ MAX_CALLS }
+        // The tally has this many callers and this cap.
         ensures tally { IfOk result (λ r. (callers_of r.0.word ≡ n) × (cap_of r.0.word ≡ cap)) }
+        // The passes are those of all callers, in order.
         ensures callers { IfOk result (λ r. map caller_of_pass r.1.items ≡ range_with_len 0 n) }
+        // Each pass is one of this tally.
         ensures own { IfOk result (λ r. All (IsTallyPass r.0) r.1.items) }
+        // Each pass has made no call, and may make as many as the cap.
         ensures fresh { IfOk result (λ r. All (IsFreshPass cap) r.1.items) }
     {
         let (word, passes) = SharedWords::open(alloc, n, cap, 1)?;
@@ -66,13 +74,22 @@ impl Tally {
 
     /// Makes one call of the pass's caller. It takes no memory.
     pub fn make(&self, pass: &mut WordsPass, op: OpWord) -> u64
+        // The pass is one of this tally.
         requires own { IsTallyPass self.now pass.old }
+        // The pass has made fewer calls than it may make.
         requires left { made_with pass.old < cap_of_pass pass.old }
+        // The pass is still one of this tally.
         ensures own { IsTallyPass self.now pass.new }
+        // The pass keeps its caller and how many calls it may make.
         ensures same { (caller_of_pass pass.new ≡ caller_of_pass pass.old) × (cap_of_pass pass.new ≡ cap_of_pass pass.old) }
+        // The pass has this operation and this reply after the calls that it had.
         ensures pairs { pairs_in pass.new ≡ pairs_in pass.old ++ (op, result) ∷ [] }
+        // The reply is a value exactly to the increment, and else `bad`.
         ensures form { IsTallyReply op result }
+        // The accesses that the pass knew are the first of those that it knows.
         ensures history { IsPrefix (history_in pass.old) (history_in pass.new) }
+        // The last access is this increment, and its reply is the number of increments before it,
+        // modulo 2^64.
         ensures counted { op ≡ increment → IsCounted (caller_of_pass pass.old) result (history_in pass.new) }
     {
         let reply = self.reply(&mut pass.seat, op);

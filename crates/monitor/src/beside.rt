@@ -119,19 +119,31 @@ pub fn watch_beside<
     other: u32,
     rounds: u64,
 ) -> (Left, Left)
+    // The bench is one of these rows.
     requires bench { IsBenchOf P.meaning rows.now bench.old }
+    // Each worker is ready for what they share.
     requires ready { All (λ w. W.ready w shared.now) all.old }
+    // The two callers that watch are different ones.
     requires apart { one ≢ other }
+    // The bench holds both callers, free for their next calls.
     requires free { HoldsFree bench.old one × HoldsFree bench.old other }
+    // The bench is still one of these rows.
     ensures bench { IsBenchOf P.meaning rows.now bench.new }
+    // Each worker has done its work.
     ensures done { AllZip (λ w d. W.done w shared.now d) all.old all.new }
+    // The bench has each other caller as before.
     ensures others { (i : ℕ) → i ≢ one → i ≢ other → IsUnmoved bench.old bench.new i }
+    // The one caller is back on the bench, as far with its calls as before, and made its rounds
+    // unless it wanted memory.
     ensures one { (l : Local) → on_bench bench.old one ≡ Some l
         → IsBackFrom (S.init sequential.now) (S.next sequential.now) rows.now.callers
         bench.new one l rounds result.0 }
+    // The other caller is back on the bench, as far with its calls as before, and made its rounds
+    // unless it wanted memory.
     ensures other { (l : Local) → on_bench bench.old other ≡ Some l
         → IsBackFrom (S.init sequential.now) (S.next sequential.now) rows.now.callers
         bench.new other l rounds result.1 }
+    // A caller of whose witness the board took a copy has an own witness.
     ensures placed { (result.0.placed ≡ true → is_some result.0.own ≡ true) × (result.1.placed ≡ true → is_some result.1.own ≡ true) }
 {
     let board = Board::new(alloc);

@@ -10,7 +10,9 @@ pub fn rounds_are_right()
 
 /// What the rounds of a watch found is right of the calls of all callers.
 pub fn rounds_are_judged()
+    // The rounds of a watch are judged rightly by the calls of all callers.
     ensures rounds { RoundsAreJudged }
+    // The own witness that a watch left is a witness of all callers' calls.
     ensures own { OwnIsAWitness }
 {}
 

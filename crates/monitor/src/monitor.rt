@@ -37,11 +37,18 @@ impl<P: Program> Monitor<P> {
 
     /// A monitor that has made no round. It takes no memory.
     pub fn new(caller: Caller<P>, board: &Board) -> Monitor<P>
+        // The caller is idle.
         requires idle { IsIdle (local_with caller) }
+        // The caller makes calls, means to begin no scan, and keeps no reply.
         requires live { stance_of caller ≡ ready }
+        // The monitor is one of each table that the caller is one of.
         ensures monitor { Becomes caller result }
+        // The monitor has this caller.
         ensures caller { caller_of result ≡ caller }
+        // The monitor is one of this board.
         ensures board { IsOn board.now result }
+        // The monitor has no own witness, the board took no copy of one, and the monitor knows no
+        // witness on it.
         ensures nothing { (own_of result ≡ None) × (placed_by result ≡ false) × (known_by result ≡ None) }
     {
         Monitor {
@@ -93,21 +100,38 @@ impl<P: Program> Monitor<P> {
         board: &Board,
         steps: &mut Steps<L>,
     ) -> Result<Round, NoMemory>
+        // The monitor is one of these rows.
         requires rows { IsMonitorOf P.meaning rows.now self.old }
+        // The monitor is one of this board.
         requires board { IsOn board.now self.old }
+        // The monitor has no own witness.
         requires none { own_of self.old ≡ None }
+        // The monitor is still one of these rows and of this board, with the same number.
         ensures later { IsLater P.meaning rows.now board.now self.old self.new }
+        // The monitor's caller has scanned M once.
         ensures scanned { HasScannedSome (local_of self.old) (local_of self.new) }
+        // A round is legal exactly with a book at the cut of its scan that has a legal order, and
+        // illegal exactly with one that has none and is the own witness.
         ensures found { IfOk result (HasFound (S.init object.now) (S.next object.now)
             rows.now.callers (local_of self.old) (local_of self.new) (own_of self.new)) }
+        // A monitor with an own witness knows the witness on the board, which is the one that it
+        // knew before, where it knew one.
         ensures known { IfSome (own_of self.new) (λ w. Knows (known_by self.old) (known_by self.new)) }
+        // The board took a copy of the own witness only where the monitor knew no witness before.
         ensures first { placed_by self.new ≡ true → known_by self.old ≡ None }
+        // After a legal round the monitor keeps its book, at the cut of its scan, and after an
+        // illegal one none.
         ensures kept { IfOk result (λ r. IsKeptAfter rows.now.callers r (kept_by self.new)) }
+        // Without an own witness the monitor knows what it knew of the board.
         ensures unfound { own_of self.new ≡ None → (known_by self.new ≡ known_by self.old)
             × (placed_by self.new ≡ placed_by self.old) }
+        // After want of memory the monitor has no own witness.
         ensures err { OnErr result (own_of self.new ≡ None) }
+        // The counter of steps has risen by what the scan takes, and by the words of the round's
+        // book that the kept one lacks.
         ensures ticks { IfOk result (TicksForRound rows.now.callers (kept_by self.old) (kept_by self.new)
             (own_of self.new) steps.old steps.new) }
+        // The counter of steps isn't lower than before.
         ensures rise { steps.old ≤ steps.new }
     {
         let mut standing = None;
@@ -177,12 +201,21 @@ impl<P: Program> Monitor<P> {
 
     /// The witness on the board, which this monitor knows from then on.
     pub fn known<'a>(&mut self, board: &'a Board) -> Option<&'a Witness>
+        // The monitor is one of this board.
         requires board { IsOn board.now self.old }
+        // The monitor is still one of this board.
         ensures board { IsOn board.now self.new }
+        // The monitor has the same caller.
         ensures caller { caller_of self.new ≡ caller_of self.old }
+        // The monitor's own witness, whether the board took a copy of it, and the book that it
+        // keeps stay.
         ensures findings { (own_of self.new ≡ own_of self.old) × (placed_by self.new ≡ placed_by self.old) × (kept_by self.new ≡ kept_by self.old) }
+        // No witness is answered only where the monitor knows none, before and after.
         ensures none { IfNone result ((known_by self.old ≡ None) × (known_by self.new ≡ None)) }
+        // A witness that is answered is known from then on, and is the one that was known before,
+        // where one was.
         ensures some { IfSome result (λ r. (known_by self.new ≡ Some r.now) × Agrees (known_by self.old) r.now) }
+        // Where the board took a copy of the own witness, that is what is answered.
         ensures placed { placed_by self.old ≡ true → IsSomeAnd result (λ r. own_of self.old ≡ Some r.now) }
     {
         self.claim.known(board)
@@ -190,8 +223,11 @@ impl<P: Program> Monitor<P> {
 
     /// Where both know a witness on their board, it is the same one. It takes no memory.
     pub fn agree(&mut self, other: &mut Monitor<P>)
+        // The two monitors are of one board.
         requires { AreOfOne self.old other.old }
+        // Both monitors stay as they are.
         ensures same { (self.new ≡ self.old) × (other.new ≡ other.old) }
+        // Where both monitors know a witness on their board, they know the same one.
         ensures agree { Agree (known_by self.new) (known_by other.new) }
     {
         self.claim.agree(&mut other.claim);

@@ -20,7 +20,9 @@ impl CasCall {
     /// The call whose operation word this is, where a register with compare-and-swap knows the
     /// word.
     pub fn from_word(word: OpWord) -> Option<CasCall>
+        // A call that is answered is the one with this operation word.
         ensures found { IfSome result (λ call. cas_word call ≡ word) }
+        // None is answered only where a register with compare-and-swap doesn't know the word.
         ensures none { IfNone result (is_known_word CasRegister word ≡ false) }
     {
         if !Kind::CasRegister.known(word) {

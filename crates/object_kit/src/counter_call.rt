@@ -15,7 +15,9 @@ pub enum CounterCall {
 impl CounterCall {
     /// The call whose operation word this is, where a counter knows the word.
     pub fn from_word(word: OpWord) -> Option<CounterCall>
+        // A call that is answered is the one with this operation word.
         ensures found { IfSome result (λ call. counter_word call ≡ word) }
+        // None is answered only where a counter doesn't know the word.
         ensures none { IfNone result (is_known_word Counter word ≡ false) }
     {
         if Kind::Counter.known(word) {

@@ -20,8 +20,11 @@ impl CountingPass {
 
     /// A pass of a caller with which no call was made yet, and `cap` may be.
     pub fn new(caller: u32, cap: u64) -> CountingPass
+        // The pass is this caller's.
         ensures caller { caller_of result ≡ caller }
+        // The pass has made no call.
         ensures none { made_with result ≡ 0 }
+        // The pass may make `cap` calls.
         ensures cap { cap_of result ≡ cap }
     {
         CountingPass {
@@ -33,6 +36,8 @@ impl CountingPass {
 
     /// A pass for each caller of a script, in order, for as many calls as the script gives it.
     pub fn for_script(alloc: Global, script: &Script) -> Result<Vec<CountingPass>, NoMemory>
+        // There is an unused pass for each caller of the script, in order, with a call for each of
+        // its operations.
         ensures unused { IfOk result (λ passes. AreUnusedPasses any_pass caller_of made_with cap_of
             script.now.operations passes.items) }
     {
@@ -45,9 +50,13 @@ impl CountingPass {
 
     /// Counts one call more.
     pub fn count(&mut self)
+        // The pass has made fewer calls than it may make.
         requires left { made_with self.old < cap_of self.old }
+        // The pass has made one call more.
         ensures made { made_with self.new ≡ made_with self.old + 1 }
+        // The pass keeps its caller.
         ensures caller { caller_of self.new ≡ caller_of self.old }
+        // The pass keeps how many calls it may make.
         ensures cap { cap_of self.new ≡ cap_of self.old }
     {
         self.made += 1;

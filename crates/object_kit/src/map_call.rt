@@ -19,7 +19,9 @@ pub enum MapCall {
 impl MapCall {
     /// The call whose operation word this is, where a map knows the word.
     pub fn from_word(word: OpWord) -> Option<MapCall>
+        // A call that is answered is the one with this operation word.
         ensures found { IfSome result (λ call. map_word call ≡ word) }
+        // None is answered only where a map doesn't know the word.
         ensures none { IfNone result (is_known_word Map word ≡ false) }
     {
         if !Kind::Map.known(word) {

@@ -17,7 +17,9 @@ pub enum PqueueCall {
 impl PqueueCall {
     /// The call whose operation word this is, where a priority queue knows the word.
     pub fn from_word(word: OpWord) -> Option<PqueueCall>
+        // A call that is answered is the one with this operation word.
         ensures found { IfSome result (λ call. pqueue_word call ≡ word) }
+        // None is answered only where a priority queue doesn't know the word.
         ensures none { IfNone result (is_known_word Pqueue word ≡ false) }
     {
         if !Kind::Pqueue.known(word) {

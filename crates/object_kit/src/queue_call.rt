@@ -17,7 +17,9 @@ pub enum QueueCall {
 impl QueueCall {
     /// The call whose operation word this is, where a queue knows the word.
     pub fn from_word(word: OpWord) -> Option<QueueCall>
+        // A call that is answered is the one with this operation word.
         ensures found { IfSome result (λ call. queue_word call ≡ word) }
+        // None is answered only where a queue doesn't know the word.
         ensures none { IfNone result (is_known_word Queue word ≡ false) }
     {
         if !Kind::Queue.known(word) {

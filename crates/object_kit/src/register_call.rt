@@ -17,7 +17,9 @@ pub enum RegisterCall {
 impl RegisterCall {
     /// The call whose operation word this is, where a register knows the word.
     pub fn from_word(word: OpWord) -> Option<RegisterCall>
+        // A call that is answered is the one with this operation word.
         ensures found { IfSome result (λ call. register_word call ≡ word) }
+        // None is answered only where a register doesn't know the word.
         ensures none { IfNone result (is_known_word Register word ≡ false) }
     {
         if !Kind::Register.known(word) {

@@ -18,7 +18,9 @@ pub enum SetCall {
 impl SetCall {
     /// The call whose operation word this is, where a set knows the word.
     pub fn from_word(word: OpWord) -> Option<SetCall>
+        // A call that is answered is the one with this operation word.
         ensures found { IfSome result (λ call. set_word call ≡ word) }
+        // None is answered only where a set doesn't know the word.
         ensures none { IfNone result (is_known_word IntSet word ≡ false) }
     {
         if !Kind::IntSet.known(word) {

@@ -17,7 +17,9 @@ pub enum StackCall {
 impl StackCall {
     /// The call whose operation word this is, where a stack knows the word.
     pub fn from_word(word: OpWord) -> Option<StackCall>
+        // A call that is answered is the one with this operation word.
         ensures found { IfSome result (λ call. stack_word call ≡ word) }
+        // None is answered only where a stack doesn't know the word.
         ensures none { IfNone result (is_known_word Stack word ≡ false) }
     {
         if !Kind::Stack.known(word) {

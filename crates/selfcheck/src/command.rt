@@ -39,7 +39,9 @@ impl Command {
     /// The command that the words name: those behind the program's name. Words that can't be those of a
     /// command are answered before clap reads them.
     pub fn from_words(alloc: Global, words: &[String]) -> Result<Option<Command>, NoMemory>
+        // The answered command is the one that the words name, and None where they name none.
         ensures command { IfOk result (λ command. command ≡ command_of words.now) }
+        // Words that can't be those of a command are answered None without want of memory.
         ensures unparsed { ¬ IsTrue (is_parsed words.now)
             → IsOkAnd result (λ command. command ≡ None) }
     {

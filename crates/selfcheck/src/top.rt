@@ -94,8 +94,10 @@ pub fn selfcheck<R: Threads + Sync, S: Source, K: Sink>(
     // Words that aren't right are answered whatever the input, and those that can be seen at once whatever the memory.
     ensures usage { IsNone (command_of words.now) →
         (result ≡ Status.Usage) ⊎ (result ≡ Status.WriteFault) ⊎ (result ≡ Status.NoMemory) }
+    // Words that can't be those of a command are answered `Usage` or `WriteFault`.
     ensures unparsed { ¬ IsTrue (is_parsed words.now) →
         (result ≡ Status.Usage) ⊎ (result ≡ Status.WriteFault) }
+    // The source stays unread where the words name no command that reads one.
     ensures unread { ¬ IsSomeAnd (command_of words.now) (λ command. IsTrue (reads_source command)) → source.new ≡ source.old }
 
     // Where all outputs for the bytes have one status, it is the answer, faults and want of memory aside.
@@ -107,6 +109,7 @@ pub fn selfcheck<R: Threads + Sync, S: Source, K: Sink>(
     ensures right { (command : Command) (held : List ℕ) → command_of words.now ≡ Some command →
         S.left source.old ≡ Some held → IsTaken command (input_of command held) →
         RunsInside command (input_of command held) → (result ≡ Status.Fine) ⊎ IsUnfinished result }
+    // A soak is `Fine`, failed reads and writes and want of memory aside.
     ensures soak { (number : ℕ) → command_of words.now ≡ Some (Command.Soak number) →
         (result ≡ Status.Fine) ⊎ IsUnfinished result }
 
@@ -118,11 +121,17 @@ pub fn selfcheck<R: Threads + Sync, S: Source, K: Sink>(
 
     // A fault has its cause in a count that rose in this call, and every other answer comes where none rose.
     ensures read_fault { result ≡ Status.ReadFault → Rose (S.faults source.old) (S.faults source.new) }
+    // An answer `WriteFault` comes only where the sink's count of faults rose in this call.
     ensures write_fault { result ≡ Status.WriteFault → Rose (K.faults sink.old) (K.faults sink.new) }
+    // An answer other than `ReadFault` left the source's count of faults.
     ensures read_calm { ¬ (result ≡ Status.ReadFault) → S.faults source.new ≡ S.faults source.old }
+    // An answer other than `WriteFault` left the sink's count of faults.
     ensures write_calm { ¬ (result ≡ Status.WriteFault) → K.faults sink.new ≡ K.faults sink.old }
+    // An answer `ReadFault` or `NoMemory` comes only where nothing was written.
     ensures unwritten { (result ≡ Status.ReadFault) ⊎ (result ≡ Status.NoMemory) → sink.new ≡ sink.old }
+    // The source's count of faults isn't lower than before.
     ensures source_later { S.faults source.old ≤ S.faults source.new }
+    // The sink's count of faults isn't lower than before.
     ensures sink_later { K.faults sink.old ≤ K.faults sink.new }
 {
     let named = match Command::from_words(alloc, words) {

@@ -27,6 +27,7 @@ pub trait Work<C>: Send {
 /// All have worked when it returns.
 #[cycle(halves)]
 pub fn work_all<R: Threads + Sync, C: Sync, W: Work<C>>(rt: &R, shared: &C, all: &mut [W])
+    // Each worker is ready for what they share.
     requires { All (λ w. W.ready w shared.now) all.old }
     ensures { AllZip (λ before after. W.done before shared.now after) all.old all.new }
 {
@@ -76,11 +77,17 @@ pub fn work_with_two<R: Threads + Sync, C: Sync, W: Work<C>, D: Sync, V: Work<D>
     one: &mut V,
     other: &mut V,
 )
+    // Each worker is ready for what they share.
     requires all { All (λ w. W.ready w shared.now) all.old }
+    // Both workers beside them are ready for what these two share.
     requires one { V.ready one.old aside.now }
+    // Both workers beside them are ready for what these two share.
     requires other { V.ready other.old aside.now }
+    // Each worker has done its work.
     ensures all { AllZip (λ before after. W.done before shared.now after) all.old all.new }
+    // The one worker beside them has done its work.
     ensures one { V.done one.old aside.now one.new }
+    // The other worker beside them has done its work.
     ensures other { V.done other.old aside.now other.new }
 {
     let mut list = ||
