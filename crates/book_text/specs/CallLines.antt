@@ -74,7 +74,7 @@ IsNoView Second n words = LacksViewWord words ⊎ ((behind : List (List ℕ)) ×
 -- A line for this call, in a text of so many callers, fails a test that needs no other view. After a gap, an unanswered call
 -- of the same caller, a call is unanswered.
 abbrev pub EntryFails : Version → Operations → ℕ → Bool → Call → List (List ℕ) → What → Type 0
--- it doesn't begin with the caller and the number that are due
+-- the line doesn't begin with the caller and the number that are due
 EntryFails version operations n gap call words what.Place = (behind : List (List ℕ)) → words ≢ place_words call ++ behind
 -- the next words are no operation
 EntryFails version operations n gap call words what.Op = (behind : List (List ℕ)) × (words ≡ place_words call ++ behind)
@@ -106,7 +106,7 @@ MayRefuse tests.TooManyCalls = ⊥
 MayRefuse tests.NoSuchCall = ⊥
 MayRefuse _ = Unit {0}
 
--- the call is unanswered, and so is each later one of its caller
+-- neither the call nor a later one of its caller is answered
 abbrev pub IsUnanswered : List Page → Call → Type 0
 IsUnanswered book call = answers_of book call.caller ≤ call.number
 

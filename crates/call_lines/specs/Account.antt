@@ -66,7 +66,7 @@ SeenCutsAreOfTheLastCall =
     (l m : Local) (cut : List ℕ) → HasPhase l → l.phase ≡ Judging
     → account_of m ≡ record (account_of l) { seen = l.seen ++ cut ∷ [] } → progress_of m ≡ after_seeing cut (progress_of l)
 
--- So it is at an announcement, at an object step and at a publication.
+-- An announcement is one more call of its caller, with the staged operation.
 abbrev pub AnnouncementsAreCalls : Type 0
 AnnouncementsAreCalls =
     (n : ℕ) (l : Local) → HasPhase l → l.phase ≡ Announcing → progress_of (local_after n l Announce) ≡ after_announcing (staged_operation l.staged) (progress_of l)

@@ -46,7 +46,7 @@ second = answer 61 (1 ∷ 1 ∷ 0 ∷ [])
 abbrev pub third : Record
 third = answer 80 (1 ∷ 1 ∷ 1 ∷ [])
 
--- Their lines.
+-- The lines of the three callers.
 abbrev pub worked_lines : List (List Line)
 worked_lines =
     (delivered 5 first (1 ∷ 0 ∷ 0 ∷ []) ∷ pending 7 ∷ [])
@@ -77,7 +77,7 @@ worked_book = page (5 ∷ 7 ∷ []) (first ∷ []) ∷ page (6 ∷ []) (second �
 abbrev pub seen_by_second : List ℕ → List (List Line)
 seen_by_second cut = (delivered 5 first (1 ∷ 0 ∷ 0 ∷ []) ∷ pending 7 ∷ []) ∷ (delivered 6 second cut ∷ []) ∷ (unchecked 8 third ∷ []) ∷ []
 
--- Its line as an error, with another seen cut.
+-- The second caller's line as an error, with another seen cut.
 abbrev pub failed_by_second : List ℕ → List (List Line)
 failed_by_second cut = (delivered 5 first (1 ∷ 0 ∷ 0 ∷ []) ∷ pending 7 ∷ []) ∷ (failed 6 second cut ∷ []) ∷ (unchecked 8 third ∷ []) ∷ []
 

@@ -23,7 +23,7 @@ module _ {P T E : Type 0} where
   abbrev pub phases_by : Client P T E → ℕ
   phases_by c = phases_at (length c.sheet.lines.items) c.stand
 
-  -- So it is of a client.
+  -- A client has spent an allotment: it has made all its phases, or was halted before.
   abbrev pub HasSpent : ℕ → Client P T E → Type 0
   HasSpent allotment c = Spent allotment (length c.sheet.lines.items) c.stand
 
@@ -36,7 +36,7 @@ module _ {P T E : Type 0} where
     pub fits_caller : FitsCaller fits c.pass (caller_at c.stand)
     pub counts : Counts (count c.pass) c.sheet.operations.now c.stand c.sheet.lines.items
 
-  -- There is a row and a line for each operation.
+  -- A client has a row and capacity for a line for each of its operations.
   pub record HasRoom (r : Rows P) (c : Client P T E) : Type 0 where
     pub rows : length c.sheet.operations.now ≤ r.cap
     pub lines : length c.sheet.operations.now ≤ vec_capacity c.sheet.lines

@@ -17,7 +17,7 @@ use Rattle.call_phases.specs.Stands.{caller_at, local_at_stand, phases_at, under
 use Rattle.call_phases.specs.declared.stand.Stand.{Stand}
 use Rattle.call_phases.specs.declared.stand.Stand.TheVariants.{Answered, Halted}
 
--- These lines end with an error, the only one.
+-- The lines end with an error, and have no other one.
 pub record EndsInError (own : List Line) : Type 0 where
   pub before : List Line
   pub line : Line
@@ -48,7 +48,7 @@ module _ {P : Type 0} where
   EndsAnswered (Answered a) pairs = (front : List (ℕ × ℕ)) × (pairs ≡ front ++ (op_answered a, reply_answered a) ∷ [])
   EndsAnswered _ pairs = Unit {0}
 
-  -- These pairs are told of the calls up to there.
+  -- The pairs are what an object tells of a client's calls up to this stand.
   pub record HasTold (s : Stand P) (own : List Line) (pairs : List (ℕ × ℕ)) : Type 0 where
     pub told : IsTold (phases_at (length own) s) (calls_in (local_at_stand s)) pairs
     pub last : EndsAnswered s pairs
@@ -64,6 +64,7 @@ module _ {P : Type 0} where
     pub asked : HasAskedFor count.made count.told s own
     pub has_room : length operations ≤ count.room
 
-  -- So it is of a pass that counts.
+  -- A pass that counts its calls has come along with them, and has a call for each of these
+  -- operations.
   abbrev pub Counts : Option PassCount → List ℕ → Stand P → List Line → Type 0
   Counts count operations s own = IfSome count (HasCounted operations s own)

@@ -54,7 +54,8 @@ module _ {P : Type 0} where
   FitsError (Halts c end) = (op : ℕ) → is_error (record { op = op; end = end }) ≡ true
   FitsError (WantsMemory u) = Unit {0}
 
-  -- This is said of the record and the seen cut of the call; where memory was wanted nothing is said, and they are handed back.
+  -- What an ending says is said of the record and the seen cut of the call; where memory was wanted
+  -- nothing is said, and they are handed back.
   abbrev pub SaysOf : (Local → Record → List ℕ → LineEnd → Type 0) → Record → List ℕ → Ended P → Type 0
   SaysOf says r cut (GoesOn c end) = says (local_with c) r cut end
   SaysOf says r cut (Halts c end) = says (local_with c) r cut end
@@ -83,6 +84,6 @@ module _ {P : Type 0} where
     pub error : FitsError e
     pub says_of : SaysOf (says r.callers) (record_published p) cut e
 
-  -- So it has ended, and its line is noted, where it has one.
+  -- A published call has ended in some way, and its line is noted, where it has one.
   abbrev pub Ends : (P → ℕ → ℕ → Meaning) → Rows P → (ℕ → Local → Record → List ℕ → LineEnd → Type 0) → Published P → ℕ → List Line → List Line → Stand P → Type 0
   Ends meaning r says p op own own' s = (e : Ended P) × HasEnded meaning r says p e × IsNoted op own e own' s

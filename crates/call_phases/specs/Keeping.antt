@@ -10,6 +10,6 @@ use Rattle.call_phases.specs.declared.sheet.Sheet.{Sheet}
 abbrev pub StandsBy : Sequential → Option Gathered → Option Standing → Type 0
 StandsBy object gathered standing = StandsIn object.init object.next gathered standing
 
--- So it is on the sheet of a client.
+-- What a client's sheet keeps of an order stands for a sequential object in the book that it keeps.
 abbrev pub KeepsStanding : {E : Type 0} → Sequential → Sheet E → Type 0
 KeepsStanding object sheet = StandsBy object sheet.gathered sheet.standing

@@ -5,7 +5,8 @@ use Rattle.call_lines.specs.declared.line.Line.{Line}
 use Rattle.call_lines.specs.Workers.{HasWorked}
 use Rattle.call_phases.specs.Ends.{Sequential, SaysJudged, HasLeft}
 
--- It is what a worker leaves: so the lines of all such clients are a lawful report.
+-- What a client with a judging ending leaves is what a worker leaves, so that the lines of all such
+-- clients are a lawful report.
 abbrev pub JudgingClientsHaveWorked : Type 0
 JudgingClientsHaveWorked =
     (object : Sequential) (n : ℕ) (operations : List ℕ) (allotment : ℕ) (l : Local) (own : List Line)

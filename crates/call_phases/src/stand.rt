@@ -13,7 +13,7 @@ pub enum Stand<P = Outside> {
     Announced(Announced<P>),
     /// The object has answered it.
     Answered(Answered<P>),
-    /// It has its view, so its record.
+    /// The call has its view, and so its record.
     Viewed(Viewed<P>),
     /// The record is published.
     Published(Published<P>),

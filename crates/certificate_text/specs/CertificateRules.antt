@@ -39,7 +39,7 @@ pub record IsPlaceLine (words : List (List ℕ)) (place : Place) : Type 0 where
 
 -- the tests of a line behind the title of the order
 abbrev pub PlaceFails : List (List ℕ) → What → Type 0
--- it isn't the end, and doesn't begin with a caller and a number
+-- the line isn't the end, and doesn't begin with a caller and a number
 PlaceFails words what.Place = (words ≢ end_words) × ((call : Call) (behind : List (List ℕ)) → IsNamed call → words ≢ place_words call ++ behind)
 -- the words behind a caller and a number aren't exactly one reply
 PlaceFails words what.Reply = (call : Call) × (behind : List (List ℕ)) × IsNamed call × (words ≡ place_words call ++ behind)

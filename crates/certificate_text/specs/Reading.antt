@@ -30,7 +30,7 @@ IsBookRead text kind book left = Goes nothing_read text (OrderDue kind book) lef
 abbrev pub IsBookEnd : Unread → Unread → Type 0
 IsBookEnd text left = (kind : Kind) (book : List Page) → Goes (InBook (InCalls kind book [])) text (OrderDue kind book) left
 
--- it doesn't
+-- the fault is the first of a text that is to begin with the end of a book whose calls are read
 abbrev pub IsNoBookEnd : Unread → TextFault → Type 0
 IsNoBookEnd text fault = (kind : Kind) (book : List Page) → IsFirstFault certificate_rules (InBook (InCalls kind book [])) text fault
 
@@ -40,7 +40,7 @@ IsNoBookEnd text fault = (kind : Kind) (book : List Page) → IsFirstFault certi
 abbrev pub IsTitle : Unread → Unread → Type 0
 IsTitle text left = (kind : Kind) (book : List Page) → Goes (OrderDue kind book) text (InPlaces kind book []) left
 
--- it doesn't
+-- the fault is the first of a text that is to begin with the title of the order
 abbrev pub IsNoTitle : Unread → TextFault → Type 0
 IsNoTitle text fault = (kind : Kind) (book : List Page) → IsFirstFault certificate_rules (OrderDue kind book) text fault
 

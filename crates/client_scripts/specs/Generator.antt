@@ -11,7 +11,7 @@ use Rattle.client_scripts.specs.Plans.{Plan}
 abbrev pub value_of : ℕ → ℕ → ℕ → ℕ
 value_of number caller k = (number % 2 ^ 20) * 4096 + caller * 256 + k
 
--- the operation of an entry with these arguments, of which those that it doesn't take are 0
+-- the operation of an entry with these arguments, of which those are 0 that the entry doesn't take
 abbrev pub operation : Entry → ℕ → ℕ → ℕ
 operation entry argument extra = word_of entry.code argument extra
 

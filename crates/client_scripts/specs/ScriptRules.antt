@@ -91,7 +91,7 @@ pub record IsCallLine (version : Version) (kind : Kind) (call : Call) (words : L
 
 -- the tests of the line of a call
 abbrev pub CallFails : Version → Kind → Call → List (List ℕ) → What → Type 0
--- it doesn't begin with the caller and the number that are due
+-- the line doesn't begin with the caller and the number that are due
 CallFails version kind call words what.Place = (behind : List (List ℕ)) → words ≢ place_words call ++ behind
 -- the words behind them are no operation, and nothing more
 CallFails version kind call words what.Op = (behind : List (List ℕ)) × (words ≡ place_words call ++ behind) × ((op : ℕ) → op < word_limit version → behind ≢ operation_words kind op)
@@ -133,9 +133,9 @@ TailPasses kind begun words after =
 
 -- the tests of the lines behind the calls
 abbrev pub TailFails : Begun → List (List ℕ) → What → Type 0
--- it begins with the word 'stop', and is no line of a stop
+-- the line begins with the word 'stop', and is no line of a stop
 TailFails begun words what.Stop = (behind : List (List ℕ)) × BeginsAsStop words behind × ((caller phases : ℕ) → ¬ (IsStopLine begun words caller phases))
--- it doesn't begin with that word, and is no line of turns
+-- the line doesn't begin with the word 'stop', and is no line of turns
 TailFails begun words what.Turns = ((behind : List (List ℕ)) → ¬ (BeginsAsStop words behind)) × ((turns : List ℕ) → ¬ (IsTurnsLine (length begun.calls) words turns))
 TailFails begun words _ = ⊥
 

@@ -28,7 +28,8 @@ abbrev pub ScansAddTheirCut : Type 0
 ScansAddTheirCut =
     (n : ℕ) (region : Region) (opening : Opening) (cut : List ℕ) (before after : Local) → HasScanned n region opening cut before after → AddsCut region cut before after
 
--- It leaves the calls of its caller as they are, but that the view's scan hands over the reply with which it begins.
+-- A scan leaves the calls of its caller as they are, but that the view's scan hands over the reply
+-- with which it begins.
 abbrev pub ScansLeaveWork : Type 0
 ScansLeaveWork =
     (n : ℕ) (region : Region) (opening : Opening) (cut : List ℕ) (before after : Local) → HasScanned n region opening cut before after

@@ -29,7 +29,7 @@ found_from n region taken found (x ∷ words) = found_from n region (taken ++ x 
 abbrev pub found_by : ℕ → Region → List ℕ → Found
 found_by n region taken = found_from n region [] (record { looks = []; peeks = [] }) taken
 
--- The scan that begins so is the view's.
+-- Whether a scan with this opening is the view's: whether it begins with a reply.
 abbrev pub is_view_opening : Opening → Bool
 is_view_opening (Begins_view reply) = true
 is_view_opening _ = false

@@ -20,7 +20,8 @@ with_steps l steps = record l { object_steps = slice_set l.object_steps l.publis
 abbrev pub after_steps : List Object_step → Progress → Progress
 after_steps steps progress = record progress { steps = progress.steps ++ steps }
 
--- There is one pass for each of n callers, in order, and each fits its caller, this n and this cap, and no object steps.
+-- The passes are one for each of n callers, in order, and each fits its caller, this n and this
+-- cap, and no object steps.
 pub record ArePassesFor {A : Type 0} (fits : A → ℕ → ℕ → ℕ → List Object_step → Type 0) (n cap : ℕ) (passes : List A) : Type 0 where
   pub count : length passes ≡ n
   pub fit : (i : ℕ) (pass : A) → slice_get passes i ≡ Some pass → fits pass i n cap []

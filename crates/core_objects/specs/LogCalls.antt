@@ -12,13 +12,14 @@ use Rattle.drv_wrapper.specs.States.{caller_announced, who_announced, number_ann
 use Rattle.log_program.specs.LogWords.{number_of, low_place, high_place, ticket_place, ticket_of, known, placed_at, known_operation, known_log}
 use Rattle.core_objects.specs.CoreObjects.{with_steps, after_steps}
 
--- These are the tickets of the first places of a log, as some steps show, and the steps show nothing of the places after them.
+-- The tickets are those of the first places of a log, as some steps show, and the steps show
+-- nothing of the places after them.
 pub record KnowsTickets (total : ℕ) (tickets : List ℕ) (steps : List Object_step) : Type 0 where
   pub few : length tickets ≤ total
   pub filled : (q ticket : ℕ) → slice_get tickets q ≡ Some ticket → (known (ticket_place total q) steps ≡ Some ticket) × (0 < ticket)
   pub free : (q : ℕ) → length tickets ≤ q → known (ticket_place total q) steps ≡ None
 
--- These are the operations of the first tickets of a log, as some steps show.
+-- The operations are those of the first tickets of a log, as some steps show.
 abbrev pub KnowsOperations : ℕ → List ℕ → List Object_step → Type 0
 KnowsOperations total log steps = known_log total steps (length log) ≡ Some log
 

@@ -5,11 +5,12 @@ use Rattle.row_table.specs.declared.caller.Caller.{Caller}
 use Rattle.row_table.specs.Benches.{fresh_stance}
 use Rattle.row_table.specs.Callers.{who_of, local_with, stance_of, StaysWith}
 
--- It makes calls, means to begin no scan, and keeps no reply.
+-- The stance of a caller that makes calls, means to begin no scan, and keeps no reply.
 abbrev pub ready : Stance
 ready = fresh_stance
 
--- The same, but that it keeps a reply of the object.
+-- The stance of a caller that makes calls, means to begin no scan, and keeps this reply of the
+-- object.
 abbrev pub replied : ℕ → Stance
 replied reply = record fresh_stance { reply = Some reply }
 

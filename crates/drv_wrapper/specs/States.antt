@@ -56,6 +56,6 @@ module _ {P : Type 0} where
   abbrev pub view_viewed : Viewed P → List ℕ
   view_viewed v = v.view
 
-  -- Its record: the reply and the view.
+  -- The record of a call that has its view: the reply and the view.
   abbrev pub record_viewed : Viewed P → Record
   record_viewed v = record { reply = v.reply; view = v.view }

@@ -111,7 +111,7 @@ other_caller caller = 1 - caller
 abbrev pub most_loads : ℕ
 most_loads = 100000000
 
--- So many loads of a flag, none of which found it up.
+-- A caller has loaded a flag as often as this count says, and found it up at none of these loads.
 pub record IsMissed (flag count : ℕ) (before after : List Deed) : Type 0 where
   pub found : List ℕ
   pub many : length found ≡ count

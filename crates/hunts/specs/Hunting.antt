@@ -23,7 +23,7 @@ module _ {T : Type 0} (made : T → ℕ) (told : T → Option (List (ℕ × ℕ)
     pub lawful : IsLawful (kind_init plan.kind) (kind_next plan.kind) (outside_shape (length plan.operations)) plan.operations (run_allotments plan) findings.lines
     pub told_in : AreInOrder (IsToldIn made told (run_allotments plan) findings) passes
 
-  -- So it was by some passes.
+  -- A run of the plan was made by some passes, and has these findings.
   abbrev pub IsMade : Plan → Findings → Type 0
   IsMade plan findings = (passes : List T) × IsRun plan passes findings
 

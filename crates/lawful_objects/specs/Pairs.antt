@@ -13,6 +13,6 @@ pairs_behind answer i front (e ∷ rest) =
 abbrev pub pairs_of : (List Entry → ℕ) → List Entry → ℕ → List (ℕ × ℕ)
 pairs_of answer log i = pairs_behind answer i [] log
 
--- Their operations are those of the caller's entries.
+-- The operations of a caller's pairs are those of its entries in the log.
 abbrev pub PairsHaveTheCalls : Type 0
 PairsHaveTheCalls = (answer : List Entry → ℕ) (log : List Entry) (i : ℕ) → map (λ pair. pair.0) (pairs_of answer log i) ≡ calls_by i log

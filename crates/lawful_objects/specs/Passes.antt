@@ -59,7 +59,7 @@ module _ {M : Type 0} where
     pub waiting : vec_len p.tools.scratch.waiting ≡ callers_in b
     pub seen : 0 < length (log_in p) → has_seen (machine_in b) (log_in p) p.tools.scratch
 
-  -- These are the passes of all callers of a box, in order.
+  -- The passes are those of all callers of a box, in order.
   pub record ArePassesOf (reply_to : M → List Entry → ℕ) (has_seen : M → List Entry → Scratch → Type 0) (b : LogBox M) (passes : List LogPass) : Type 0 where
     pub callers : map caller_of_pass passes ≡ range_with_len 0 (callers_in b)
     pub each : All (IsPassOf reply_to has_seen b) passes

@@ -13,7 +13,8 @@ last_reply next list [] = 0
 last_reply next list (e ∷ []) = (next list e.op).1
 last_reply next list (e ∷ d ∷ log) = last_reply next (next list e.op).0 (d ∷ log)
 
--- It is the reply to that operation at the list that the operations before it leave.
+-- The reply to the last operation of a log is that at the list which the operations before it
+-- leave.
 abbrev pub LastReplyIsNext : Type 0
 LastReplyIsNext =
     (next : List ℕ → ℕ → List ℕ × ℕ) (list : List ℕ) (before : List Entry) (e : Entry) → last_reply next list (before ++ e ∷ []) ≡ (next (list_after next list before) e.op).1

@@ -46,7 +46,8 @@ pub record TicksForBook (n : ℕ) (before : Option Gathered) (g : Gathered) (tic
   pub few : scan ≤ most_words n
   pub new : TicksForNew n before g (ticks + scan) ticks'
 
--- So it is with the book of this round, which is kept after a legal one, and is the own witness after an illegal one.
+-- The counter ticked for a round's scan and for its book, which is kept after a legal round, and is
+-- the own witness after an illegal one.
 abbrev pub TicksForRound : ℕ → Option Gathered → Option Gathered → Option Witness → ℕ → ℕ → Round → Type 0
 TicksForRound n before kept own ticks ticks' (Legal cut) = IfSome kept (λ g. TicksForBook n before g ticks ticks')
 TicksForRound n before kept own ticks ticks' (Illegal cut) =

@@ -39,8 +39,9 @@ RoundsAreRight =
     (init : List ℕ) (next : List ℕ → ℕ → List ℕ × ℕ) (s : Shape) (locals : List Local) (i : ℕ) (l m : Local) (own : Option Witness) (round : Round)
     → AreTogether s locals → i < s.callers → Grows m (local_at locals i) → HasFound init next s.callers l m own round → IsRightRound init next locals own round
 
--- These are the cuts of at most a number of rounds over the calls of this book. A scan of M gave each; at each cut but the last the
--- book has a legal order; and either there are as many cuts as that, or the book at the last one has none.
+-- The cuts are those of at most a number of rounds over the calls of this book. A scan of M gave
+-- each; at each cut but the last the book has a legal order; and either there are as many cuts as
+-- that, or the book at the last one has no legal order.
 pub record AreJudgedRounds (init : List ℕ) (next : List ℕ → ℕ → List ℕ × ℕ) (book : List Page) (most : ℕ) (rounds : List Given) : Type 0 where
   pub few : length rounds ≤ most
   pub regions : (k : ℕ) (given : Given) → slice_get rounds k ≡ Some given → given.region ≡ M

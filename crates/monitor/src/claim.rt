@@ -53,7 +53,7 @@ impl Claim {
         Ok(())
     }
 
-    /// Its own witness, where it has found one.
+    /// The own witness of a monitor, where it has found one.
     pub fn own(&self) -> Option<&Witness>
         ensures { MatchOption result (own_in self.now ≡ None) (λ r. own_in self.now ≡ Some r.now) }
     {

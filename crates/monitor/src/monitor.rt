@@ -185,7 +185,7 @@ impl<P: Program> Monitor<P> {
         }
     }
 
-    /// Its own witness, where a round was illegal.
+    /// The monitor's own witness, where its last round was illegal.
     pub fn own(&self) -> Option<&Witness>
         ensures { MatchOption result (own_of self.now ≡ None) (λ r. own_of self.now ≡ Some r.now) }
     {

@@ -5,6 +5,6 @@ use book_base::Cut;
 pub enum Round {
     /// The book at the cut has a legal order.
     Legal(Cut),
-    /// It has none.
+    /// The book at the cut has no legal order.
     Illegal(Cut),
 }

@@ -7,11 +7,11 @@ use book_base::OpWord;
 /// What an operation does to what an object holds.
 #[derive(Clone, Copy, Debug, PartialEq, Eq)]
 pub enum Role {
-    /// It puts a value in.
+    /// The operation puts a value in.
     Put(u64),
-    /// It takes a value out, if there is one.
+    /// The operation takes a value out, if there is one.
     Take,
-    /// It does neither.
+    /// The operation neither puts a value in nor takes one out.
     Other,
 }
 

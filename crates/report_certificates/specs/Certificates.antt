@@ -23,7 +23,8 @@ delivered_cut_of lines = delivered_cut (length lines) lines
 abbrev pub IsDeliveredBook : List (List Line) → List Page → Type 0
 IsDeliveredBook lines book = IsBookAt (book_of_lines lines) (delivered_cut_of lines) book
 
--- That book has a legal order, for the sequential object that begins with init and goes on by next.
+-- The book of what was delivered has a legal order, for the sequential object with this first list
+-- and this transition function.
 abbrev pub HasDeliveredOrder : (init : List ℕ) → (next : List ℕ → ℕ → List ℕ × ℕ) → List (List Line) → Type 0
 HasDeliveredOrder init next lines = (book : List Page) × IsDeliveredBook lines book × HasLegalOrder init next book
 

@@ -131,7 +131,7 @@ IsMisfit counts lines call line _ = ⊥
 abbrev pub AlwaysFits : List ℕ → List ℕ → Call → ℕ → Line → Type 0
 AlwaysFits limits seen call count line = (counts : List ℕ) (lines : List (List Line)) → AreLimits counts lines limits → AreSeenCounts (length counts) lines seen → slice_index counts call.caller ≡ count → FitsOthers counts lines call line
 
--- this is the first test that it fails, beside all lines that come to these cuts
+-- this is the first test that a line fails, beside all lines that come to these cuts
 abbrev pub IsAlwaysMisfit : List ℕ → List ℕ → Call → ℕ → Line → What → Type 0
 IsAlwaysMisfit limits seen call count line name = (counts : List ℕ) (lines : List (List Line)) → AreLimits counts lines limits → AreSeenCounts (length counts) lines seen → slice_index counts call.caller ≡ count → IsMisfit counts lines call line name
 

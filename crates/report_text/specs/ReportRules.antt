@@ -114,7 +114,7 @@ pub record Fits (counts : List ℕ) (told : List Line) (call : Call) (line : Lin
 
 -- A line for this call fails a test, behind lines that say these.
 abbrev pub LineFails : Kind → List ℕ → List Line → Call → List (List ℕ) → What → Type 0
--- it doesn't begin with the caller and the number that are due
+-- the line doesn't begin with the caller and the number that are due
 LineFails kind counts told call words what.Place = (behind : List (List ℕ)) → words ≢ place_words call ++ behind
 -- the next words are no operation
 LineFails kind counts told call words what.Op = (behind : List (List ℕ)) × (words ≡ place_words call ++ behind)
@@ -134,9 +134,9 @@ LineFails kind counts told call words what.Seen =
     × (HasBadPair (length counts) 0 pairs ⊎ HasWordBehindPairs pairs))
     ⊎ (((line : Line) × (cut : List ℕ) × SaysLine kind (length counts) call words line × (seen_in line.end ≡ Some cut) × IsWrongCut counts (grouped counts told) call cut)
     ⊎ ((line : Line) × SaysLine kind (length counts) call words line × (line.end ≡ Pending) × IsSeenBefore (grouped counts told) call))
--- it isn't delivered, and its caller has a further line
+-- the line isn't delivered, and its caller has a further one
 LineFails kind counts told call words what.Last = (line : Line) × SaysLine kind (length counts) call words line × EndsTooEarly counts call line
--- it has a view that the book of the lines before it refuses
+-- the line has a view that the book of the lines before it refuses
 LineFails kind counts told call words name = (view : List ℕ) × (behind : List (List ℕ)) × (fault : BookFault) × IsBehindView kind (length counts) call words view behind
     × (view_test fault ≡ Some name) × FailsTest (book_so_far counts told) call.caller view fault
 

@@ -27,7 +27,7 @@ behind_unchecked = (unchecked 5 (answer 50 (1 ∷ [])) ∷ pending 7 ∷ []) ∷
 abbrev pub behind_error : List (List Line)
 behind_error = (failed 5 (answer 50 (1 ∷ [])) (1 ∷ []) ∷ pending 7 ∷ []) ∷ []
 
--- Its call saw a cut without itself; one of two callers; and one with a record more than there are.
+-- The only caller's call saw a cut that lacks the call itself.
 abbrev pub own_unseen : List (List Line)
 own_unseen = (delivered 5 (answer 50 (1 ∷ [])) (0 ∷ []) ∷ []) ∷ []
 

@@ -7,14 +7,14 @@ use Rattle.call_lines.specs.declared.line.Line.{Line}
 use Rattle.call_lines.specs.Lines.{any_error}
 use Rattle.reports.specs.Findings.{IsFirstError, HasFirstError, IsWitness}
 
--- Where a line is an error there is a first one, and only there.
+-- Where a line is an error there is a first error.
 abbrev pub SomeErrorIsFirst : Type 0
 SomeErrorIsFirst = (lines : List (List Line)) → list_any any_error lines ≡ true → (cut : List ℕ) × HasFirstError lines cut
 
 abbrev pub FirstErrorsAreErrors : Type 0
 FirstErrorsAreErrors = (lines : List (List Line)) (cut : List ℕ) → HasFirstError lines cut → list_any any_error lines ≡ true
 
--- It is one line, which saw one cut.
+-- The first error is one line, which saw one cut.
 abbrev pub FirstErrorIsOne : Type 0
 FirstErrorIsOne = (lines : List (List Line)) (a b : Call) (x y : List ℕ) → IsFirstError lines a x → IsFirstError lines b y → (a ≡ b) × (x ≡ y)
 

@@ -12,7 +12,7 @@ use call_lines::{Line, LineEnd};
 pub struct Counts {
     /// All lines: one for each call.
     pub calls: u64,
-    /// Those of the replies that were delivered.
+    /// The delivered lines.
     pub delivered: u64,
     /// The error lines.
     pub errors: u64,

@@ -13,6 +13,7 @@ use Rattle.row_table.specs.Callers.{shape_of, who_of, local_with}
 abbrev pub IsBookOfAll : Shape → ℕ → Local → List ℕ → List Page → Type 0
 IsBookOfAll s i l cut book = (locals : List Local) → AreTogether s locals → local_at locals i ≡ l → book ≡ book_at cut (book_in locals)
 
--- The same of the local that is with a caller of these rows.
+-- Whatever reachable world has the local of this caller of these rows, the book is the one at the
+-- cut of all callers' calls.
 abbrev pub IsTheBookAt : {P : Type 0} → (P → ℕ → ℕ → Meaning) → Rows P → Caller P → List ℕ → List Page → Type 0
 IsTheBookAt meaning r c cut book = IsBookOfAll (shape_of meaning r) (who_of c) (local_with c) cut book

@@ -12,7 +12,7 @@ use Rattle.row_gather.specs.Words.{words_of_book}
 abbrev pub IsGatheredBy : Local → Option Gathered → Type 0
 IsGatheredBy l gathered = IfSome gathered (λ g. IsGathered (length g.book) l g.cut g.book)
 
--- It stays so while the caller peeks more.
+-- What a caller has gathered stays gathered while the caller peeks more.
 abbrev pub GatheredByStays : Type 0
 GatheredByStays = (l m : Local) (gathered : Option Gathered) → HasPeekedAll l m → IsGatheredBy l gathered → IsGatheredBy m gathered
 

@@ -24,18 +24,19 @@ module _ {P : Type 0} where
   abbrev pub KnowsCall : Rows P → Caller P → Region → Call → Type 0
   KnowsCall r c region call = IsTrue (knows_row r.callers (local_with c) region call.caller call.number)
 
-  -- It knows the first rows of caller j.
+  -- The caller knows the first rows of caller j in a region, as many as this count.
   abbrev pub KnowsFirst : Rows P → Caller P → Region → ℕ → ℕ → Type 0
   KnowsFirst r c region j count = KnowsRows r.callers (local_with c) region j count
 
-  -- It knows the rows of all records that a cut holds; and those of all calls up to some counts.
+  -- The caller knows the rows of all records that a cut holds.
   abbrev pub KnowsRecords : Rows P → Caller P → List ℕ → Type 0
   KnowsRecords r c cut = (j : ℕ) → j < r.callers → KnowsFirst r c M j (slice_index cut j)
 
   abbrev pub KnowsCalls : Rows P → Caller P → List ℕ → Type 0
   KnowsCalls r c counts = (j : ℕ) → j < r.callers → KnowsFirst r c N j (slice_index counts j)
 
-  -- It has peeked the records of caller j from a number on, up to a count; and all records that a cut holds and a book lacks.
+  -- The caller has peeked these records, which are those of caller j from a number on, up to a
+  -- count.
   abbrev pub HasRecords : Rows P → Caller P → ℕ → ℕ → ℕ → List Record → Type 0
   HasRecords r c j from count records = ArePeekedRecords r.callers (local_with c) j from count records
 

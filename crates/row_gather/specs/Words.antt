@@ -77,6 +77,6 @@ pub record IsLengthenedTo (j count : ℕ) (book other : List Page) : Type 0 wher
 abbrev pub TicksForRecords : ℕ → ℕ → ℕ → ℕ → ℕ → Type 0
 TicksForRecords n from count before after = after + (1 + n) * from ≡ before + (1 + n) * count
 
--- It has ticked for both words of each operation that another book has and this one lacks.
+-- The counter has ticked for both words of each operation that another book has and this one lacks.
 abbrev pub TicksForCalls : List Page → List Page → ℕ → ℕ → Type 0
 TicksForCalls book other before after = after + 2 * sum (announced book) ≡ before + 2 * sum (announced other)

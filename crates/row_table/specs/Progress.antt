@@ -15,7 +15,8 @@ pub record Work : Type 0 where
 abbrev pub work_of : Local → Work
 work_of l = record { operations = l.operations; announced = l.announced; published = l.published; replies = l.replies; object_steps = l.object_steps }
 
--- A look that begins no view leaves all of it, whether a scan ends with it or not; and so does each peek.
+-- A look that begins nothing or a scan without a reply leaves what its caller's calls have done,
+-- also where a scan ends with it.
 abbrev pub LooksLeaveWork : Type 0
 LooksLeaveWork =
     (n : ℕ) (l : Local) (region : Region) (j x : ℕ)

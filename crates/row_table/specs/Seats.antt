@@ -57,7 +57,8 @@ pub record Tells (s : Shape) (who : ℕ) (event : ℕ → Event) (me : Me (Unit 
   pub done : after ≡ (moved s.callers me.0 who (event found), me.1)
   pub together : Together s after.0
 
--- The same of a store, which doesn't say what it found.
+-- What a store tells, which doesn't say what it found: for some word found, what a step that found
+-- it tells.
 pub record TellsOfSome (s : Shape) (who : ℕ) (event : ℕ → Event) (me after : Me (Unit {0}) View) : Type 0 where
   pub found : ℕ
   pub word : found < 2 ^ 64

@@ -68,7 +68,7 @@ impl<J: Deed> Play<(), Holding> for Does<J> {
     ghost then = { λ st me found after. Tells J.shape J.who J.event me found after };
 }
 
-/// The same for a store, which doesn't say what it found.
+/// A store that is one deed of its caller: what it found isn't said.
 pub struct Writes<J> {
     deed: PhantomData<J>,
 }

@@ -36,7 +36,7 @@ abbrev pub PutLeavesOthers : Type 0
 PutLeavesOthers = (list : List ℕ) (key value other : ℕ) → value < 2 ^ 32 → other ≢ key
     → got (after_put list key value) other ≡ got list other
 
--- So does a delete.
+-- A delete leaves what each other key has.
 abbrev pub DeleteLeavesOthers : Type 0
 DeleteLeavesOthers = (list : List ℕ) (key other : ℕ) → other ≢ key
     → got (after_delete list key) other ≡ got list other

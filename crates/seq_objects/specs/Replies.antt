@@ -9,11 +9,11 @@ tagged tag value = tag * 2 ^ 32 + value
 abbrev pub reply_done : ℕ
 reply_done = tagged 0 0
 
--- There is no item.
+-- The reply that there is no item.
 abbrev pub reply_none : ℕ
 reply_none = tagged 1 0
 
--- This item, modulo 2 ^ 32.
+-- The reply that tells this item, modulo 2 ^ 32.
 abbrev pub reply_value : ℕ → ℕ
 reply_value item = tagged 2 (item % 2 ^ 32)
 

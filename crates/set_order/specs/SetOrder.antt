@@ -18,7 +18,7 @@ operations_of book set = map (λ place. (step_at book place).0) set
 abbrev pub replies_of : List Place → List ℕ
 replies_of set = map (λ place. place.reply) set
 
--- these callers rise, and none is below this number
+-- the numbers of these callers rise, and none is below this one
 abbrev pub RiseFrom : ℕ → List ℕ → Type 0
 RiseFrom low [] = Unit {0}
 RiseFrom low (i ∷ callers) = (low ≤ i) × RiseFrom (i + 1) callers
