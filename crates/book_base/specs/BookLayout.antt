@@ -7,5 +7,6 @@ use Rattle.book_base.specs.Book.{Page}
 abbrev pub page : Rows → Page
 page r = record { operations = r.operations.items; records = r.records.items }
 
+-- the pages that all callers' rows hold
 abbrev pub pages : List Rows → List Page
 pages rows = map page rows

@@ -5,15 +5,18 @@ use Rattle.std.proofs.lemmas.List.{length-take, take-append-drop}
 use Rattle.book_base.specs.declared.TheConstants.{MAX_CALLERS}
 use Rattle.book_base.specs.declared.cut.Cut.TheInside.{Inside}
 
+-- The counts of a cut, which come first in its array.
 abbrev pub counts_of : Inside → List ℕ
 counts_of c = take c.n c.at
 
+-- A cut lies in its array with its counts first, and zeros after them.
 pub record IsPadded (c : Inside) : Type 0 where
   pub some : 1 ≤ c.n
   pub few : c.n ≤ MAX_CALLERS
   pub whole : length c.at ≡ MAX_CALLERS
   pub zeros : drop c.n c.at ≡ replicate (MAX_CALLERS - c.n) 0
 
+-- The array of a cut with these counts: the counts first, and zeros after them.
 abbrev pub padded : List ℕ → Inside
 padded counts = record { n = length counts; at = counts ++ replicate (MAX_CALLERS - length counts) 0 }
 

@@ -44,12 +44,13 @@ turn_of (ViewsCross call) = 4
 turn_of TooManyCalls = 5
 turn_of NoMemory = 5
 
--- the caller that a fault names, and the number of the call
+-- the caller that a fault names
 abbrev pub named_caller : BookFault → ℕ
 named_caller (ViewOutside j) = j
 named_caller (ViewsCross call) = call.caller
 named_caller e = 0
 
+-- the number of the call that a fault names
 abbrev pub named_number : BookFault → ℕ
 named_number (ViewsCross call) = call.number
 named_number e = 0

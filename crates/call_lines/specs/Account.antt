@@ -16,6 +16,7 @@ pub record Account : Type 0 where
   pub published : ℕ
   pub steps : List Object_step
 
+-- The account of a caller with this local.
 abbrev pub account_of : Local → Account
 account_of l =
     record {
@@ -71,9 +72,11 @@ abbrev pub AnnouncementsAreCalls : Type 0
 AnnouncementsAreCalls =
     (n : ℕ) (l : Local) → HasPhase l → l.phase ≡ Announcing → progress_of (local_after n l Announce) ≡ after_announcing (staged_operation l.staged) (progress_of l)
 
+-- An object step is the last of the object steps in its caller's progress.
 abbrev pub ObjectStepsCount : Type 0
 ObjectStepsCount =
     (n : ℕ) (l : Local) (step : Object_step) → HasPhase l → l.phase ≡ Asking → progress_of (local_after n l (Object step)) ≡ after_stepping step (progress_of l)
 
+-- A publication is one more published record in its caller's progress.
 abbrev pub PublishesCount : Type 0
 PublishesCount = (n : ℕ) (l : Local) → progress_of (local_after n l Publish) ≡ after_publishing (progress_of l)

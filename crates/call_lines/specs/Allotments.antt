@@ -10,10 +10,11 @@ abbrev pub phases_for : Option ℕ → ℕ → ℕ
 phases_for None calls = 5 * calls
 phases_for (Some stop) calls = stop
 
--- The operations of a caller, and its stop: a caller that isn't there has none.
+-- The operations of a caller: a caller that isn't there has none.
 abbrev pub operations_at : List (List ℕ) → ℕ → List ℕ
 operations_at operations i = slice_index_or operations i []
 
+-- The stop of a caller: a caller that isn't there has none.
 abbrev pub stop_at : List (Option ℕ) → ℕ → Option ℕ
 stop_at stops i = slice_index_or stops i None
 

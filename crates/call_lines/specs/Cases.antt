@@ -9,40 +9,48 @@ use Rattle.call_lines.specs.declared.line.LineEnd.TheVariants.{Pending, Unchecke
 use Rattle.call_lines.specs.declared.line.Line.{Line}
 use Rattle.call_lines.specs.Phases.{Progress}
 
--- A call, and an answer.
+-- The call of a caller with this number.
 abbrev pub call : ℕ → ℕ → Call
 call who k = record { caller = who; number = k }
 
+-- The record with this reply and this view.
 abbrev pub answer : ℕ → List ℕ → Record
 answer reply view = record { reply = reply; view = view }
 
--- A line with each of the ends.
+-- A line without a record.
 abbrev pub pending : ℕ → Line
 pending op = record { op = op; end = Pending }
 
+-- A line with its record, and without a seen cut.
 abbrev pub unchecked : ℕ → Record → Line
 unchecked op r = record { op = op; end = Unchecked r }
 
+-- A line with its record and its seen cut, which is delivered.
 abbrev pub delivered : ℕ → Record → List ℕ → Line
 delivered op r cut = record { op = op; end = Delivered r cut }
 
+-- A line with its record and its seen cut, which is an error.
 abbrev pub failed : ℕ → Record → List ℕ → Line
 failed op r cut = record { op = op; end = Error r cut }
 
--- The operations of the three callers; a stop of the first after one call and an announcement, and one of the third before it published.
+-- The operations of the three callers.
 abbrev pub worked_operations : List (List ℕ)
 worked_operations = (5 ∷ 7 ∷ []) ∷ (6 ∷ 9 ∷ []) ∷ (8 ∷ []) ∷ []
 
+-- A stop of the first caller after one call and an announcement, and one of the third before it
+-- published.
 abbrev pub worked_stops : List (Option ℕ)
 worked_stops = Some 6 ∷ None ∷ Some 3 ∷ []
 
--- What they were answered.
+-- The record of the first caller's first call.
 abbrev pub first : Record
 first = answer 50 (1 ∷ 0 ∷ 0 ∷ [])
 
+-- The record of the second caller's call.
 abbrev pub second : Record
 second = answer 61 (1 ∷ 1 ∷ 0 ∷ [])
 
+-- The record of the third caller's call.
 abbrev pub third : Record
 third = answer 80 (1 ∷ 1 ∷ 1 ∷ [])
 
@@ -54,22 +62,27 @@ worked_lines =
     ∷ (unchecked 8 third ∷ [])
     ∷ []
 
--- The calls and the book that these are.
+-- A call that is announced.
 abbrev pub made : ℕ → Made
 made op = record { operation = op; reached = Is_announced }
 
+-- A call that has its record.
 abbrev pub recorded : ℕ → Record → Made
 recorded op r = record { operation = op; reached = Has_record r }
 
+-- A call that has its record and its seen cut.
 abbrev pub judged : ℕ → Record → List ℕ → Made
 judged op r cut = record { operation = op; reached = Has_seen r cut }
 
+-- The calls of the worked lines.
 abbrev pub worked_calls : List (List Made)
 worked_calls = (judged 5 first (1 ∷ 0 ∷ 0 ∷ []) ∷ made 7 ∷ []) ∷ (judged 6 second (1 ∷ 1 ∷ 0 ∷ []) ∷ []) ∷ (recorded 8 third ∷ []) ∷ []
 
+-- The page of a caller with these operations and records.
 abbrev pub page : List ℕ → List Record → Page
 page operations records = record { operations = operations; records = records }
 
+-- The book of the worked lines.
 abbrev pub worked_book : List Page
 worked_book = page (5 ∷ 7 ∷ []) (first ∷ []) ∷ page (6 ∷ []) (second ∷ []) ∷ page (8 ∷ []) (third ∷ []) ∷ []
 

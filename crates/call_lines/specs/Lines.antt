@@ -22,6 +22,7 @@ reached_of (Error r cut) = Has_seen r cut
 abbrev pub made_of : Line → Made
 made_of line = record { operation = line.op; reached = reached_of line.end }
 
+-- The calls of all callers' lines.
 abbrev pub calls_of : List (List Line) → List (List Made)
 calls_of lines = map (λ (own : List Line). map made_of own) lines
 
@@ -29,46 +30,52 @@ calls_of lines = map (λ (own : List Line). map made_of own) lines
 abbrev pub book_of_lines : List (List Line) → List Page
 book_of_lines lines = book_of (calls_of lines)
 
--- The lines of a caller, and the line of a call.
+-- The lines of a caller: a caller that isn't there has none.
 abbrev pub lines_at : List (List Line) → ℕ → List Line
 lines_at lines i = slice_index_or lines i []
 
+-- The line of a call, where there is one.
 abbrev pub line_at : List (List Line) → Call → Option Line
 line_at lines call = slice_get (lines_at lines call.caller) call.number
 
--- The seen cut of a line, where its end has one; that of a delivered line alone; and that of an error line alone.
+-- The seen cut of a line with this end, where the end has one.
 abbrev pub seen_in : LineEnd → Option (List ℕ)
 seen_in Pending = None
 seen_in (Unchecked r) = None
 seen_in (Delivered r cut) = Some cut
 seen_in (Error r cut) = Some cut
 
+-- The seen cut of a line with this end, where the line is delivered.
 abbrev pub delivered_in : LineEnd → Option (List ℕ)
 delivered_in Pending = None
 delivered_in (Unchecked r) = None
 delivered_in (Delivered r cut) = Some cut
 delivered_in (Error r cut) = None
 
+-- The seen cut of a line with this end, where the line is an error.
 abbrev pub error_in : LineEnd → Option (List ℕ)
 error_in Pending = None
 error_in (Unchecked r) = None
 error_in (Delivered r cut) = None
 error_in (Error r cut) = Some cut
 
--- The seen cut of a call, where its line has one; where its line is delivered; and where its line is an error.
+-- The seen cut of a call, where its line has one.
 abbrev pub seen_at : List (List Line) → Call → Option (List ℕ)
 seen_at lines call = option_and_then (λ (line : Line). seen_in line.end) (line_at lines call)
 
+-- The seen cut of a call, where its line is delivered.
 abbrev pub delivered_at : List (List Line) → Call → Option (List ℕ)
 delivered_at lines call = option_and_then (λ (line : Line). delivered_in line.end) (line_at lines call)
 
+-- The seen cut of a call, where its line is an error.
 abbrev pub error_at : List (List Line) → Call → Option (List ℕ)
 error_at lines call = option_and_then (λ (line : Line). error_in line.end) (line_at lines call)
 
--- The line is an error; and one of these lines is.
+-- Whether a line is an error.
 abbrev pub is_error : Line → Bool
 is_error line = is_some (error_in line.end)
 
+-- Whether one of some lines is an error.
 abbrev pub any_error : List Line → Bool
 any_error lines = list_any is_error lines
 

@@ -6,20 +6,23 @@ use Rattle.world_core.specs.Local.{Local, Object_step}
 use Rattle.world_core.specs.CallSteps.{all_steps_of}
 use Rattle.world_core.specs.Calls.{Reached, Is_announced, Has_record, Has_seen, Made, records_of, calls_in}
 
--- After p phases: how many calls are announced, how many were asked of the object, how many have their record, how many records are
--- published, and how many calls are judged.
+-- How many calls of a caller are announced after p phases.
 abbrev pub begun : ℕ → ℕ
 begun p = (p + 4) / 5
 
+-- How many calls of a caller were asked of the object after p phases.
 abbrev pub asked : ℕ → ℕ
 asked p = (p + 3) / 5
 
+-- How many calls of a caller have their record after p phases.
 abbrev pub answered : ℕ → ℕ
 answered p = (p + 2) / 5
 
+-- How many records of a caller are published after p phases.
 abbrev pub published_by : ℕ → ℕ
 published_by p = (p + 1) / 5
 
+-- How many calls of a caller are judged after p phases.
 abbrev pub judged : ℕ → ℕ
 judged p = p / 5
 
@@ -29,6 +32,7 @@ pub data Mark : Type 0 where
   Recorded : Mark
   Seen : Mark
 
+-- The mark of a call that has come this far.
 abbrev pub mark_of : Reached → Mark
 mark_of Is_announced = Announced
 mark_of (Has_record r) = Recorded
@@ -42,10 +46,11 @@ mark_under_way phases = if phases == 0 then [] else (if nat_lt phases 3 then Ann
 abbrev pub marks_after : ℕ → List Mark
 marks_after p = replicate (judged p) Seen ++ mark_under_way (p % 5)
 
--- The operations and the marks of some calls.
+-- The operations of some calls.
 abbrev pub operations_of : List Made → List ℕ
 operations_of calls = map (λ (c : Made). c.operation) calls
 
+-- The marks of some calls.
 abbrev pub marks_of : List Made → List Mark
 marks_of calls = map (λ (c : Made). mark_of c.reached) calls
 
@@ -55,6 +60,7 @@ pub record Progress : Type 0 where
   pub published : ℕ
   pub steps : List Object_step
 
+-- The progress of a caller with this local.
 abbrev pub progress_of : Local → Progress
 progress_of l = record { calls = calls_in l; published = l.published; steps = all_steps_of l }
 

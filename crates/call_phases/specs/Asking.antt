@@ -38,5 +38,6 @@ ComesNoFurther before after = progress_of after ≡ record (progress_of before) 
 abbrev pub fits_own : {T : Type 0} → (T → Type 0) → (T → ℕ) → Fits T
 fits_own is_own caller n cap pass who steps = is_own pass × (caller pass ≡ who)
 
+-- What a pass of an object outside the world counts, which counts its calls.
 abbrev pub own_count : {T : Type 0} → (T → ℕ) → (T → ℕ) → (T → Option (List (ℕ × ℕ))) → T → Option PassCount
 own_count made cap told pass = Some (record { made = made pass; room = cap pass; told = told pass })

@@ -27,28 +27,32 @@ module _ {P : Type 0} where
   abbrev pub record_seen : Seen P → Record
   record_seen s = record { reply = reply_seen s; view = view_seen s }
 
-  -- The record of a call that is published; and of one that was not judged.
+  -- The record of a call that is published.
   abbrev pub record_published : Published P → Record
   record_published p = record { reply = reply_published p; view = view_published p }
 
+  -- The record of a call that was not judged.
   abbrev pub record_unjudged : unjudged.Unjudged P → Record
   record_unjudged u = record { reply = u.reply; view = u.view }
 
-  -- The caller of a call that has ended, and its local.
+  -- The caller of a call that has ended.
   abbrev pub caller_ended : Ended P → Caller P
   caller_ended (GoesOn c end) = c
   caller_ended (Halts c end) = c
   caller_ended (WantsMemory u) = u.caller
 
+  -- The local of the caller of a call that has ended.
   abbrev pub local_ended : Ended P → Local
   local_ended e = local_with (caller_ended e)
 
-  -- A caller goes on behind a line that isn't an error, and is halted behind one that is, and where memory was wanted.
+  -- A caller goes on after a line that isn't an error, and is halted after one that is, and where
+  -- memory was wanted.
   abbrev pub StandsBehind : Ended P → Type 0
   StandsBehind (GoesOn c end) = IsFree c
   StandsBehind (Halts c end) = (stance_of c).live ≡ false
   StandsBehind (WantsMemory u) = (stance_of u.caller).live ≡ false
 
+  -- The line of a caller that goes on is no error, and that of one that is halted is one.
   abbrev pub FitsError : Ended P → Type 0
   FitsError (GoesOn c end) = (op : ℕ) → is_error (record { op = op; end = end }) ≡ false
   FitsError (Halts c end) = (op : ℕ) → is_error (record { op = op; end = end }) ≡ true

@@ -14,7 +14,7 @@ use Rattle.call_phases.specs.declared.stand.Stand.{Stand}
 use Rattle.call_phases.specs.declared.stand.Stand.TheVariants.{Idle, Announced, Answered, Viewed, Published, Halted, Unjudged}
 
 module _ {P : Type 0} where
-  -- The caller that stands there, and its local.
+  -- The caller that stands there.
   abbrev pub caller_at : Stand P → Caller P
   caller_at (Idle c) = c
   caller_at (Announced a) = caller_announced a
@@ -24,6 +24,7 @@ module _ {P : Type 0} where
   caller_at (Halted c) = c
   caller_at (Unjudged u) = u.caller
 
+  -- The local of the caller that stands there.
   abbrev pub local_at_stand : Stand P → Local
   local_at_stand s = local_with (caller_at s)
 

@@ -57,13 +57,13 @@ OwnEntriesAreCounts =
 abbrev pub HoldsLooks : Region → List ℕ → Local → Type 0
 HoldsLooks region cut l = (p : ℕ) (look : Looked) → slice_get l.looked p ≡ Some look → look.region ≡ region → look.count ≤ slice_index cut look.caller
 
--- The cut contains each cut of the region that the caller was given before, and each count of it that the caller had looked at
--- before the scan.
+-- A scan's cut contains each cut of its region that the caller was given before the scan.
 abbrev pub CutsHoldGiven : Type 0
 CutsHoldGiven =
     (s : Shape) (i p : ℕ) (region : Region) (opening : Opening) (cut : List ℕ) (before after : Local) (given : Given) → IsLocalOf s i after → HasScanned s.callers region opening cut before after
     → slice_get before.cuts p ≡ Some given → given.region ≡ region → IsWithin given.cut cut
 
+-- A scan's cut contains each count of its region that the caller had looked at before the scan.
 abbrev pub CutsHoldLooks : Type 0
 CutsHoldLooks =
     (s : Shape) (i : ℕ) (region : Region) (opening : Opening) (cut : List ℕ) (before after : Local) → IsLocalOf s i after → HasScanned s.callers region opening cut before after

@@ -40,13 +40,15 @@ HasTurned n region opening taken None before now =
 HasTurned n region opening taken (Some cut) before now = HasScanned n region opening cut before now
 
 module _ {P : Type 0} where
-  -- Whose a scan is, its region, and whether its first turn was made.
+  -- The number of the caller whose scan it is.
   abbrev pub scanner_of : Scan P → ℕ
   scanner_of s = s.who
 
+  -- The region of a scan.
   abbrev pub region_of : Scan P → Region
   region_of s = s.region
 
+  -- Whether the first turn of a scan was made.
   abbrev pub has_begun : Scan P → Bool
   has_begun s = s.begun
 
@@ -70,6 +72,7 @@ module _ {P : Type 0} where
   MayTurnAs false meaning r c region = MayScan meaning r c region
   MayTurnAs true meaning r c region = MayGoOn r c region
 
+  -- The scan is this caller's, which may make its next turn.
   pub record MayTurn (meaning : P → ℕ → ℕ → Meaning) (r : Rows P) (c : Caller P) (s : Scan P) : Type 0 where
     pub who : scanner_of s ≡ who_of c
     pub may : MayTurnAs (has_begun s) meaning r c (region_of s)

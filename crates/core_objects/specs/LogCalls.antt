@@ -24,10 +24,11 @@ abbrev pub KnowsOperations : ℕ → List ℕ → List Object_step → Type 0
 KnowsOperations total log steps = known_log total steps (length log) ≡ Some log
 
 module _ {P : Type 0} where
-  -- How many places the log on some rows has, and the number of an announced call there.
+  -- How many places the log on some rows has.
   abbrev pub places_on : Rows P → ℕ
   places_on r = r.callers * r.cap
 
+  -- The number of an announced call in the log on some rows.
   abbrev pub number_on : Rows P → Announced P → ℕ
   number_on r a = number_of r.cap (who_announced a) (number_announced a)
 
@@ -58,6 +59,7 @@ module _ {P : Type 0} where
   abbrev pub KnowsPlaces : Rows P → Announced P → List ℕ → Type 0
   KnowsPlaces r a tickets = KnowsTickets (places_on r) tickets (all_steps_of (announced_local a))
 
+  -- The caller of the announced call knows these operations of the first tickets of the log.
   abbrev pub KnowsLog : Rows P → Announced P → List ℕ → Type 0
   KnowsLog r a log = KnowsOperations (places_on r) log (all_steps_of (announced_local a))
 

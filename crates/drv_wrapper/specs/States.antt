@@ -9,50 +9,59 @@ use Rattle.drv_wrapper.specs.declared.answered.Answered.{Answered}
 use Rattle.drv_wrapper.specs.declared.viewed.Viewed.{Viewed}
 
 module _ {P : Type 0} where
-  -- The caller that has announced its call; that has its reply; and that has its view too.
+  -- The caller of an announced call.
   abbrev pub caller_announced : Announced P → Caller P
   caller_announced a = a.caller
 
+  -- The caller of an answered call.
   abbrev pub caller_answered : Answered P → Caller P
   caller_answered a = a.caller
 
+  -- The caller of a call that has its view.
   abbrev pub caller_viewed : Viewed P → Caller P
   caller_viewed v = v.caller
 
-  -- The locals of these callers.
+  -- The local of the caller of an announced call.
   abbrev pub announced_local : Announced P → Local
   announced_local a = local_with a.caller
 
+  -- The local of the caller of an answered call.
   abbrev pub answered_local : Answered P → Local
   answered_local a = local_with a.caller
 
+  -- The local of the caller of a call that has its view.
   abbrev pub viewed_local : Viewed P → Local
   viewed_local v = local_with v.caller
 
-  -- The number of the caller of an announced call, the number of the call, and its operation.
+  -- The number of the caller of an announced call.
   abbrev pub who_announced : Announced P → ℕ
   who_announced a = who_of a.caller
 
+  -- The number of an announced call among its caller's calls, the first of which is 0.
   abbrev pub number_announced : Announced P → ℕ
   number_announced a = (local_with a.caller).published
 
+  -- The operation of an announced call.
   abbrev pub op_announced : Announced P → ℕ
   op_announced a = a.op
 
-  -- The operation and the reply of an answered call.
+  -- The operation of an answered call.
   abbrev pub op_answered : Answered P → ℕ
   op_answered a = a.op
 
+  -- The reply of an answered call.
   abbrev pub reply_answered : Answered P → ℕ
   reply_answered a = a.reply
 
-  -- The operation, the reply and the view of a call that has its record.
+  -- The operation of a call that has its view.
   abbrev pub op_viewed : Viewed P → ℕ
   op_viewed v = v.op
 
+  -- The reply of a call that has its view.
   abbrev pub reply_viewed : Viewed P → ℕ
   reply_viewed v = v.reply
 
+  -- The view of a call that has it.
   abbrev pub view_viewed : Viewed P → List ℕ
   view_viewed v = v.view
 

@@ -5,10 +5,11 @@ use Rattle.shared_log.specs.Entries.{entry}
 use Rattle.seq_objects.specs.Words.{code_of}
 use Rattle.lawful_objects.specs.Replays.{list_after}
 
--- Whether an operation is a put, and whether it is a take: its code says so, whether or not an object knows it.
+-- Whether an operation is a put: its code says so, whether or not an object knows it.
 abbrev pub is_put : ℕ → Bool
 is_put op = code_of op == 1
 
+-- Whether an operation is a take: its code says so, whether or not an object knows it.
 abbrev pub is_take : ℕ → Bool
 is_take op = code_of op == 2
 
@@ -16,6 +17,7 @@ is_take op = code_of op == 2
 abbrev pub earlier : List Entry → List Entry
 earlier log = take (length log - 1) log
 
+-- The last call of a log.
 abbrev pub last_call : List Entry → Entry
 last_call log = get_or log (length log - 1) (entry 0 0)
 

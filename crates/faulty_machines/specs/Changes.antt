@@ -7,5 +7,6 @@ abbrev pub waits : Option ℕ → ℕ
 waits None = 0
 waits (Some op) = 1
 
+-- How many operations of all callers wait.
 abbrev pub waiting_count : List (Option ℕ) → ℕ
 waiting_count all = sum_by waits all

@@ -13,6 +13,7 @@ abbrev pub waiting_from : ℕ → Option ℕ → List Entry → Option ℕ
 waiting_from i waits [] = waits
 waiting_from i waits (e ∷ log) = waiting_from i (if e.caller == i then waits_after e.op else waits) log
 
+-- What waits of a caller after some calls: the caller's last call, if that is a put.
 abbrev pub waiting_of : ℕ → List Entry → Option ℕ
 waiting_of i log = waiting_from i None log
 

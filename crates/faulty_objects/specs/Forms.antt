@@ -25,10 +25,11 @@ pub record IsTorn (who reply : ℕ) (history : List Access) : Type 0 where
 abbrev pub SplitsAreFormed : Type 0
 SplitsAreFormed = (pairs : List (ℕ × ℕ)) (before after : List Deed) → AreCalls IsSplit pairs before after → All (λ pair. IsTallyReply pair.0 pair.1) pairs
 
--- The queue's enqueue of a value, and its dequeue.
+-- The operation word of a queue's enqueue of a value.
 abbrev pub enqueue : ℕ → ℕ
 enqueue value = operation 1 value
 
+-- The operation word of a queue's dequeue.
 abbrev pub dequeue : ℕ
 dequeue = operation 2 0
 

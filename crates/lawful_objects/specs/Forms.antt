@@ -9,13 +9,15 @@ use Rattle.shared_words.specs.Histories.{Access, access, word_at, IsLawful}
 abbrev pub operation : ℕ → ℕ → ℕ
 operation code argument = code * 2 ^ 32 + argument
 
--- The counter's increment, and the register's write of a value and its read.
+-- The operation word of a counter's increment.
 abbrev pub increment : ℕ
 increment = operation 1 0
 
+-- The operation word of a register's write of a value.
 abbrev pub write : ℕ → ℕ
 write value = operation 1 value
 
+-- The operation word of a register's read.
 abbrev pub read : ℕ
 read = operation 2 0
 
@@ -47,17 +49,19 @@ pub record IsCellReply (op reply : ℕ) : Type 0 where
   pub reads : op ≡ read → (value : ℕ) × (reply ≡ reply_value value)
   pub other : IsNoWrite op → op ≢ read → reply ≡ BAD
 
--- The pairs of a tally's calls, and of a cell's, have these forms.
+-- Each pair of a tally's calls has the form of a tally's replies.
 abbrev pub TalliesAreFormed : Type 0
 TalliesAreFormed = (pairs : List (ℕ × ℕ)) (before after : List Deed) → AreCalls IsTallied pairs before after → All (λ pair. IsTallyReply pair.0 pair.1) pairs
 
+-- Each pair of a cell's calls has the form of a cell's replies.
 abbrev pub CellsAreFormed : Type 0
 CellsAreFormed = (pairs : List (ℕ × ℕ)) (before after : List Deed) → AreCalls IsKept pairs before after → All (λ pair. IsCellReply pair.0 pair.1) pairs
 
--- Callers of a tally make additions of 1 alone; callers of a cell stores and loads.
+-- The callers of a tally make additions of 1 alone.
 abbrev pub tally_may : ℕ → Deed → Type 0
 tally_may caller deed = (found : ℕ) × (deed ≡ Added 0 1 found)
 
+-- The callers of a cell make stores and loads alone.
 abbrev pub cell_may : ℕ → Deed → Type 0
 cell_may caller deed = ((value : ℕ) × (deed ≡ Stored 0 value)) ⊎ ((found : ℕ) × (deed ≡ Loaded 0 found))
 
@@ -84,9 +88,10 @@ pub record IsLastRead (who reply : ℕ) (history : List Access) : Type 0 where
   pub ends : history ≡ before ++ access who (Loaded 0 word) ∷ []
   pub told : reply ≡ reply_value word
 
--- The word of a tally is the number of its increments modulo 2^64; that of a cell is the last one stored.
+-- The word of a tally is the number of its increments modulo 2^64.
 abbrev pub TalliesCount : Type 0
 TalliesCount = (history : List Access) → IsLawful tally_may history → word_at 0 history ≡ length history % 2 ^ 64
 
+-- The word of a cell is the last one stored.
 abbrev pub CellsHoldTheLast : Type 0
 CellsHoldTheLast = (history : List Access) → IsLawful cell_may history → IsLastStored (word_at 0 history) history

@@ -14,16 +14,19 @@ use Rattle.lawful_objects.specs.Pairs.{pairs_of}
 abbrev pub seat_in : LogPass → LogSeat
 seat_in p = p.seat
 
--- The caller of a pass, how many calls it made, how many it may make, and its calls, each as an operation and a reply.
+-- The caller of a pass.
 abbrev pub caller_of_pass : LogPass → ℕ
 caller_of_pass p = caller_of p.seat
 
+-- How many calls a pass made.
 abbrev pub made_with : LogPass → ℕ
 made_with p = made_by p.seat
 
+-- How many calls a pass may make.
 abbrev pub cap_of_pass : LogPass → ℕ
 cap_of_pass p = cap_of_seat p.seat
 
+-- The calls of a pass, each as an operation and a reply.
 abbrev pub pairs_in : LogPass → List (ℕ × ℕ)
 pairs_in p = p.tools.pairs.items
 
@@ -38,13 +41,15 @@ pub record IsFresh (calls : ℕ) (p : LogPass) : Type 0 where
   pub pairs : pairs_in p ≡ []
 
 module _ {M : Type 0} where
-  -- How many callers a box has, how many calls each may make, and its machine.
+  -- How many callers a box has.
   abbrev pub callers_in : LogBox M → ℕ
   callers_in b = callers_of b.log
 
+  -- How many calls each caller of a box may make.
   abbrev pub cap_in : LogBox M → ℕ
   cap_in b = cap_of b.log
 
+  -- The machine of a box.
   abbrev pub machine_in : LogBox M → M
   machine_in b = b.machine
 

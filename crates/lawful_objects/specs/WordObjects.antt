@@ -5,9 +5,10 @@ use Rattle.lawful_objects.specs.declared.tally.Tally.{Tally}
 use Rattle.lawful_objects.specs.declared.word_cell.WordCell.{WordCell}
 use Rattle.lawful_objects.specs.Forms.{tally_may, cell_may, IsTallied, IsKept}
 
--- The pass is one of this tally; of this cell.
+-- The pass is one of this tally.
 abbrev pub IsTallyPass : Tally → WordsPass → Type 0
 IsTallyPass t p = IsPassOf tally_may (λ _. IsTallied) t.word p
 
+-- The pass is one of this cell.
 abbrev pub IsCellPass : WordCell → WordsPass → Type 0
 IsCellPass c p = IsPassOf cell_may (λ _. IsKept) c.word p

@@ -5,20 +5,23 @@ use Rattle.monitor.specs.declared.witness.Witness.{Witness}
 use Rattle.monitor.specs.declared.board.Board.{Board}
 use Rattle.monitor.specs.declared.claim.Claim.{Claim}
 
--- The own witness of a claim; whether the board took a copy of it; and the witness on the board, where the claim knows it.
+-- The own witness of a claim, where it has one.
 abbrev pub own_in : Claim → Option Witness
 own_in c = c.own
 
+-- Whether the board took a copy of the own witness of a claim.
 abbrev pub placed_in : Claim → Bool
 placed_in c = c.placed
 
+-- The witness on the board, where the claim knows it.
 abbrev pub known_in : Claim → Option Witness
 known_in c = c.note.known
 
--- The note of a claim is one of this board; and the notes of two claims are of one board.
+-- The note of a claim is one of this board.
 abbrev pub IsClaimOn : Board → Claim → Type 0
 IsClaimOn b c = c.note.cell ≡ cell_name b.cell
 
+-- The notes of two claims are of one board.
 abbrev pub AreOnOne : Claim → Claim → Type 0
 AreOnOne c d = c.note.cell ≡ d.note.cell
 

@@ -54,20 +54,23 @@ TicksForRound n before kept own ticks ticks' (Illegal cut) =
     IfSome own (λ w. TicksForBook n before (record { book = w.book; cut = w.cut }) ticks ticks')
 
 module _ {P : Type 0} where
-  -- The caller that a monitor is, and its local.
+  -- The caller that a monitor is.
   abbrev pub caller_of : Monitor P → Caller P
   caller_of m = m.caller
 
+  -- The local of the caller that a monitor is.
   abbrev pub local_of : Monitor P → Local
   local_of m = local_with m.caller
 
-  -- The own witness of a monitor; whether the board took a copy of it; and the witness on the board, where the monitor knows it.
+  -- The own witness of a monitor, where it has one.
   abbrev pub own_of : Monitor P → Option Witness
   own_of m = own_in m.claim
 
+  -- Whether the board took a copy of the own witness of a monitor.
   abbrev pub placed_by : Monitor P → Bool
   placed_by m = placed_in m.claim
 
+  -- The witness on the board, where the monitor knows it.
   abbrev pub known_by : Monitor P → Option Witness
   known_by m = known_in m.claim
 
@@ -75,10 +78,11 @@ module _ {P : Type 0} where
   abbrev pub kept_by : Monitor P → Option Gathered
   kept_by m = m.gathered
 
-  -- A monitor is one of this board; and two monitors are of one board.
+  -- A monitor is one of this board.
   abbrev pub IsOn : Board → Monitor P → Type 0
   IsOn b m = IsClaimOn b m.claim
 
+  -- Two monitors are of one board.
   abbrev pub AreOfOne : Monitor P → Monitor P → Type 0
   AreOfOne m k = AreOnOne m.claim k.claim
 

@@ -14,10 +14,11 @@ use Rattle.monitor.specs.declared.round.Round.TheVariants.{Legal, Illegal}
 use Rattle.monitor.specs.Rounds.{HasMadeRounds}
 use Rattle.monitor.specs.Monitors.{HasFound}
 
--- How many records each caller has published, and the book of all published records.
+-- How many records each caller has published.
 abbrev pub published_of : List Local → List ℕ
 published_of locals = map (λ (l : Local). l.published) locals
 
+-- The book of all published records.
 abbrev pub published_book : List Local → List Page
 published_book locals = book_at (published_of locals) (book_in locals)
 

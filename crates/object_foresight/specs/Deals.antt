@@ -35,6 +35,7 @@ deal_by_deed reading book call (Puts v) = deals.Put v
 deal_by_deed reading book call Takes = take_of reading book call
 deal_by_deed reading book call Neither = deals.Other
 
+-- what a call with this operation did, where it has one
 abbrev pub deal_by_operation : Reading → List Page → Call → Option ℕ → Deal
 deal_by_operation reading book call None = deals.Other
 deal_by_operation reading book call (Some op) = deal_by_deed reading book call (reading.deed op)

@@ -45,6 +45,7 @@ abbrev pub reach_by : Option Record → ℕ
 reach_by None = 0
 reach_by (Some r) = sum r.view + 1
 
+-- one more than what the view of a call counts, and 0 for a call without an answer
 abbrev pub reach_of : List Page → Call → ℕ
 reach_of book call = reach_by (record_of book call)
 
@@ -68,6 +69,7 @@ link_by uses discipline call reach deals.FoundNothing = record no_link { before 
 link_by uses discipline call reach deals.OpenTake = record no_link { reach = reach }
 link_by uses discipline call reach deals.Other = record no_link { reach = reach }
 
+-- the link of a call that did this, by the use of values and the discipline of the object
 abbrev pub link_of : List Page → Uses → Discipline → Call → Deal → Link
 link_of book uses discipline call deal = link_by uses discipline call (reach_for discipline (reach_of book call)) deal
 

@@ -2,13 +2,15 @@
 use Rattle.std.specs.Prelude.{ℕ}
 use Rattle.object_kit.specs.declared.counting_pass.CountingPass.{CountingPass}
 
--- The caller whose pass it is, how many calls were made with it, and how many may be made in all.
+-- The caller of a pass.
 abbrev pub caller_of : CountingPass → ℕ
 caller_of pass = pass.caller
 
+-- How many calls were made with a pass.
 abbrev pub made_with : CountingPass → ℕ
 made_with pass = pass.made
 
+-- How many calls may be made with a pass in all.
 abbrev pub cap_of : CountingPass → ℕ
 cap_of pass = pass.cap
 

@@ -142,6 +142,8 @@ pub record IsLineRead (kind : Kind) (counts : List ℕ) (told : List Line) (call
   pub goes : GoesTo report_rules (InLines kind counts told (call ∷ more)) text (InLines kind counts (told ++ line ∷ []) more) left
   pub draft : IsDraft counts (told ++ line ∷ []) after
 
+-- The next line is read as this line of this call, and takes one draft to another, whatever the
+-- other callers have.
 abbrev pub LineIsRead : Kind → Draft → Call → Unread → Line → Draft → Unread → Type 0
 LineIsRead kind before call text line after left = (counts : List ℕ) (told : List Line) (more : List Call)
     → IsDraft counts told before → StandBefore counts told call.caller call.number → IsLineRead kind counts told call more text line after left
@@ -156,6 +158,8 @@ pub record AreOwnRead (kind : Kind) (counts : List ℕ) (told : List Line) (i co
   pub goes : GoesTo report_rules (InLines kind counts told (calls_from i 0 count ++ more)) text (InLines kind counts (told ++ own) more) left
   pub draft : IsDraft counts (told ++ own) after
 
+-- The next lines are read as these lines of a caller, and take one draft to another, whatever the
+-- other callers have.
 abbrev pub LinesAreRead : Kind → Draft → ℕ → ℕ → Unread → List Line → Draft → Unread → Type 0
 LinesAreRead kind before i count text own after left = (counts : List ℕ) (told : List Line) (more : List Call)
     → IsDraft counts told before → StandBefore counts told i 0 → AreOwnRead kind counts told i count more text own after left

@@ -10,6 +10,7 @@ use Rattle.reports.specs.Findings.{Findings}
 abbrev pub of_queue : List (List Line) → Findings
 of_queue lines = record { kind = Queue; lines = lines }
 
+-- The worked lines, of a queue.
 abbrev pub worked : Findings
 worked = of_queue worked_lines
 
@@ -17,13 +18,15 @@ worked = of_queue worked_lines
 abbrev pub worked_witness : List Page
 worked_witness = page (5 ∷ []) (first ∷ []) ∷ page (6 ∷ []) (second ∷ []) ∷ page [] [] ∷ []
 
--- The first caller goes on behind a call that is pending, that wasn't judged, or that is an error.
+-- The only caller has a line after a pending one.
 abbrev pub behind_pending : List (List Line)
 behind_pending = (pending 5 ∷ pending 7 ∷ []) ∷ []
 
+-- The only caller has a line after one that wasn't judged.
 abbrev pub behind_unchecked : List (List Line)
 behind_unchecked = (unchecked 5 (answer 50 (1 ∷ [])) ∷ pending 7 ∷ []) ∷ []
 
+-- The only caller has a line after an error.
 abbrev pub behind_error : List (List Line)
 behind_error = (failed 5 (answer 50 (1 ∷ [])) (1 ∷ []) ∷ pending 7 ∷ []) ∷ []
 
@@ -31,19 +34,23 @@ behind_error = (failed 5 (answer 50 (1 ∷ [])) (1 ∷ []) ∷ pending 7 ∷ [])
 abbrev pub own_unseen : List (List Line)
 own_unseen = (delivered 5 (answer 50 (1 ∷ [])) (0 ∷ []) ∷ []) ∷ []
 
+-- The only caller's call saw a cut of two callers.
 abbrev pub of_two_callers : List (List Line)
 of_two_callers = (delivered 5 (answer 50 (1 ∷ [])) (1 ∷ 0 ∷ []) ∷ []) ∷ []
 
+-- The first call saw a cut with one record more than its caller has.
 abbrev pub one_too_many : List (List Line)
 one_too_many = (delivered 5 (answer 50 (1 ∷ [])) (2 ∷ []) ∷ pending 7 ∷ []) ∷ []
 
--- An operation and a reply that are no words; and two views of which neither is within the other.
+-- The only call has an operation that is no operation word.
 abbrev pub no_operation : List (List Line)
 no_operation = (pending (2 ^ 128) ∷ []) ∷ []
 
+-- The only call has a reply that is no reply word.
 abbrev pub no_reply : List (List Line)
 no_reply = (unchecked 5 (answer (2 ^ 64) (1 ∷ [])) ∷ []) ∷ []
 
+-- Two calls have views of which neither is within the other.
 abbrev pub crossing : List (List Line)
 crossing = (unchecked 5 (answer 50 (1 ∷ 0 ∷ [])) ∷ []) ∷ (unchecked 6 (answer 60 (0 ∷ 1 ∷ [])) ∷ []) ∷ []
 

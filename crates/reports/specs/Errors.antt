@@ -11,6 +11,7 @@ use Rattle.reports.specs.Findings.{IsFirstError, HasFirstError, IsWitness}
 abbrev pub SomeErrorIsFirst : Type 0
 SomeErrorIsFirst = (lines : List (List Line)) → list_any any_error lines ≡ true → (cut : List ℕ) × HasFirstError lines cut
 
+-- Where there is a first error a line is an error.
 abbrev pub FirstErrorsAreErrors : Type 0
 FirstErrorsAreErrors = (lines : List (List Line)) (cut : List ℕ) → HasFirstError lines cut → list_any any_error lines ≡ true
 

@@ -16,10 +16,11 @@ IsGatheredBy l gathered = IfSome gathered (λ g. IsGathered (length g.book) l g.
 abbrev pub GatheredByStays : Type 0
 GatheredByStays = (l m : Local) (gathered : Option Gathered) → HasPeekedAll l m → IsGatheredBy l gathered → IsGatheredBy m gathered
 
--- The book of so many callers without calls. Anybody has gathered it, at the cut that holds nothing.
+-- The book of this many callers without calls.
 abbrev pub empty_book : ℕ → List Page
 empty_book n = replicate n (record { operations = []; records = [] })
 
+-- Each caller has gathered the book without calls, at the cut that holds nothing.
 abbrev pub EmptyIsGathered : Type 0
 EmptyIsGathered = (n : ℕ) (l : Local) → IsGathered n l (replicate n 0) (empty_book n)
 

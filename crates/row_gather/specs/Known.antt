@@ -32,6 +32,7 @@ module _ {P : Type 0} where
   abbrev pub KnowsRecords : Rows P → Caller P → List ℕ → Type 0
   KnowsRecords r c cut = (j : ℕ) → j < r.callers → KnowsFirst r c M j (slice_index cut j)
 
+  -- The caller knows the rows of all calls up to these counts.
   abbrev pub KnowsCalls : Rows P → Caller P → List ℕ → Type 0
   KnowsCalls r c counts = (j : ℕ) → j < r.callers → KnowsFirst r c N j (slice_index counts j)
 
@@ -40,5 +41,6 @@ module _ {P : Type 0} where
   abbrev pub HasRecords : Rows P → Caller P → ℕ → ℕ → ℕ → List Record → Type 0
   HasRecords r c j from count records = ArePeekedRecords r.callers (local_with c) j from count records
 
+  -- The caller has peeked these records, which are those that a cut holds and a book lacks.
   abbrev pub HasAllRecords : Rows P → Caller P → List Page → List ℕ → List (List Record) → Type 0
   HasAllRecords r c book cut lists = ArePeekedTo r.callers (local_with c) book cut r.callers lists

@@ -50,6 +50,7 @@ pub record ArePeekedTo (n : ℕ) (l : Local) (book : List Page) (cut : List ℕ)
 abbrev pub greatest_of : List Record → ℕ → ℕ
 greatest_of records i = greatest_count (map (λ (r : Record). r.view) records) i
 
+-- The greatest count for a caller in the views of all callers' records.
 abbrev pub greatest_in : List (List Record) → ℕ → ℕ
 greatest_in [] i = 0
 greatest_in (records ∷ lists) i = max (greatest_of records i) (greatest_in lists i)

@@ -28,20 +28,24 @@ kept_stance None = None
 kept_stance (Some kept) = Some kept.stance
 
 module _ {P : Type 0} where
-  -- What the table of some rows was told, and the shape of its world.
+  -- What the table of some rows was told.
   abbrev pub key_of : Rows P → Key P
   key_of r = record { program = r.program; callers = r.callers; cap = r.cap; objects = r.objects }
 
+  -- The shape of the world of some rows.
   abbrev pub shape_of : (P → ℕ → ℕ → Meaning) → Rows P → Shape
   shape_of meaning r = shape_for meaning (key_of r)
 
-  -- The number of a caller, its local, and how it stands.
+  -- The number of a caller.
   abbrev pub who_of : Caller P → ℕ
   who_of c = c.seat.who
 
+  -- The local that is with a caller.
   abbrev pub local_with : Caller P → Local
   local_with c = seated c.seat
 
+  -- The stance of a caller: whether it makes calls, what it means to begin, and the reply that it
+  -- keeps.
   abbrev pub stance_of : Caller P → Stance
   stance_of c = c.stance
 
@@ -49,13 +53,15 @@ module _ {P : Type 0} where
   abbrev pub opening_of : Caller P → event.Opening
   opening_of c = opening_in (opening_by c.stance)
 
-  -- The locals that are on a bench, by caller, and how its callers stand.
+  -- The local that a bench has of a caller, where it has one.
   abbrev pub on_bench : Bench P → ℕ → Option Local
   on_bench b i = has b.seat.me.0 i
 
+  -- The stance that a bench has of a caller, where it has one.
   abbrev pub stance_on : Bench P → ℕ → Option Stance
   stance_on b i = kept_stance (slice_index_or b.places.items i None)
 
+  -- The locals that a bench has, by caller, where it has all of them.
   abbrev pub locals_on : Bench P → List Local
   locals_on b = map the b.seat.me.0
 
@@ -80,10 +86,11 @@ module _ {P : Type 0} where
     pub wide : length b.seat.me.0 ≡ r.callers
     pub together : Together (shape_of meaning r) b.seat.me.0
 
-  -- The bench holds this caller; it holds each of its callers.
+  -- The bench holds this caller.
   abbrev pub Holds : Bench P → ℕ → Type 0
   Holds b i = (l : Local) × (on_bench b i ≡ Some l)
 
+  -- The bench holds each of its callers.
   abbrev pub HoldsAll : Bench P → Type 0
   HoldsAll b = (i : ℕ) → i < b.callers → Holds b i
 

@@ -26,6 +26,7 @@ phase_in local.Judging = Judging
 abbrev pub under_way : ℕ → ℕ → Scan → ScanUnderWay
 under_way n me scan = record { core = standing n me scan.region scan.taken; is_view = scan.is_view }
 
+-- What a caller keeps of the scan under way in its local, where there is one.
 abbrev pub scan_kept : ℕ → ℕ → Option Scan → Option ScanUnderWay
 scan_kept n me None = None
 scan_kept n me (Some scan) = Some (under_way n me scan)
@@ -86,5 +87,6 @@ abbrev pub given_by_last : Option Scan → List Given → Option (List ℕ)
 given_by_last None cuts = last_given cuts
 given_by_last (Some scan) cuts = None
 
+-- The cut that the last scan to end gave, where one has ended and none is under way.
 abbrev pub given_now : Local → Option (List ℕ)
 given_now l = given_by_last l.scan l.cuts

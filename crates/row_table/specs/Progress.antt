@@ -12,6 +12,7 @@ pub record Work : Type 0 where
   pub replies : List ℕ
   pub object_steps : List (List Object_step)
 
+-- What a caller with this local has made and was told.
 abbrev pub work_of : Local → Work
 work_of l = record { operations = l.operations; announced = l.announced; published = l.published; replies = l.replies; object_steps = l.object_steps }
 
@@ -22,6 +23,7 @@ LooksLeaveWork =
     (n : ℕ) (l : Local) (region : Region) (j x : ℕ)
     → (work_of (local_after n l (Look region j x Begins_none)) ≡ work_of l) × (work_of (local_after n l (Look region j x Begins_scan)) ≡ work_of l)
 
+-- A peek leaves what its caller's calls have done, also where a scan ends with it.
 abbrev pub PeeksLeaveWork : Type 0
 PeeksLeaveWork = (n : ℕ) (l : Local) (region : Region) (j row place x : ℕ) → work_of (local_after n l (Peek region j row place x)) ≡ work_of l
 

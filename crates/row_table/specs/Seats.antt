@@ -26,6 +26,7 @@ the (Some l) = l
 abbrev pub whole : ℕ → View
 whole n = replicate n (Some fresh)
 
+-- The view of a seat that has one caller's local alone.
 abbrev pub only : ℕ → Local → View
 only i l = replicate i None ++ Some l ∷ []
 

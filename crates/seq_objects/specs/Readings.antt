@@ -24,6 +24,7 @@ queue_deed (Some (Enqueue value)) = Puts value
 queue_deed (Some Dequeue) = Takes
 queue_deed None = Neither
 
+-- how a queue is read: an enqueue puts in, and a dequeue takes
 abbrev pub queue_reading : Reading
 queue_reading = record { deed = λ word. queue_deed (queue_operation word); shown = shown_value; values = map value_of }
 

@@ -17,5 +17,6 @@ register_deed (Some (Write value)) = Puts value
 register_deed (Some Read) = Takes
 register_deed None = Neither
 
+-- how a register is read: a write puts in, and a read takes
 abbrev pub register_reading : Reading
 register_reading = record { deed = λ word. register_deed (register_operation word); shown = shown_value; values = map value_of }

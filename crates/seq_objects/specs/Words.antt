@@ -52,52 +52,67 @@ with_extra name code = record { name = name; code = code; arity = Binary }
 abbrev pub name_alone : List ℕ → ℕ → Entry
 name_alone name code = record { name = name; code = code; arity = Nullary }
 
--- The entries, each named as in texts.
+-- The entry of a queue's put.
 abbrev pub enq : Entry
 enq = with_argument (codes "enq") 1
 
+-- The entry of a queue's take.
 abbrev pub deq : Entry
 deq = name_alone (codes "deq") 2
 
+-- The entry of a stack's put.
 abbrev pub push : Entry
 push = with_argument (codes "push") 1
 
+-- The entry of a stack's take.
 abbrev pub pop : Entry
 pop = name_alone (codes "pop") 2
 
+-- The entry of a register's write.
 abbrev pub write : Entry
 write = with_argument (codes "write") 1
 
+-- The entry of a register's read.
 abbrev pub read : Entry
 read = name_alone (codes "read") 2
 
+-- The entry of a counter's increment.
 abbrev pub inc : Entry
 inc = name_alone (codes "inc") 1
 
+-- The entry of a set's insertion.
 abbrev pub add : Entry
 add = with_argument (codes "add") 1
 
+-- The entry of a set's removal.
 abbrev pub remove : Entry
 remove = with_argument (codes "remove") 2
 
+-- The entry of a set's look for a value.
 abbrev pub has : Entry
 has = with_argument (codes "has") 3
 
+-- The entry of a priority queue's insertion.
 abbrev pub insert : Entry
 insert = with_argument (codes "insert") 1
 
+-- The entry of a priority queue's take.
 abbrev pub min : Entry
 min = name_alone (codes "min") 2
 
+-- The entry of a register's compare-and-set.
 abbrev pub cas : Entry
 cas = with_extra (codes "cas") 3
 
+-- The entry of a map's put.
 abbrev pub put : Entry
 put = with_extra (codes "put") 1
 
+-- The entry of a map's get.
 abbrev pub get : Entry
 get = with_argument (codes "get") 2
 
+-- The entry of a map's delete.
 abbrev pub del : Entry
 del = with_argument (codes "del") 3
 

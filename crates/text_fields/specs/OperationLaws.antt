@@ -27,6 +27,7 @@ few_arguments Nullary op = omega arith
 few_arguments Unary op = omega arith
 few_arguments Binary op = omega arith
 
+-- The number of words of an operation is at least one and at most three.
 pub record AreFew (n : ℕ) : Type 0 where
   pub some : 1 ≤ n
   pub few : n ≤ 3

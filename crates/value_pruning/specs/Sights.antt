@@ -15,19 +15,21 @@ use Rattle.object_foresight.specs.Uses.{IsReadTo}
 abbrev pub place_of : Sight → ℕ → Option ℕ
 place_of sight v = lookup (is_at (nat_cmp v)) sight.places.entries
 
--- the calls that a place lists as puts, and those whose replies show the value
+-- the calls that a place of a sight lists as puts
 abbrev pub puts_at : Sight → Option ℕ → List Call
 puts_at sight None = []
 puts_at sight (Some place) = slice_index_or (map (λ labelled. labelled.puts.items) sight.labelled.items) place []
 
+-- the calls that a place of a sight lists as those whose replies show the value
 abbrev pub shows_at : Sight → Option ℕ → List Call
 shows_at sight None = []
 shows_at sight (Some place) = slice_index_or (map (λ labelled. labelled.shows.items) sight.labelled.items) place []
 
--- the calls that a sight lists as puts of a value, and those whose replies show it
+-- the calls that a sight lists as puts of a value
 abbrev pub puts_of : Sight → ℕ → List Call
 puts_of sight v = puts_at sight (place_of sight v)
 
+-- the calls that a sight lists as those whose replies show a value
 abbrev pub shows_of : Sight → ℕ → List Call
 shows_of sight v = shows_at sight (place_of sight v)
 
