@@ -96,6 +96,7 @@ impl Book {
     pub fn with_calls(alloc: Global, calls: &Cut) -> Result<Book, NoMemory>
         // Each caller has at most `MAX_CALLS` calls.
         requires { (i : ℕ) → slice_index calls.now i ≤ MAX_CALLS }
+        // Each caller has this many calls, each with the operation word 0, and none is answered.
         ensures { IfOk result (λ book. book ≡ unanswered_book calls.now) }
     {
         let mut rows = Vec::new(alloc);

@@ -25,6 +25,7 @@ impl Marks {
     pub fn only(caller: u32) -> Marks
         // The caller is below `MAX_CALLERS`.
         requires { caller < MAX_CALLERS }
+        // The answer marks this caller, and no other one.
         ensures { (i : ℕ) → IsMarked result i ↔ (i ≡ caller) }
     {
         Marks::none().with(caller)
@@ -34,6 +35,7 @@ impl Marks {
     pub fn with(self, caller: u32) -> Marks
         // The caller is below `MAX_CALLERS`.
         requires { caller < MAX_CALLERS }
+        // The answer marks this caller, those that were marked, and no other one.
         ensures { (i : ℕ) → IsMarked result i ↔ ((i ≡ caller) ⊎ IsMarked self i) }
     {
         let mut marks = self;
@@ -45,6 +47,7 @@ impl Marks {
     pub fn without(self, caller: u32) -> Marks
         // The caller is below `MAX_CALLERS`.
         requires { caller < MAX_CALLERS }
+        // The answer marks those that were marked but for this caller.
         ensures { (i : ℕ) → IsMarked result i ↔ ((i ≢ caller) × IsMarked self i) }
     {
         let mut marks = self;

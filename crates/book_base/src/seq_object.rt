@@ -54,6 +54,8 @@ pub trait SeqObject {
     /// What the object knows of a book before a search: each call that it forbids next, after a cut and
     /// at a list, stands so in no legal order. An object that leaves this out forbids nothing.
     fn foresee(&self, alloc: Global, book: &Book) -> Result<Foresight, NoMemory>
+        // What is answered is right: each call that it forbids next, after a cut and at a list, is
+        // infeasible there.
         ensures { IfOk result (IsForesight (init self.now) (next self.now) book.now) }
     {
         Ok(Foresight::none(alloc))
@@ -62,6 +64,7 @@ pub trait SeqObject {
     /// Whether an operation with this reply is known to leave every list as it is. An object that leaves
     /// this out knows of none.
     fn leaves(&self, op: OpWord, reply: u64) -> bool
+        // `true` is answered only where the operation leaves every list at which it has this reply.
         ensures { IsTrue result → Leaves (next self.now) op reply }
     {
         false
@@ -70,6 +73,7 @@ pub trait SeqObject {
     /// What the object looks at in [`SeqObject::narrow`], made once a book. An object that leaves this out
     /// prepares nothing, and isn't asked to narrow anything.
     fn prepare(&self, alloc: Global, book: &Book) -> Result<Option<Sight>, NoMemory>
+        // A sight that is answered says of the book what the object's `sees` states.
         ensures { IfOk result (λ found. IfSome found (sees self.now book.now)) }
     {
         Ok(None)
@@ -112,6 +116,8 @@ pub trait SeqObject {
 
     /// What the object says of a whole book without a search. An object that leaves this out says nothing.
     fn decide(&self, alloc: Global, book: &Book) -> Result<Decision, NoMemory>
+        // What is answered is right: a legal order is one of the book, and none comes only where
+        // the book has none.
         ensures { IfOk result (IsRightDecision (init self.now) (next self.now) book.now) }
     {
         Ok(Decision::Unsaid)

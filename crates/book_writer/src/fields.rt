@@ -15,6 +15,7 @@ use seq_objects::{Kind, put_number};
 
 /// Appends a number behind a space.
 pub fn put_spaced(out: &mut Vec<u8>, n: u64) -> Result<(), NoMemory>
+    // After an answer Ok the vector has a space and the digits of the number after what it held.
     ensures { OnOk result (out.new.items ≡ out.old.items ++ 32 ∷ decimal n) }
 {
     out.push(b' ')?;
@@ -23,6 +24,7 @@ pub fn put_spaced(out: &mut Vec<u8>, n: u64) -> Result<(), NoMemory>
 
 /// Appends the line of the title.
 pub fn put_title(out: &mut Vec<u8>, title: &[u8]) -> Result<(), NoMemory>
+    // After an answer Ok the vector has the title's line in version 2 after what it held.
     ensures { OnOk result (out.new.items ≡ out.old.items
         ++ line_text (title_words Second title.now)) }
 {
@@ -53,6 +55,8 @@ fn put_callers(out: &mut Vec<u8>, n: u32) -> Result<(), NoMemory>
 
 /// Appends each count of a cut behind a space.
 pub fn put_counts(out: &mut Vec<u8>, cut: &Cut) -> Result<(), NoMemory>
+    // After an answer Ok the vector has each count of the cut, after a space each, after what it
+    // held.
     ensures { OnOk result (out.new.items ≡ out.old.items ++ spaced (map decimal cut.now)) }
 {
     for i in 0..cut.n() {
@@ -74,6 +78,7 @@ fn put_calls_line(out: &mut Vec<u8>, calls: &Cut) -> Result<(), NoMemory>
 /// Appends the head of a text: its title, a word such as `book`, the kind of its object, and the
 /// number of calls of each caller.
 pub fn put_head(out: &mut Vec<u8>, title: &[u8], kind: Kind, calls: &Cut) -> Result<(), NoMemory>
+    // After an answer Ok the vector has the lines of this head in version 2 after what it held.
     ensures { OnOk result (out.new.items ≡ out.old.items
         ++ text_of (head_lines Second title.now kind calls.now)) }
 {
@@ -85,6 +90,8 @@ pub fn put_head(out: &mut Vec<u8>, title: &[u8], kind: Kind, calls: &Cut) -> Res
 
 /// Appends the pairs of a cut, each behind a space.
 pub fn put_pairs(out: &mut Vec<u8>, cut: &Cut) -> Result<(), NoMemory>
+    // After an answer Ok the vector has the pairs of the cut, after a space each, after what it
+    // held.
     ensures { OnOk result (out.new.items ≡ out.old.items ++ spaced (pair_words 0 cut.now)) }
 {
     for j in 0..cut.n() {
@@ -107,6 +114,8 @@ fn put_pair(out: &mut Vec<u8>, j: u32, count: u64) -> Result<(), NoMemory>
 
 /// Appends the caller and the number of a call, each behind a space.
 pub fn put_place(out: &mut Vec<u8>, call: Call) -> Result<(), NoMemory>
+    // After an answer Ok the vector has the call's caller and number, after a space each, after
+    // what it held.
     ensures { OnOk result (out.new.items ≡ out.old.items ++ spaced (place_words call)) }
 {
     put_spaced(out, u64::from(call.caller))?;
@@ -115,6 +124,8 @@ pub fn put_place(out: &mut Vec<u8>, call: Call) -> Result<(), NoMemory>
 
 /// Appends the words of an operation, each behind a space.
 pub fn put_operation(out: &mut Vec<u8>, kind: Kind, op: OpWord) -> Result<(), NoMemory>
+    // After an answer Ok the vector has the operation's words, after a space each, after what it
+    // held.
     ensures { OnOk result (out.new.items ≡ out.old.items ++ spaced (operation_words kind op)) }
 {
     out.push(b' ')?;

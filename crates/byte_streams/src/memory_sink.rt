@@ -44,6 +44,8 @@ impl MemorySink {
     ) -> Result<MemorySink, NoMemory>
         // A call may take or give at least one byte.
         requires { 1 ≤ most }
+        // The sink has taken nothing and counted no call and no fault, and has this room, these
+        // failing calls and this bound.
         ensures { IfOk result (λ sink. sink ≡ record { taken = []; room = room; fails = fails.items; most = most; calls = 0; faults = 0 }) }
     {
         let bytes = Vec::with_capacity(alloc, room)?;

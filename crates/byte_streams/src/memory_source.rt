@@ -36,6 +36,8 @@ impl MemorySource {
     pub fn new(bytes: Vec<u8>, fails: Vec<u64>, most: usize) -> MemorySource
         // A call may take or give at least one byte.
         requires { 1 ≤ most }
+        // The source has all of the bytes left, has counted no call and no fault, and has these
+        // failing calls and this bound.
         ensures { result ≡ record { left = bytes.items; fails = fails.items; most = most; calls = 0; faults = 0 } }
     {
         MemorySource {

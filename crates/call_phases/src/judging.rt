@@ -25,6 +25,7 @@ impl<'a, S> Judging<'a, S> {
 
     /// Judges by this object.
     pub fn new(alloc: Global, sequential: &'a S) -> Judging<'a, S>
+        // The ending judges by this object.
         ensures { result.sequential.now ≡ sequential.now }
     {
         Judging { alloc, sequential }

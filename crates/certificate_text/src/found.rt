@@ -15,6 +15,7 @@ pub fn has_accepted_order<S: SeqObject>(
     object: &S,
     book: &Book,
 ) -> Result<bool, NoMemory>
+    // `true` is answered exactly where the book has a legal order, want of memory aside.
     ensures { IfOk result (λ found.
         IsTrue found ↔ HasLegalOrder (S.init object.now) (S.next object.now) book.now) }
 {

@@ -46,6 +46,7 @@ impl<P> Announced<P> {
 
     /// The caller, halted, with its local as it is: the call stays announced, and nobody answers it.
     pub fn stop(self) -> Caller<P>
+        // The caller has its number and its local, makes no calls, and is still one of its rows.
         ensures { IsStopped (caller_announced self) result }
     {
         let Announced { caller, op: _ } = self;

@@ -34,6 +34,7 @@ impl<P> Answered<P> {
     /// The caller, halted, with its local as it is: the call stays announced, and its reply is in no word of the
     /// table.
     pub fn stop(self) -> Caller<P>
+        // The caller has its number and its local, makes no calls, and is still one of its rows.
         ensures { IsStopped (caller_answered self) result }
     {
         let Answered {

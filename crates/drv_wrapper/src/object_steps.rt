@@ -26,6 +26,8 @@ impl<P: InWorld> Announced<P> {
         requires place { place < rows.now.objects }
         // The program allows the caller a step that leaves whichever word it finds there.
         requires program { MayStep P.meaning rows.now (caller_announced self.old) place (λ x. x) }
+        // The announced call has made one object step more, which found the answered word and left
+        // it there.
         ensures { HasStepped P.meaning rows.now self.old self.new (record { place = place; old = result; new = result }) }
     {
         rows.object_load(&mut self.caller, place)
@@ -40,6 +42,8 @@ impl<P: InWorld> Announced<P> {
         // The program allows the caller a step that stores this word over whichever word it finds
         // there.
         requires program { MayStep P.meaning rows.now (caller_announced self.old) place (λ _. word) }
+        // The announced call has made one object step more, which found some word and left the
+        // stored one.
         ensures { (x : ℕ) × (x < 2 ^ 64) × HasStepped P.meaning rows.now self.old self.new (record { place = place; old = x; new = word }) }
     {
         rows.object_store(&mut self.caller, place, word);
@@ -54,6 +58,8 @@ impl<P: InWorld> Announced<P> {
         // The program allows the caller a step that adds this number, modulo 2^64, to whichever
         // word it finds there.
         requires program { MayStep P.meaning rows.now (caller_announced self.old) place (λ x. (x + add) % 2 ^ 64) }
+        // The announced call has made one object step more, which found the answered word and left
+        // the sum modulo 2^64.
         ensures { HasStepped P.meaning rows.now self.old self.new (record { place = place; old = result; new = (result + add) % 2 ^ 64 }) }
     {
         rows.object_add(&mut self.caller, place, add)

@@ -33,6 +33,7 @@ impl<P> Viewed<P> {
 
     /// The view: the cut of a scan of announcements that began after the object had answered.
     pub fn view(&self) -> Cut
+        // The answer is the view of the call.
         ensures { result ≡ view_viewed self.now }
     {
         self.view
@@ -56,6 +57,7 @@ impl<P> Viewed<P> {
 
     /// The caller, halted, with its local as it is: its record is not published.
     pub fn stop(self) -> Caller<P>
+        // The caller has its number and its local, makes no calls, and is still one of its rows.
         ensures { IsStopped (caller_viewed self) result }
     {
         let Viewed {

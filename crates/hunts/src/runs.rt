@@ -53,6 +53,8 @@ where
     // The settings' workload is one that texts of scripts have room for, with a value and an
     // operation to draw.
     requires { IsWorkload settings.now.workload }
+    // What a hunt ends with is caught by its last run, after quiet ones; or all its runs were made,
+    // and were quiet.
     ensures { IfOk result (λ hunted. IsHunted B.Pass.made B.Pass.told settings.now hunted) }
 {
     for number in 0..settings.runs {

@@ -29,6 +29,8 @@ impl Scratch {
         requires some_calls { 1 ≤ cap }
         // Each caller has at most `MAX_CALLS` calls.
         requires few_calls { cap ≤ MAX_CALLS }
+        // Both states of the scratch are empty, with room for one word more than there are calls,
+        // and nothing waits.
         ensures { IfOk result (IsClear n cap) }
     {
         let room = n as u64 * cap + 1;

@@ -187,6 +187,7 @@ impl<P: Program> Monitor<P> {
 
     /// The monitor's own witness, where its last round was illegal.
     pub fn own(&self) -> Option<&Witness>
+        // The answer is the monitor's own witness, and None where it has none.
         ensures { MatchOption result (own_of self.now ≡ None) (λ r. own_of self.now ≡ Some r.now) }
     {
         self.claim.own()

@@ -22,6 +22,8 @@ pub fn foresee_queue<R: Reader>(
     reader: &R,
     book: &Book,
 ) -> Result<Foresight, NoMemory>
+    // For each object that reads as a queue and begins empty, each call that the answer forbids is
+    // infeasible there.
     ensures { IfOk result (λ known. (init : List ℕ) (next : List ℕ → ℕ → List ℕ × ℕ) → IsQueue (R.reading reader.now) next
         → (R.reading reader.now).values init ≡ [] → IsForesight init next book.now known) }
 {
@@ -41,6 +43,8 @@ pub fn foresee_stack<R: Reader>(
     reader: &R,
     book: &Book,
 ) -> Result<Foresight, NoMemory>
+    // For each object that reads as a stack and begins empty, each call that the answer forbids is
+    // infeasible there.
     ensures { IfOk result (λ known. (init : List ℕ) (next : List ℕ → ℕ → List ℕ × ℕ) → IsStack (R.reading reader.now) next
         → HoldsItsWords (R.reading reader.now) → (R.reading reader.now).values init ≡ [] → IsForesight init next book.now known) }
 {
@@ -61,6 +65,8 @@ pub fn foresee_container<R: Reader>(
     reader: &R,
     book: &Book,
 ) -> Result<Foresight, NoMemory>
+    // For each object that reads as a container and begins empty, each call that the answer forbids
+    // is infeasible there.
     ensures { IfOk result (λ known. (init : List ℕ) (next : List ℕ → ℕ → List ℕ × ℕ) → IsContainer (R.reading reader.now) next
         → (R.reading reader.now).values init ≡ [] → IsForesight init next book.now known) }
 {

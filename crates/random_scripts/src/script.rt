@@ -15,6 +15,7 @@ pub fn random_script(alloc: Global, workload: &Workload, seed: u64) -> Result<Sc
     // The workload is one that texts of scripts have room for, with a value and an operation to
     // draw.
     requires { IsWorkload workload.now }
+    // The answer is the script that is drawn of this seed for this workload.
     ensures { IfOk result (λ script. script ≡ drawn_plan workload.now seed) }
 {
     let text = script_text(alloc, workload, seed)?;

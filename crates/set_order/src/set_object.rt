@@ -45,6 +45,8 @@ pub trait SetObject {
     /// Whether an operation may still get this reply, alone or beside others, at this list or after more is
     /// served. An object that leaves this out knows of none that may not.
     fn may_reply(&self, state: &State, op: OpWord, reply: u64) -> bool
+        // `false` is answered only where the operation never gets this reply, at this list or after
+        // more is served.
         ensures { IsFalse result → NeverRepliesFrom (served self.now) state.now.words op reply }
     {
         true

@@ -132,6 +132,7 @@ fn earlier(book: &Book, a: Call, b: Call) -> Call
 
 /// The numbers of all callers' calls.
 pub fn announced(book: &Book) -> Cut
+    // The answer is how many calls each caller of the book made.
     ensures { result ≡ announced book.now }
 {
     let mut counts = Cut::zero(book.callers());

@@ -13,6 +13,7 @@ use std::alloc::Global;
 /// holds are invoked, by caller and then by number, and then the calls whose view it is return, by
 /// caller. After the last view the calls that no view holds are invoked, by caller and then by number.
 pub fn sketch(alloc: Global, book: &Book) -> Result<Vec<Event>, NoMemory>
+    // The answered events are the book's one sketch.
     ensures { IfOk result (λ events. IsSketch book.now events.items) }
 {
     let mut events = Vec::new(alloc);

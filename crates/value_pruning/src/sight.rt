@@ -13,6 +13,8 @@ use std::collections::BTreeMap;
 /// The sight of a book's values: for each value the calls that put it in, and the answered ones that take
 /// it out.
 pub fn sight_of_values<R: Reader>(alloc: Global, reader: &R, book: &Book) -> Result<Sight, NoMemory>
+    // The sight lists each call of the book that puts in a value, and each answered one that takes
+    // it out.
     ensures { IfOk result (ListsValues (R.reading reader.now) book.now) }
 {
     let mut sight = Sight {
@@ -126,6 +128,7 @@ pub fn labelled_of(sight: &Sight, value: u64) -> Option<&Labelled>
 
 /// Whether one call alone puts in a value.
 pub fn is_put_once(sight: &Sight, value: u64) -> bool
+    // `true` is answered only where the sight lists exactly one call that puts in the value.
     ensures { IsTrue result → length (sights.puts_of sight.now value) ≡ 1 }
 {
     match labelled_of(sight, value) {

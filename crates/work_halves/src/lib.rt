@@ -29,6 +29,7 @@ pub trait Work<C>: Send {
 pub fn work_all<R: Threads + Sync, C: Sync, W: Work<C>>(rt: &R, shared: &C, all: &mut [W])
     // Each worker is ready for what they share.
     requires { All (λ w. W.ready w shared.now) all.old }
+    // Each worker has done its work.
     ensures { AllZip (λ before after. W.done before shared.now after) all.old all.new }
 {
     match all.len() {
