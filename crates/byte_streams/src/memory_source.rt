@@ -59,8 +59,8 @@ impl Source for MemorySource {
     fn read(&mut self, piece: &mut [u8]) -> Result<usize, Failed>
         // A read gives no more bytes than the piece has.
         ensures bound { IfOk result (λ count. count ≤ length piece.old) }
-        // The source has lost the bytes that are given to the piece, and none where the read
-        // failed.
+        // The source has lost the bytes that are given to the piece, which are none only at its end
+        // or of an empty piece; a failed read loses none.
         ensures bytes { ReadConsumes (Some self.old.left) (Some self.new.left) result piece.new }
         // The source's count of faults isn't lower than before.
         ensures later { self.old.faults ≤ self.new.faults }

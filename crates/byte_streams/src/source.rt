@@ -17,8 +17,8 @@ pub trait Source {
     fn read(&mut self, piece: &mut [u8]) -> Result<usize, Failed>
         // A read gives no more bytes than the piece has.
         ensures bound { IfOk result (λ count. count ≤ length piece.old) }
-        // The source has lost the bytes that are given to the piece, and none where the read
-        // failed.
+        // The source has lost the bytes that are given to the piece, which are none only at its end
+        // or of an empty piece; a failed read loses none.
         ensures bytes { ReadConsumes (left self.old) (left self.new) result piece.new }
         // The source's count of faults isn't lower than before.
         ensures later { faults self.old ≤ faults self.new }

@@ -74,13 +74,21 @@ pub trait CoreObject {
         announced: Announced<Self::P>,
         pass: &mut Self::Pass,
     ) -> Answered<Self::P>
+        // The rows were opened with the program of this object.
         requires program { AreOpenedWith Self.P.meaning (program_of self.now) rows.now }
+        // The caller of the announced call is one of these rows.
         requires caller { IsCallerOf Self.P.meaning rows.now (caller_announced announced) }
+        // The announced call has made no object step.
         requires first { steps_now (announced_local announced) ≡ [] }
+        // The pass fits the caller and all object steps that it has made.
         requires fits { fits self.now pass.old (who_announced announced) rows.now.callers rows.now.cap (all_steps_of (announced_local announced)) }
+        // The caller is still one of these rows, with the same number.
         ensures caller { IsStill Self.P.meaning rows.now (caller_announced announced) (caller_answered result) }
+        // The answered call has the announced operation.
         ensures operation { op_answered result ≡ op_announced announced }
+        // The program allows the caller the reply, by its local.
         ensures allowed { MayGet Self.P.meaning (caller_answered result) (reply_answered result) }
+        // The caller has made some object steps and no other event, and the pass fits it still.
         ensures made { (steps : List Object_step) × (answered_local result ≡ with_steps (announced_local announced) steps)
             × (progress_of (answered_local result) ≡ after_steps steps (progress_of (announced_local announced)))
             × fits self.now pass.new (who_announced announced) rows.now.callers rows.now.cap (all_steps_of (announced_local announced) ++ steps) }
