@@ -1,4 +1,4 @@
--- How a cut lies in its array: the counts first, and zeros behind them.
+-- How a cut lies in its array: the counts first, and zeros after them.
 use Rattle.std.specs.Prelude.{◌≡◌, ℕ, ◌-◌, ◌≤◌, List, ◌++◌, length, take, drop, replicate}
 use Rattle.std.proofs.Common.{sym, ap, ◌∙◌, arith}
 use Rattle.std.proofs.lemmas.List.{length-take, take-append-drop}

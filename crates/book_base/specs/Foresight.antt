@@ -23,7 +23,8 @@ pub record Reaches (init : List ℕ) (next : List ℕ → ℕ → List ℕ × �
   pub held : (call : Call) → Holds cut call → (k : ℕ) × StandsAt order k call
   pub reached : list_after_run next init (map (step_at book) order) ≡ list
 
--- A call is hopeless next, after a cut and at a list: no legal order that reaches them goes on with it.
+-- A call is infeasible next, after a cut and at a list: no legal order that reaches them goes on
+-- with it.
 abbrev pub IsHopeless : List ℕ → (List ℕ → ℕ → List ℕ × ℕ) → List Page → List ℕ → List ℕ → Call → Type 0
 IsHopeless init next book cut list call = (before rest : List Place) (reply : ℕ) → Reaches init next book before cut list
     → IsLegalOrder init next book (before ++ record { caller = call.caller; number = call.number; reply = reply } ∷ rest) → ⊥
@@ -74,7 +75,7 @@ HasEarly ranks list limit = (word : ℕ) × Contains list word × IsSomeAnd (ran
 abbrev pub Forbids : Known → List ℕ → List ℕ → Call → Type 0
 Forbids known cut list call = IsBelow cut (bar_of known call).floor ⊎ HasEarly known.ranks list (bar_of known call).limit
 
--- What is known of a book is right for an object: each call that it forbids is hopeless there.
+-- What is known of a book is right for an object: each call that it forbids is infeasible there.
 abbrev pub IsForesight : List ℕ → (List ℕ → ℕ → List ℕ × ℕ) → List Page → Known → Type 0
 IsForesight init next book known = (cut list : List ℕ) (call : Call) → Forbids known cut list call → IsHopeless init next book cut list call
 

@@ -22,7 +22,7 @@ abbrev pub OneCutIsReached : Type 0
 OneCutIsReached = (init : List ℕ) (next : List ℕ → ℕ → List ℕ × ℕ) (book : List Page) (order : List Place) (cut other list last : List ℕ)
     → length cut ≡ length other → Reaches init next book order cut list → Reaches init next book order other last → (cut ≡ other) × (list ≡ last)
 
--- What stands in a legal order isn't hopeless where it stands.
+-- What stands in a legal order isn't infeasible where it stands.
 abbrev pub WhatStandsIsNotHopeless : Type 0
 WhatStandsIsNotHopeless = (init : List ℕ) (next : List ℕ → ℕ → List ℕ × ℕ) (book : List Page) (before rest : List Place) (place : Place) (cut list : List ℕ)
     → IsLegalOrder init next book (before ++ place ∷ rest) → Reaches init next book before cut list → IsHopeless init next book cut list (call_at place) → ⊥

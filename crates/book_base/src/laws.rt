@@ -43,8 +43,8 @@ pub fn orders_reach_place_by_place()
     ensures one { OneCutIsReached }
 {}
 
-/// A hopeless call stands in no legal order where it is hopeless, and a call that precedes another one
-/// must come first.
+/// An infeasible call stands in no legal order where it is infeasible, and a call that precedes
+/// another one must come first.
 pub fn hopeless_and_first_calls()
     // A call isn't infeasible where it stands in a legal order.
     ensures hopeless { WhatStandsIsNotHopeless }

@@ -17,12 +17,13 @@ BeginsSomeText version front = (kind : Kind) × (book : List Page) × (more : Li
 abbrev pub BeginsNoText : Version → List ℕ → Type 0
 BeginsNoText version front = (kind : Kind) (book : List Page) (more : List ℕ) → ¬ (IsBookText version (front ++ more) kind book)
 
--- the bytes are so many whole lines: each is cut off at its line feed, and nothing is left behind the last
+-- the bytes are so many whole lines: each is cut off at its line feed, and nothing is left after
+-- the last
 abbrev pub AreWholeLines : ℕ → List ℕ → Type 0
 AreWholeLines zero bytes = bytes ≡ []
 AreWholeLines (suc count) bytes = (line : List ℕ) × (rest : List ℕ) × (cut_at 10 bytes ≡ Some (line, rest)) × AreWholeLines count rest
 
--- Behind the whole lines in front stands a further whole line, with which no text of a book goes on.
+-- After the first whole lines stands a further whole line, with which no text of a book goes on.
 pub record BreaksText (version : Version) (front rest : List ℕ) (what : What) : Type 0 where
   pub named : (what ≢ Cut) × (what ≢ Rest)
   pub line : List ℕ
@@ -30,12 +31,12 @@ pub record BreaksText (version : Version) (front rest : List ℕ) (what : What) 
   pub whole : cut_at 10 rest ≡ Some (line, behind)
   pub none : BeginsNoText version (front ++ (line ++ 10 ∷ []))
 
--- Behind the whole lines in front the bytes have no further whole line.
+-- After the first whole lines the bytes have no further whole line.
 pub record EndsEarly (rest : List ℕ) (what : What) : Type 0 where
   pub named : what ≡ Cut
   pub none : cut_at 10 rest ≡ None
 
--- The whole lines in front are a book's text already, and bytes follow.
+-- The first whole lines are a book's text already, and bytes follow.
 pub record GoesOn (version : Version) (front rest : List ℕ) (what : What) : Type 0 where
   pub named : what ≡ Rest
   pub kind : Kind

@@ -20,7 +20,7 @@ pub data BookDue : Type 0 where
   InCalls : Kind → List Page → List Call → BookDue
   AtEnd : Kind → List Page → BookDue
 
--- Behind the head come the calls.
+-- After the head come the calls.
 abbrev pub behind_head : HeadDue → BookDue
 behind_head TitleDue = InHead TitleDue
 behind_head ObjectDue = InHead ObjectDue

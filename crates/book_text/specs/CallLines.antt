@@ -25,7 +25,7 @@ use Rattle.text_fields.specs.Faults.{Wanted, ALine, Nothing, Rules, GoesTo, IsFi
 abbrev pub place_words : Call → List (List ℕ)
 place_words call = decimal call.caller ∷ decimal call.number ∷ []
 
--- the words behind the operation: none where the call is unanswered, and else the reply and the view
+-- the words after the operation: none where the call is unanswered, and else the reply and the view
 abbrev pub answer_words : Version → Option Record → List (List ℕ)
 answer_words version None = []
 answer_words version (Some answer) = reply_word answer.reply ∷ codes "view" ∷ cut_words version answer.view
@@ -36,19 +36,19 @@ call_words version operations call op answer = place_words call ++ (operations.w
 
 -- ---- what the tests of a line speak of
 
--- behind the caller, the number and an operation the line has these words
+-- after the caller, the number and an operation the line has these words
 pub record IsBehindOperation (operations : Operations) (call : Call) (words behind : List (List ℕ)) : Type 0 where
   pub op : ℕ
   pub has : IsTrue (operations.has op)
   pub text : words ≡ place_words call ++ (operations.words op ++ behind)
 
--- behind the reply the line has these words
+-- after the reply the line has these words
 pub record IsBehindReply (operations : Operations) (call : Call) (words behind : List (List ℕ)) : Type 0 where
   pub reply : ℕ
   pub small : reply < 2 ^ 64
   pub text : IsBehindOperation operations call words (reply_word reply ∷ behind)
 
--- behind the reply the line has this view of so many callers, and nothing else
+-- after the reply the line has this view of so many callers, and nothing else
 pub record HasView (version : Version) (operations : Operations) (n : ℕ) (call : Call) (words : List (List ℕ)) (view : List ℕ) : Type 0 where
   pub wide : length view ≡ n
   pub numbers : AreNumbers view
@@ -62,9 +62,10 @@ AreView version n view words = (length view ≡ n) × AreNumbers view × (words 
 abbrev pub LacksViewWord : List (List ℕ) → Type 0
 LacksViewWord words = (behind : List (List ℕ)) → words ≢ codes "view" ∷ behind
 
--- The words behind the reply are no view. In version 1 they aren't 'view' and as many numbers as there are callers. In version 2
--- there are four cases: the next word isn't 'view'; of the pair words behind it, those up to the next word without a colon, one
--- is no pair of a caller and a count above 0, or its caller isn't above that of the pair before it; or a word follows them.
+-- The words after the reply are no view. In version 1 they aren't 'view' and as many numbers as
+-- there are callers. In version 2 there are four cases: the next word isn't 'view'; of the pair
+-- words after it, those up to the next word without a colon, one is no pair of a caller and a count
+-- above 0, or its caller isn't above that of the pair before it; or a word follows them.
 abbrev pub IsNoView : Version → ℕ → List (List ℕ) → Type 0
 IsNoView First n words = (view : List ℕ) → length view ≡ n → AreNumbers view → words ≢ codes "view" ∷ cut_words First view
 IsNoView Second n words = LacksViewWord words ⊎ ((behind : List (List ℕ)) × (words ≡ codes "view" ∷ behind) × (HasBadPair n 0 behind ⊎ HasWordBehindPairs behind))
@@ -148,7 +149,7 @@ no_call_read calls = record { book = unanswered_book calls; due = all_calls 0 ca
 abbrev pub is_gap : List Page → Call → Bool
 is_gap book call = nat_lt (answers_of book call.caller) call.number
 
--- the answer to a call may be written behind the lines that give this book
+-- the answer to a call may be written after the lines that give this book
 abbrev pub MayStand : List Page → Call → Option Record → Type 0
 MayStand book call None = Unit {0}
 MayStand book call (Some answer) = (is_gap book call ≡ false) × (answer.reply < 2 ^ 64) × (length answer.view ≡ length book) × AreNumbers answer.view × MayAnswer book call.caller answer.view
@@ -164,7 +165,7 @@ pub record IsNamedCall (book : List Page) (call : Call) : Type 0 where
   pub callers : length book ≤ MAX_CALLERS
   pub number : call.number < 2 ^ 64
 
--- a right line for this call, and the book behind it
+-- a right line for this call, and the book after it
 pub record IsCallLine (version : Version) (operations : Operations) (book : List Page) (call : Call) (words : List (List ℕ)) (after : List Page) : Type 0 where
   pub named : IsNamedCall book call
   pub op : ℕ
@@ -199,12 +200,13 @@ call_rules version operations = record {
 
 -- ---- reading
 
--- The lines of these calls lead from one book to another, whatever is due behind them, and leave the rest unread.
+-- The lines of these calls lead from one book to another, whatever is due after them, and leave the
+-- rest unread.
 abbrev pub AreRead : Version → Operations → List Call → List Page → Unread → List Page → Unread → Type 0
 AreRead version operations calls book text after left = (more : List Call)
     → GoesTo (call_rules version operations) (reading book (calls ++ more)) text (reading after more) left
 
--- The reading of the lines of these calls stops, whatever is due behind them.
+-- The reading of the lines of these calls stops, whatever is due after them.
 abbrev pub AreStopped : Version → Operations → List Call → List Page → Unread → ReadFault → Type 0
 AreStopped version operations calls book text fault = (more : List Call)
     → StopsFor (call_rules version operations) (reading book (calls ++ more)) text fault

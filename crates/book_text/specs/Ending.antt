@@ -5,7 +5,7 @@ use Rattle.book_base.specs.declared.fault.What.TheVariants.{End, Rest}
 use Rattle.text_fields.specs.Lines.{Unread, line_at, words_of}
 use Rattle.book_text.specs.Grammar.{end_words}
 
--- the next line is the last of a text, and nothing is left behind it
+-- the next line is the last of a text, and nothing is left after it
 pub record IsEnded (text left : Unread) : Type 0 where
   pub line : List ℕ
   pub next : line_at text ≡ Ok (line, left)

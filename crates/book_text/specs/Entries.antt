@@ -10,7 +10,7 @@ use Rattle.text_fields.specs.Counts.{AreNumbers}
 use Rattle.text_fields.specs.Operations.{Operations}
 use Rattle.book_text.specs.CallLines.{call_words, IsNoView}
 
--- an answer that the words behind an operation may give, in a text of so many callers
+-- an answer that the words after an operation may give, in a text of so many callers
 abbrev pub IsEntryAnswer : ℕ → Bool → Option Record → Type 0
 IsEntryAnswer n gap None = Unit {0}
 IsEntryAnswer n gap (Some answer) = (gap ≡ false) × (answer.reply < 2 ^ 64) × (length answer.view ≡ n) × AreNumbers answer.view
@@ -29,7 +29,7 @@ BeginWith operations words op behind = IsTrue (operations.has op) × (words ≡ 
 abbrev pub BeginWithNone : Operations → List (List ℕ) → Type 0
 BeginWithNone operations words = (op : ℕ) (behind : List (List ℕ)) → IsTrue (operations.has op) → words ≢ operations.words op ++ behind
 
--- why the words behind an operation give no answer
+-- why the words after an operation give no answer
 abbrev pub IsNoAnswer : Version → ℕ → Bool → List (List ℕ) → What → Type 0
 IsNoAnswer version n gap words what.Gap = (words ≢ []) × (gap ≡ true)
 IsNoAnswer version n gap words what.Reply = (word : List ℕ) × (behind : List (List ℕ)) × (gap ≡ false) × (words ≡ word ∷ behind) × ((reply : ℕ) → reply < 2 ^ 64 → reply_word reply ≢ word)

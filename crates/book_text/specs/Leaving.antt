@@ -14,7 +14,7 @@ BeginsSome {Said} IsText front = (said : Said) × (more : List ℕ) × IsText (f
 abbrev pub BeginsNone : {Said : Type 0} → (List ℕ → Said → Type 0) → List ℕ → Type 0
 BeginsNone {Said} IsText front = (said : Said) (more : List ℕ) → ¬ (IsText (front ++ more) said)
 
--- Behind the whole lines in front stands a further whole line, with which no text goes on.
+-- After the first whole lines stands a further whole line, with which no text goes on.
 pub record Breaks {Said : Type 0} (IsText : List ℕ → Said → Type 0) (front rest : List ℕ) (what : What) : Type 0 where
   pub named : (what ≢ Cut) × (what ≢ Rest)
   pub line : List ℕ
@@ -22,7 +22,7 @@ pub record Breaks {Said : Type 0} (IsText : List ℕ → Said → Type 0) (front
   pub whole : cut_at 10 rest ≡ Some (line, behind)
   pub none : BeginsNone IsText (front ++ (line ++ 10 ∷ []))
 
--- The whole lines in front are a text already, and bytes follow.
+-- The first whole lines are a text already, and bytes follow.
 pub record GoesPast {Said : Type 0} (IsText : List ℕ → Said → Type 0) (front rest : List ℕ) (what : What) : Type 0 where
   pub named : what ≡ Rest
   pub said : Said

@@ -15,7 +15,7 @@ use book_base::{Book, BookFault, Call, Cut, ReadFault, Record, TextFault, What};
 use std::alloc::Global;
 use text_fields::{Lines, OpText, Version};
 
-/// The book whose calls the lines tell, by the words of these operations; the lines behind them
+/// The book whose calls the lines tell, by the words of these operations; the lines after them
 /// stay.
 ///
 /// `calls` has the number of calls of each of the `n` callers. A text fault is the first fault of
@@ -40,8 +40,8 @@ pub fn read_calls<T: OpText>(
         (AreNoCallLines Second (T.operations operations.now) calls.now lines.old) }
     // A refusal leaves the lines as they were.
     ensures unchanged { IfErr result (λ _. lines.new ≡ lines.old) }
-    // The lines of a book's calls are read as that book, unless memory runs out, and leave what stands
-    // behind them.
+    // The lines of a book's calls are read as that book, unless memory runs out, and leave what
+    // stands after them.
     ensures only { (book : List Page) (left : Unread)
         → AreCallLines Second (T.operations operations.now) calls.now book lines.old left
         → MatchResult result (λ b. (b ≡ book) × (lines.new ≡ left)) (λ e. e ≡ ReadFault.NoMemory) }

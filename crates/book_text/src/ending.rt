@@ -9,7 +9,7 @@ ghost use Rattle.book_text.specs.Grammar.{end_words};
 use book_base::{TextFault, What};
 use text_fields::{Lines, Words};
 
-/// The last line of a text, and nothing behind it.
+/// The last line of a text, and nothing after it.
 pub fn read_end(lines: &mut Lines) -> Result<(), TextFault>
     // An answer Ok comes only where the next line is the last of a text, with nothing after it, and
     // it is taken.

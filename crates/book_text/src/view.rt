@@ -8,7 +8,7 @@ ghost use Rattle.book_text.specs.CallLines.{AreView, IsNoView};
 use book_base::Cut;
 use text_fields::{Version, Words, read_counts, read_pairs};
 
-/// The view behind a reply, and nothing behind it.
+/// The view after a reply, and nothing after it.
 pub(crate) fn read_view(version: Version, words: &mut Words, n: u32) -> Option<Cut>
     requires some { 1 ≤ n }
     requires few { n ≤ MAX_CALLERS }

@@ -1,4 +1,4 @@
--- The fields of a line, as they are written one behind the other.
+-- The fields of a line, as they are written one after the other.
 use Rattle.std.specs.Prelude.{◌≡◌, ℕ, ◌<◌, ◌^◌, List, [], ◌∷◌, ◌++◌, map, Some}
 use Rattle.book_base.specs.declared.call.Call.{Call}
 use Rattle.book_base.specs.declared.call.Record.{Record}
@@ -11,7 +11,7 @@ use Rattle.text_fields.specs.Operations.{kind_operations}
 use Rattle.book_text.specs.CallLines.{calls_from}
 use Rattle.book_text.specs.Grammar.{line_of}
 
--- words that go on a line, each behind a space
+-- words that go on a line, each after a space
 abbrev pub spaced : List (List ℕ) → List ℕ
 spaced [] = []
 spaced (word ∷ words) = 32 ∷ (word ++ spaced words)

@@ -13,7 +13,7 @@ ghost use Rattle.book_writer.specs.Fields.{spaced};
 use book_base::{Call, Cut, NoMemory, OpWord};
 use seq_objects::{Kind, put_number};
 
-/// Appends a number behind a space.
+/// Appends a number after a space.
 pub fn put_spaced(out: &mut Vec<u8>, n: u64) -> Result<(), NoMemory>
     // After an answer Ok the vector has a space and the digits of the number after what it held.
     ensures { OnOk result (out.new.items ≡ out.old.items ++ 32 ∷ decimal n) }
@@ -53,7 +53,7 @@ fn put_callers(out: &mut Vec<u8>, n: u32) -> Result<(), NoMemory>
     Ok(())
 }
 
-/// Appends each count of a cut behind a space.
+/// Appends each count of a cut after a space.
 pub fn put_counts(out: &mut Vec<u8>, cut: &Cut) -> Result<(), NoMemory>
     // After an answer Ok the vector has each count of the cut, after a space each, after what it
     // held.
@@ -88,7 +88,7 @@ pub fn put_head(out: &mut Vec<u8>, title: &[u8], kind: Kind, calls: &Cut) -> Res
     put_calls_line(out, calls)
 }
 
-/// Appends the pairs of a cut, each behind a space.
+/// Appends the pairs of a cut, each after a space.
 pub fn put_pairs(out: &mut Vec<u8>, cut: &Cut) -> Result<(), NoMemory>
     // After an answer Ok the vector has the pairs of the cut, after a space each, after what it
     // held.
@@ -100,7 +100,7 @@ pub fn put_pairs(out: &mut Vec<u8>, cut: &Cut) -> Result<(), NoMemory>
     Ok(())
 }
 
-/// Appends the pair of a caller and a count behind a space. A count of 0 has none.
+/// Appends the pair of a caller and a count after a space. A count of 0 has none.
 fn put_pair(out: &mut Vec<u8>, j: u32, count: u64) -> Result<(), NoMemory>
     ensures { OnOk result (out.new.items ≡ out.old.items ++ spaced (pair_words j (count ∷ []))) }
 {
@@ -112,7 +112,7 @@ fn put_pair(out: &mut Vec<u8>, j: u32, count: u64) -> Result<(), NoMemory>
     put_number(out, count)
 }
 
-/// Appends the caller and the number of a call, each behind a space.
+/// Appends the caller and the number of a call, each after a space.
 pub fn put_place(out: &mut Vec<u8>, call: Call) -> Result<(), NoMemory>
     // After an answer Ok the vector has the call's caller and number, after a space each, after
     // what it held.
@@ -122,7 +122,7 @@ pub fn put_place(out: &mut Vec<u8>, call: Call) -> Result<(), NoMemory>
     put_spaced(out, call.number)
 }
 
-/// Appends the words of an operation, each behind a space.
+/// Appends the words of an operation, each after a space.
 pub fn put_operation(out: &mut Vec<u8>, kind: Kind, op: OpWord) -> Result<(), NoMemory>
     // After an answer Ok the vector has the operation's words, after a space each, after what it
     // held.

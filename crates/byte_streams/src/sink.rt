@@ -13,7 +13,7 @@ pub trait Sink {
     /// How often the sink has failed. The count never falls, and rises at a refusal alone.
     ghost faults: { Self → ℕ };
 
-    /// Takes the front of the piece, and answers how many bytes it took.
+    /// Takes the first bytes of the piece, and answers how many bytes it took.
     fn write(&mut self, piece: &[u8]) -> Result<usize, Failed>
         // A write takes no more bytes than the piece has.
         ensures bound { IfOk result (λ count. count ≤ length piece.now) }

@@ -12,8 +12,8 @@ pub trait Source {
     /// How often the source has failed. The count never falls, and rises at a failure alone.
     ghost faults: { Self → ℕ };
 
-    /// Fills the front of the piece, and answers how many bytes it gave: none of a piece that isn't empty
-    /// is the end of input.
+    /// Fills the first places of the piece, and answers how many bytes it gave: none of a piece
+    /// that isn't empty is the end of input.
     fn read(&mut self, piece: &mut [u8]) -> Result<usize, Failed>
         // A read gives no more bytes than the piece has.
         ensures bound { IfOk result (λ count. count ≤ length piece.old) }

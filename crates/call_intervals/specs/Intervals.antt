@@ -22,9 +22,10 @@ pub record IsIntervalOf (book : List Page) (events : List Event) (interval : Int
   pub begins : slice_get events interval.begin ≡ Some (Invoke interval.call)
   -- it is open exactly where the call is unanswered
   pub open_is : IsTrue interval.is_open ↔ ¬ (IsAnswered book interval.call)
-  -- that of an answered call ends behind the call's return
+  -- that of an answered call ends after the call's return
   pub returns : IsAnswered book interval.call → (place : ℕ) × (interval.end ≡ place + 1) × (slice_get events place ≡ Some (Return interval.call))
-  -- that of an unanswered call ends where the next call of its caller is invoked, or behind all events where there is none
+  -- that of an unanswered call ends where the next call of its caller is invoked, or after all
+  -- events where there is none
   pub breaks_off : ¬ (IsAnswered book interval.call) → IsCall book (next_of interval.call) → slice_get events interval.end ≡ Some (Invoke (next_of interval.call))
   pub goes_on : ¬ (IsAnswered book interval.call) → ¬ (IsCall book (next_of interval.call)) → interval.end ≡ length events
 

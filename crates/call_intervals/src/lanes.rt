@@ -35,7 +35,7 @@ pub fn call_lanes(
     // Each interval has at least one place, and all its places are of events.
     ensures within { IfOk result (λ lanes. LieWithin events.now (rows_of lanes.items)) }
 
-    // A call that precedes another ends before it begins; an answered call that doesn't ends behind.
+    // A call that precedes another ends before it begins; an answered call that doesn't ends after.
     ensures apart { IfOk result (λ lanes. AreApart book.now (rows_of lanes.items)) }
     // Where the interval of an answered call ends before another begins, the call precedes the
     // other's.

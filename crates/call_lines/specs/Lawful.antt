@@ -15,8 +15,8 @@ use Rattle.call_lines.specs.Lines.{made_of, calls_of, book_of_lines, lines_at, d
 use Rattle.call_lines.specs.Phases.{operations_of, marks_of, marks_after}
 use Rattle.call_lines.specs.Allotments.{operations_at, phases_of, KeepsTo, published_in}
 
--- A caller with these operations and this allotment has these lines: one for each call that it made, in the order of its operations,
--- and it made all its phases, but for those behind an error.
+-- A caller with these operations and this allotment has these lines: one for each call that it
+-- made, in the order of its operations, and it made all its phases, but for those after an error.
 pub record IsAllotted (operations : List ℕ) (allotment : ℕ) (own : List Line) : Type 0 where
   pub in_order : operations_of (map made_of own) ≡ take (length own) operations
   pub marks : marks_of (map made_of own) ≡ marks_after (phases_of allotment own)

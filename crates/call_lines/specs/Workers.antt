@@ -1,4 +1,4 @@
--- What a worker leaves behind, said of its own caller alone. It stays so while that caller goes on.
+-- What a worker leaves, said of its own caller alone. It stays so while that caller goes on.
 use Rattle.std.specs.Prelude.{◌≡◌, ℕ, List, map}
 use Rattle.std.specs.List.{All}
 use Rattle.book_base.specs.Book.{Page}
@@ -24,7 +24,7 @@ IsJudgedBy init next n l (Error r cut) = (book : List Page) × IsGathered n l cu
 pub record HasWorked (init : List ℕ) (next : List ℕ → ℕ → List ℕ × ℕ) (n : ℕ) (operations : List ℕ) (allotment : ℕ) (l : Local) (own : List Line) : Type 0 where
   -- there is a line for each of the caller's calls, which says how far it came: so a line's cut is the seen cut of that call
   pub calls : map made_of own ≡ calls_in l
-  -- it made all phases of its allotment, but for those behind an error
+  -- it made all phases of its allotment, but for those after an error
   pub made : HasMade operations (phases_of allotment own) l
   pub keeps : KeepsTo allotment own
   -- each verdict is by a book that it gathered

@@ -1,4 +1,4 @@
--- Clients before, in and behind their work.
+-- Clients before, in and after their work.
 use Rattle.std.specs.Prelude.{◌≡◌, ℕ, ◌+◌, ◌*◌, ◌≤◌, List, Option, length, vec_capacity}
 use Rattle.book_base.specs.declared.call.Record.{Record}
 use Rattle.world_core.specs.Shape.{Meaning}
@@ -12,7 +12,8 @@ use Rattle.call_phases.specs.declared.stand.Stand.{Stand}
 use Rattle.call_phases.specs.declared.stand.Stand.TheVariants.{Halted, Unjudged}
 use Rattle.call_phases.specs.declared.client.Client.{Client}
 
--- A caller that stands there behind so many lines has spent an allotment of phases: it has made all of them, or halted within them.
+-- A caller that stands there after so many lines has spent an allotment of phases: it has made all
+-- of them, or halted within them.
 abbrev pub Spent : {P : Type 0} → ℕ → ℕ → Stand P → Type 0
 Spent allotment lines (Halted c) = 5 * lines ≤ allotment
 Spent allotment lines (Unjudged u) = 5 * lines + 5 ≤ allotment

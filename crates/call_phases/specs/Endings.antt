@@ -72,7 +72,8 @@ module _ {P : Type 0} where
   IsEndedBy c (Delivered r cut) ended = ended ≡ GoesOn c (Delivered r cut)
   IsEndedBy c (Error r cut) ended = ended ≡ Halts c (Error r cut)
 
-  -- Where the caller stands behind a call that has ended, and its lines with that of the call, where it has one.
+  -- Where the caller stands after a call that has ended, and its lines with that of the call, where
+  -- it has one.
   abbrev pub IsNoted : ℕ → List Line → Ended P → List Line → Stand P → Type 0
   IsNoted op own (GoesOn c end) own' s = (s ≡ Idle c) × (own' ≡ own ++ record { op = op; end = end } ∷ [])
   IsNoted op own (Halts c end) own' s = (s ≡ Halted c) × (own' ≡ own ++ record { op = op; end = end } ∷ [])

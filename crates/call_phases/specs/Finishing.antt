@@ -52,8 +52,9 @@ module _ {P : Type 0} where
   is_unjudged (Unjudged u) = true
   is_unjudged _ = false
 
-  -- A client that stands there behind these lines leaves this local and its lines, whatever allotment it has spent, and has made the
-  -- phases that they tell of. Nothing is said of lines where memory was wanted.
+  -- A client that stands there after these lines leaves this local and its lines, whatever
+  -- allotment it has spent, and has made the phases that they tell of. Nothing is said of lines
+  -- where memory was wanted.
   abbrev pub Leaves : (ℕ → Local → Record → List ℕ → LineEnd → Type 0) → ℕ → List ℕ → Stand P → List Line → Local → List Line → Type 0
   Leaves says n operations s before l own =
       is_unjudged s ≡ false → (allotment : ℕ) → Spent allotment (length before) s

@@ -144,8 +144,8 @@ impl<'a, P: Program, T, E: Ending> Client<'a, P, T, E> {
         client
     }
 
-    /// Stops the caller where it stands, and puts the line of a call under way behind the others: pending, or
-    /// unchecked where it has its record.
+    /// Stops the caller where it stands, and puts the line of a call under way after the others:
+    /// pending, or unchecked where it has its record.
     ///
     /// A call that wasn't judged for want of memory has no line.
     pub fn finish(self, _rows: &Rows<P>) -> Finished<P, T, E>

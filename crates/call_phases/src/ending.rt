@@ -27,11 +27,11 @@ pub trait Ending {
     /// seen cut of the call.
     ghost says: { Sequential → ℕ → Local → Record → List ℕ → LineEnd → Type 0 };
 
-    /// Ends a call for which a cut was seen. The caller comes no further with its calls, and is halted behind an
-    /// error, and where memory is wanted.
+    /// Ends a call for which a cut was seen. The caller comes no further with its calls, and is
+    /// halted after an error, and where memory is wanted.
     ///
-    /// `gathered` is what the caller has gathered before, or `None`, and `standing` what stands of an order in it; and
-    /// afterwards what is kept for its next call.
+    /// `gathered` is what the caller has gathered before, or `None`, and `standing` what stands of
+    /// an order in it; and afterwards what is kept for its next call.
     fn end<P: Program, L: Ledger>(
         &mut self,
         rows: &Rows<P>,

@@ -17,7 +17,7 @@ pub enum Stand<P = Outside> {
     Viewed(Viewed<P>),
     /// The record is published.
     Published(Published<P>),
-    /// Halted behind an error.
+    /// Halted after an error.
     Halted(Caller<P>),
     /// Halted, and its last call isn't judged for want of memory.
     Unjudged(Unjudged<P>),

@@ -18,7 +18,8 @@ BeginsSomeText front = (kind : Kind) × (book : List Page) × (order : List Plac
 abbrev pub BeginsNoText : List ℕ → Type 0
 BeginsNoText front = (kind : Kind) (book : List Page) (order : List Place) (more : List ℕ) → ¬ (IsCertificateText (front ++ more) kind book order)
 
--- Behind the whole lines in front stands a further whole line, with which no text of a certificate goes on.
+-- After the first whole lines stands a further whole line, with which no text of a certificate goes
+-- on.
 pub record BreaksText (front rest : List ℕ) (what : What) : Type 0 where
   pub named : (what ≢ Cut) × (what ≢ Rest)
   pub line : List ℕ
@@ -26,7 +27,7 @@ pub record BreaksText (front rest : List ℕ) (what : What) : Type 0 where
   pub whole : cut_at 10 rest ≡ Some (line, behind)
   pub none : BeginsNoText (front ++ (line ++ 10 ∷ []))
 
--- The whole lines in front are a certificate's text already, and bytes follow.
+-- The first whole lines are a certificate's text already, and bytes follow.
 pub record GoesOn (front rest : List ℕ) (what : What) : Type 0 where
   pub named : what ≡ Rest
   pub kind : Kind

@@ -24,7 +24,7 @@ pub data CertificateDue : Type 0 where
   InPlaces : Kind → List Page → List Place → CertificateDue
   AllRead : Kind → List Page → List Place → CertificateDue
 
--- Behind the end of the book comes the title of the order.
+-- After the end of the book comes the title of the order.
 abbrev pub behind_book : BookDue → CertificateDue
 behind_book (InHead due) = InBook (InHead due)
 behind_book (InCalls kind book calls) = InBook (InCalls kind book calls)
@@ -37,11 +37,11 @@ pub record IsPlaceLine (words : List (List ℕ)) (place : Place) : Type 0 where
   pub may : IsPlace place
   pub text : words ≡ place_line place
 
--- the tests of a line behind the title of the order
+-- the tests of a line after the title of the order
 abbrev pub PlaceFails : List (List ℕ) → What → Type 0
 -- the line isn't the end, and doesn't begin with a caller and a number
 PlaceFails words what.Place = (words ≢ end_words) × ((call : Call) (behind : List (List ℕ)) → IsNamed call → words ≢ place_words call ++ behind)
--- the words behind a caller and a number aren't exactly one reply
+-- the words after a caller and a number aren't exactly one reply
 PlaceFails words what.Reply = (call : Call) × (behind : List (List ℕ)) × IsNamed call × (words ≡ place_words call ++ behind)
     × ((reply : ℕ) → reply < 2 ^ 64 → behind ≢ reply_word reply ∷ [])
 PlaceFails words _ = ⊥

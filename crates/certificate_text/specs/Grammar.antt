@@ -13,7 +13,7 @@ use Rattle.text_fields.specs.Head.{title_words}
 use Rattle.book_text.specs.CallLines.{place_words}
 use Rattle.book_text.specs.Grammar.{end_words, book_lines, IsWritable}
 
--- the line behind the book's lines
+-- the line after the book's lines
 abbrev pub order_words : List (List ℕ)
 order_words = title_words Second (codes "order")
 
@@ -21,7 +21,7 @@ order_words = title_words Second (codes "order")
 abbrev pub place_line : Place → List (List ℕ)
 place_line place = place_words (call_at place) ++ reply_word place.reply ∷ []
 
--- the lines behind a book's lines: the title of the order, a line for each place, and the end
+-- the lines after a book's lines: the title of the order, a line for each place, and the end
 abbrev pub order_lines : List Place → List (List (List ℕ))
 order_lines order = order_words ∷ (map place_line order ++ end_words ∷ [])
 

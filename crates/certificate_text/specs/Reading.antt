@@ -1,4 +1,4 @@
--- The parts of a certificate's text as they are read one behind the other.
+-- The parts of a certificate's text as they are read one after the other.
 use Rattle.std.specs.Prelude.{◌≡◌, ℕ, ◌<◌, ◌^◌, List, [], ◌∷◌, Option, Some, None}
 use Rattle.book_base.specs.declared.call.Place.{Place}
 use Rattle.book_base.specs.declared.fault.TextFault.{TextFault}
@@ -44,11 +44,11 @@ IsTitle text left = (kind : Kind) (book : List Page) → Goes (OrderDue kind boo
 abbrev pub IsNoTitle : Unread → TextFault → Type 0
 IsNoTitle text fault = (kind : Kind) (book : List Page) → IsFirstFault certificate_rules (OrderDue kind book) text fault
 
--- the words behind a caller and a number are exactly this reply
+-- the words after a caller and a number are exactly this reply
 abbrev pub IsOneReply : List (List ℕ) → ℕ → Type 0
 IsOneReply words reply = (reply < 2 ^ 64) × (words ≡ reply_word reply ∷ [])
 
--- what a line behind the title of the order says: a place, or that there are no more
+-- what a line after the title of the order says: a place, or that there are no more
 abbrev pub SaysPlace : List (List ℕ) → Option Place → Type 0
 SaysPlace words None = words ≡ end_words
 SaysPlace words (Some place) = IsPlaceLine words place
@@ -61,6 +61,6 @@ ArePlaces text order left = (kind : Kind) (book : List Page) → Goes (InPlaces 
 abbrev pub AreNoPlaces : Unread → ReadFault → Type 0
 AreNoPlaces text fault = (kind : Kind) (book : List Page) → Stops (InPlaces kind book []) text fault
 
--- bytes stand behind the end
+-- bytes stand after the end
 abbrev pub IsRest : Unread → TextFault → Type 0
 IsRest text fault = (kind : Kind) (book : List Page) (order : List Place) → IsFirstFault certificate_rules (AllRead kind book order) text fault

@@ -11,7 +11,7 @@ use seq_objects::Kind;
 use std::alloc::Global;
 use text_fields::{Lines, Words, read_head};
 
-/// The book that the lines begin with, up to its end, and the kind of its object; the lines behind
+/// The book that the lines begin with, up to its end, and the kind of its object; the lines after
 /// them stay.
 pub(crate) fn read_book_lines(alloc: Global, lines: &mut Lines) -> Result<(Kind, Book), ReadFault>
     ensures found { IfOk result (λ (kind, book). IsBookRead lines.old kind book lines.new) }
@@ -23,7 +23,7 @@ pub(crate) fn read_book_lines(alloc: Global, lines: &mut Lines) -> Result<(Kind,
     Ok((head.kind, book))
 }
 
-/// The line behind a book's calls.
+/// The line after a book's calls.
 fn read_book_end(lines: &mut Lines) -> Result<(), TextFault>
     ensures found { IfOk result (λ _. IsBookEnd lines.old lines.new) }
     ensures refused { IfErr result (IsNoBookEnd lines.old) }

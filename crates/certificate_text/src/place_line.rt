@@ -1,4 +1,4 @@
-//! A line behind the title of the order, by itself.
+//! A line after the title of the order, by itself.
 
 ghost use Rattle.std.specs.Prelude.{◌≡◌, ◌≢◌, ℕ, ◌<◌, ◌^◌, ◌∷◌, [], ◌++◌, List, IfOk, IfErr, IfSome, IfNone};
 ghost use Rattle.book_base.specs.declared.call.Call.{Call};
@@ -52,7 +52,7 @@ fn take_call(words: &mut Words) -> Option<Call>
     })
 }
 
-/// Takes a reply, and nothing behind it.
+/// Takes a reply, and nothing after it.
 fn take_reply(words: &mut Words) -> Option<u64>
     ensures found { IfSome result (IsOneReply words.old) }
     ensures none { IfNone result ((reply : ℕ) → reply < 2 ^ 64

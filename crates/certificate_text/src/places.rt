@@ -1,4 +1,4 @@
-//! The lines behind a book: the title of the order, its places, and the end.
+//! The lines after a book: the title of the order, its places, and the end.
 
 ghost use Rattle.std.specs.Prelude.{◌≡◌, ◌↔◌, IsTrue, IfOk, IfErr};
 ghost use Rattle.certificate_text.specs.Grammar.{order_words};

@@ -56,7 +56,7 @@ fn read_parts(alloc: Global, bytes: &[u8]) -> Result<Certificate, ReadFault>
     Ok(Certificate { kind, book, order })
 }
 
-/// Nothing stands behind the end.
+/// Nothing stands after the end.
 fn no_more(lines: &Lines) -> Result<(), TextFault>
     ensures whole { IfOk result (λ _. lines.now.bytes ≡ []) }
     ensures refused { IfErr result (IsRest lines.now) }

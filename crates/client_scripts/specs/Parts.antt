@@ -1,4 +1,4 @@
--- What the parts of a script's text say, each behind whatever stands before it, and where they stop.
+-- What the parts of a script's text say, each after whatever stands before it, and where they stop.
 use Rattle.std.specs.Prelude.{◌≡◌, ◌⊎◌, ℕ, List, [], ◌∷◌, ◌++◌, length}
 use Rattle.book_base.specs.declared.call.Call.{Call}
 use Rattle.book_base.specs.declared.fault.TextFault.{TextFault}
@@ -56,7 +56,8 @@ SaysLine begun words (Turns turns) = IsTurnsLine (length begun.calls) words turn
 abbrev pub IsTailLineRefused : Begun → List (List ℕ) → ℕ → ReadFault → Type 0
 IsTailLineRefused begun words number e = (e ≡ NoMemory) ⊎ ((what : What) × (e ≡ Text (record { line = number; what = what })) × IsFirstTest (TailFails begun words) what)
 
--- behind the calls of these clients the next lines are stops and turns: so those clients hold the stops, and the turns are these
+-- after the calls of these clients the next lines are stops and turns: so those clients hold the
+-- stops, and the turns are these
 abbrev pub IsTailRead : List Client → Unread → List Client → List ℕ → Unread → Type 0
 IsTailRead before text after turns left =
     (version : Version) (kind : Kind) → GoesTo (script_rules version) (InBody kind (told before 0) []) text (Turned (plan_in kind after turns)) left

@@ -22,11 +22,11 @@ use Rattle.client_scripts.specs.Grammar.{call_words, stop_words, turns_words}
 
 -- ---- what the lines so far say
 
--- What the head says of calls, and what the lines behind it say so far.
+-- What the head says of calls, and what the lines after it say so far.
 pub record Begun : Type 0 where
   -- how many calls each caller makes
   pub calls : List ℕ
-  -- the operations of the calls so far, one behind the other
+  -- the operations of the calls so far, one after the other
   pub operations : List ℕ
   -- the stops so far, one place a caller
   pub stops : List (Option ℕ)
@@ -65,11 +65,11 @@ pub data ScriptDue : Type 0 where
   InHead : HeadDue → ScriptDue
   -- the lines of these calls, then stops, and then the turns
   InBody : Kind → Begun → List Call → ScriptDue
-  -- the end, behind the turns
+  -- the end, after the turns
   Turned : Plan → ScriptDue
   AtEnd : Plan → ScriptDue
 
--- Behind the head come the calls.
+-- After the head come the calls.
 abbrev pub behind_head : HeadDue → ScriptDue
 behind_head TitleDue = InHead TitleDue
 behind_head ObjectDue = InHead ObjectDue
@@ -93,13 +93,13 @@ pub record IsCallLine (version : Version) (kind : Kind) (call : Call) (words : L
 abbrev pub CallFails : Version → Kind → Call → List (List ℕ) → What → Type 0
 -- the line doesn't begin with the caller and the number that are due
 CallFails version kind call words what.Place = (behind : List (List ℕ)) → words ≢ place_words call ++ behind
--- the words behind them are no operation, and nothing more
+-- the words after them are no operation, and nothing more
 CallFails version kind call words what.Op = (behind : List (List ℕ)) × (words ≡ place_words call ++ behind) × ((op : ℕ) → op < word_limit version → behind ≢ operation_words kind op)
 CallFails version kind call words _ = ⊥
 
 -- ---- the lines of stops and of turns
 
--- a stop may be told behind these lines: callers rise, and the caller has more phases than it makes
+-- a stop may be told after these lines: callers rise, and the caller has more phases than it makes
 pub record IsStop (begun : Begun) (caller phases : ℕ) : Type 0 where
   pub rising : begun.least ≤ caller
   pub inside : caller < length begun.calls
@@ -121,17 +121,17 @@ pub record IsTurnsLine (n : ℕ) (words : List (List ℕ)) (turns : List ℕ) : 
   pub may : AreTurns n turns
   pub text : words ≡ turns_words turns
 
--- the line begins with the word 'stop', and these words stand behind it
+-- the line begins with the word 'stop', and these words stand after it
 abbrev pub BeginsAsStop : List (List ℕ) → List (List ℕ) → Type 0
 BeginsAsStop words behind = words ≡ codes "stop" ∷ behind
 
--- the right lines behind the calls: a stop, or the turns
+-- the right lines after the calls: a stop, or the turns
 abbrev pub TailPasses : Kind → Begun → List (List ℕ) → ScriptDue → Type 0
 TailPasses kind begun words after =
     ((caller : ℕ) × (phases : ℕ) × IsStopLine begun words caller phases × (after ≡ InBody kind (with_stop begun caller phases) []))
     ⊎ ((turns : List ℕ) × IsTurnsLine (length begun.calls) words turns × (after ≡ Turned (plan_with kind begun turns)))
 
--- the tests of the lines behind the calls
+-- the tests of the lines after the calls
 abbrev pub TailFails : Begun → List (List ℕ) → What → Type 0
 -- the line begins with the word 'stop', and is no line of a stop
 TailFails begun words what.Stop = (behind : List (List ℕ)) × BeginsAsStop words behind × ((caller phases : ℕ) → ¬ (IsStopLine begun words caller phases))

@@ -1,4 +1,4 @@
-//! The lines behind a script's calls: stops, and then the turns.
+//! The lines after a script's calls: stops, and then the turns.
 
 ghost use Rattle.std.specs.Prelude.{◌≤◌, length, IfOk, IfErr};
 ghost use Rattle.book_base.specs.declared.TheConstants.{MAX_CALLERS};

@@ -1,4 +1,4 @@
-//! A line behind the calls, by itself: a stop, or the turns.
+//! A line after the calls, by itself: a stop, or the turns.
 
 ghost use Rattle.std.specs.Prelude.{◌≡◌, ◌≢◌, ◌↔◌, ℕ, ◌<◌, ◌≤◌, ◌∷◌, [], List, length, map, decimal, IfOk, IfErr, IfSome, IfNone, IsTrue};
 ghost use Rattle.book_base.specs.declared.TheConstants.{MAX_CALLERS};
@@ -13,7 +13,7 @@ use book_base::{NoMemory, ReadFault, TextFault, What};
 use std::alloc::Global;
 use text_fields::{Words, next_number, number};
 
-/// What a line behind the calls says.
+/// What a line after the calls says.
 pub(crate) enum TailLine {
     /// This caller stops after so many phases.
     Stop(u32, u64),
@@ -59,7 +59,7 @@ fn fault(line: u64, what: What) -> ReadFault
     ReadFault::Text(TextFault { line, what })
 }
 
-/// The caller and the phases behind the word `stop`, and nothing behind them.
+/// The caller and the phases after the word `stop`, and nothing after them.
 fn read_stop(words: &mut Words, clients: &[Client], least: u32) -> Option<(u32, u64)>
     requires { length clients.now ≤ MAX_CALLERS }
     ensures found { IfSome result (λ (caller, phases). IsStop (told clients.now least) caller phases
@@ -89,7 +89,7 @@ fn may_stop(clients: &[Client], least: u32, caller: u64, phases: u64) -> bool
     phases / PHASES < clients[caller as usize].operations.len() as u64
 }
 
-/// The callers behind the word `turns`, each one of `n`, and nothing behind them.
+/// The callers after the word `turns`, each one of `n`, and nothing after them.
 fn read_turns(alloc: Global, words: &mut Words, n: u32) -> Result<Option<Vec<u32>>, NoMemory>
     ensures found { IfOk result (λ found. IfSome found (λ turns. AreTurns n turns.items
         × (words.old ≡ map decimal turns.items))) }

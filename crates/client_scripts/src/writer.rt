@@ -115,7 +115,7 @@ fn put_turns(out: &mut Vec<u8>, turns: &[u32]) -> Result<(), NoMemory>
     Ok(())
 }
 
-/// Appends each turn behind a space.
+/// Appends each turn after a space.
 fn put_turn_words(out: &mut Vec<u8>, turns: &[u32]) -> Result<(), NoMemory>
     ensures { OnOk result (out.new.items ≡ out.old.items ++ spaced (map decimal turns.now)) }
 {

@@ -13,8 +13,8 @@ use Rattle.collect_scan.specs.Scanned.{scan_with, HasScanned}
 abbrev pub given_with : Local → Region → List ℕ → Given
 given_with before region cut = record { region = region; cut = cut; since = length before.looked }
 
--- One cut is added to those that the caller's scans gave, no scan is under way, and what was looked at and peeked before stands
--- behind what the scan found.
+-- One cut is added to those that the caller's scans gave, no scan is under way, and what was looked
+-- at and peeked before stands after what the scan found.
 pub record AddsCut (region : Region) (cut : List ℕ) (before after : Local) : Type 0 where
   pub cuts : after.cuts ≡ before.cuts ++ given_with before region cut ∷ []
   pub none : after.scan ≡ None

@@ -8,7 +8,8 @@ use Rattle.faulty_machines.specs.Calls.{earlier, last_call, reply_after}
 abbrev pub invented : ℕ
 invented = 2 * 2 ^ 32 + 99
 
--- The reply to a call behind some others: an invented one where its caller has made two of these, and else the lawful one.
+-- The reply to a call after some others: an invented one where its caller has made two of these,
+-- and else the lawful one.
 abbrev pub invent_reply_behind : (List ℕ → ℕ → List ℕ × ℕ) → List ℕ → List Entry → Entry → ℕ
 invent_reply_behind next init before e = if length (calls_by e.caller before) == 2 then invented else reply_after next init before e.op
 

@@ -22,16 +22,18 @@ abbrev pub waiting_call : ℕ → Option ℕ → List Entry
 waiting_call i None = []
 waiting_call i (Some op) = entry i op ∷ []
 
--- The changes that a call makes behind some others, in order: the waiting one of its caller, and its own unless it is a put.
+-- The changes that a call makes after some others, in order: the waiting one of its caller, and its
+-- own unless it is a put.
 abbrev pub late_change : List Entry → Entry → List Entry
 late_change before e = waiting_call e.caller (waiting_of e.caller before) ++ unless (is_put e.op) e
 
--- The changes that calls behind some others make, in order.
+-- The changes that calls after some others make, in order.
 abbrev pub late_changes : List Entry → List Entry → List Entry
 late_changes before [] = []
 late_changes before (e ∷ log) = late_change before e ++ late_changes (before ++ e ∷ []) log
 
--- The reply to a call behind some others: it is lawful at the list that their changes leave, and then the waiting one of its caller.
+-- The reply to a call after some others: it is lawful at the list that their changes leave, and
+-- then the waiting one of its caller.
 abbrev pub late_reply_behind : (List ℕ → ℕ → List ℕ × ℕ) → List ℕ → List Entry → Entry → ℕ
 late_reply_behind next init before e = reply_after next init (late_changes [] before ++ waiting_call e.caller (waiting_of e.caller before)) e.op
 
@@ -39,8 +41,8 @@ late_reply_behind next init before e = reply_after next init (late_changes [] be
 abbrev pub late_reply : (List ℕ → ℕ → List ℕ × ℕ) → List ℕ → List Entry → ℕ
 late_reply next init log = late_reply_behind next init (earlier log) (last_call log)
 
--- A call makes its changes behind those of the others, what waits of its caller afterwards is the call itself where it is a put, and it
--- is answered before its own change.
+-- A call makes its changes after those of the others, what waits of its caller afterwards is the
+-- call itself where it is a put, and it is answered before its own change.
 pub record PutsWait : Type 0 where
   pub changes : (before : List Entry) (e : Entry) → late_changes [] (before ++ e ∷ []) ≡ late_changes [] before ++ late_change before e
   pub own : (before : List Entry) (e : Entry) → waiting_of e.caller (before ++ e ∷ []) ≡ waits_after e.op

@@ -21,8 +21,8 @@ lossy_reply next init log = reply_after next init (without_second_puts false (ea
 abbrev pub puts_in : List Entry → ℕ
 puts_in log = length (filter (λ e. is_put e.op) log)
 
--- A call behind some others is left out exactly where it is a put, and the puts before it are odd in number; and it is answered at the
--- list that the others leave.
+-- A call after some others is left out exactly where it is a put, and the puts before it are odd in
+-- number; and it is answered at the list that the others leave.
 pub record LosesEachSecondPut : Type 0 where
   pub calls : (before : List Entry) (e : Entry) → without_second_puts false (before ++ e ∷ []) ≡ without_second_puts false before ++ unless (is_put e.op && (puts_in before % 2 == 1)) e
   pub reply : (next : List ℕ → ℕ → List ℕ × ℕ) (init : List ℕ) (before : List Entry) (e : Entry) → lossy_reply next init (before ++ e ∷ []) ≡ reply_after next init (without_second_puts false before) e.op

@@ -12,7 +12,7 @@ without_takes log = filter (λ e. not (is_take e.op)) log
 abbrev pub twice_reply : (List ℕ → ℕ → List ℕ × ℕ) → List ℕ → List Entry → ℕ
 twice_reply next init log = reply_after next init (without_takes (earlier log)) (last_call log).op
 
--- A call behind some others is answered at the list that these leave, but the takes.
+-- A call after some others is answered at the list that these leave, but the takes.
 abbrev pub TakesLeaveTheList : Type 0
 TakesLeaveTheList =
     (next : List ℕ → ℕ → List ℕ × ℕ) (init : List ℕ) (before : List Entry) (e : Entry) → twice_reply next init (before ++ e ∷ []) ≡ reply_after next init (without_takes before) e.op

@@ -37,7 +37,7 @@ dequeue = operation 2 0
 abbrev pub IsNoEnqueue : ℕ → Type 0
 IsNoEnqueue op = (value : ℕ) → value < 2 ^ 32 → op ≢ enqueue value
 
--- The word of an item place stands behind the counter.
+-- The word of an item place stands after the counter.
 abbrev pub item_index : ℕ → ℕ
 item_index place = 1 + place
 

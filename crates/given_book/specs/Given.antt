@@ -25,21 +25,22 @@ IsAfterVerdict bytes rest = (bytes ≡ codes "legal\n" ++ rest) ⊎ (bytes ≡ c
 abbrev pub BeginsAsVerdict : List ℕ → Type 0
 BeginsAsVerdict bytes = (rest : List ℕ) × IsAfterVerdict bytes rest
 
--- at this place the bytes have the end of a line, behind it the line `end`, and behind that the rest
+-- at this place the bytes have the end of a line, after it the line `end`, and after that the rest
 abbrev pub HasEndAt : List ℕ → ℕ → List ℕ → Type 0
 HasEndAt bytes at rest = drop at bytes ≡ codes "\nend\n" ++ rest
 
--- The rest is what stands behind the first line `end`, which is behind another line.
+-- The rest is what stands after the first line `end`, which is after another line.
 pub record IsBehindEnd (bytes rest : List ℕ) : Type 0 where
   pub at : ℕ
   pub has : HasEndAt bytes at rest
   pub first : (i : ℕ) (other : List ℕ) → i < at → ¬ (HasEndAt bytes i other)
 
--- no line behind another one is `end`
+-- no line after another one is `end`
 abbrev pub HasNoEnd : List ℕ → Type 0
 HasNoEnd bytes = (i : ℕ) (rest : List ℕ) → ¬ (HasEndAt bytes i rest)
 
--- The part is what stands behind the report that the bytes begin with: nothing where the report has no end.
+-- The part is what stands after the report that the bytes begin with: nothing where the report has
+-- no end.
 abbrev pub IsWitnessPart : List ℕ → List ℕ → Type 0
 IsWitnessPart bytes part = IsBehindEnd bytes part ⊎ (HasNoEnd bytes × (part ≡ []))
 

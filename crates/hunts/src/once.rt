@@ -17,8 +17,8 @@ use std::alloc::Global;
 use std::thread::Threads;
 use world_core::Outside;
 
-/// Runs all callers of a script over an object, each in a thread of its own where one can be had, with noise between
-/// their phases. The table of rows is opened for the run, and closed behind it.
+/// Runs all callers of a script over an object, each in a thread of its own where one can be had,
+/// with noise between their phases. The table of rows is opened for the run, and closed after it.
 pub(crate) fn run_once<R: Threads + Sync, B: BlackBox + Sync>(
     rt: &R,
     alloc: Global,

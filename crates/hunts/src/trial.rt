@@ -29,7 +29,7 @@ pub struct Catch {
     pub witness: Book,
 }
 
-/// Runs the script of a seed over an object made for it, which is let go behind the run.
+/// Runs the script of a seed over an object made for it, which is let go after the run.
 pub(crate) fn run_seed<R: Threads + Sync, B: BlackBox + Sync + Drop, M: Maker<B>, W: Watch>(
     rt: &R,
     alloc: Global,

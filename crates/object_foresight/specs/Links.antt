@@ -103,15 +103,17 @@ AreLinksTo reading book discipline callers links = (length links.rows.items ≡ 
 abbrev pub AreLinksOf : List Page → Links → Type 0
 AreLinksOf book links = (call other : Call) → ((link_at links call).before ≡ Some other) ⊎ ((link_at links call).after ≡ Some other) → IsCall book other
 
--- What links say of calls that precede takes holds of an object: what leads from the first stands before the put of what the other
--- takes, and this put is hopeless at a list with a word of a rank below the first one's reach.
+-- What links say of calls that precede takes holds of an object: what leads from the first stands
+-- before the put of what the other takes, and this put is infeasible at a list with a word of a
+-- rank below the first one's reach.
 pub record AreFollowed (init : List ℕ) (next : List ℕ → ℕ → List ℕ × ℕ) (book : List Page) (links : Links) (ranks : List (ℕ × ℕ)) : Type 0 where
   pub order : (a b first put : Call) → Precedes book a b → (link_at links a).before ≡ Some first → (link_at links b).after ≡ Some put → MustComeFirst init next book first put
   pub covers : (a b put : Call) → Precedes book a b → (link_at links b).after ≡ Some put
       → (cut list : List ℕ) → HasEarly ranks list (link_at links a).reach → IsHopeless init next book cut list put
 
--- What links say of puts of what no answered call takes holds of an object: what leads from a call that precedes each unanswered
--- take stands before them, and they are hopeless at a list with a word of a rank below the reach of such a call.
+-- What links say of puts of what no answered call takes holds of an object: what leads from a call
+-- that precedes each unanswered take stands before them, and they are infeasible at a list with a
+-- word of a rank below the reach of such a call.
 pub record AreKept (init : List ℕ) (next : List ℕ → ℕ → List ℕ × ℕ) (book : List Page) (links : Links) (open_from : List ℕ) (ranks : List (ℕ × ℕ)) : Type 0 where
   pub order : (a first put : Call) → IsEarly book open_from a → (link_at links a).before ≡ Some first → (link_at links put).is_kept ≡ true → MustComeFirst init next book first put
   pub covers : (a put : Call) → IsEarly book open_from a → (link_at links put).is_kept ≡ true

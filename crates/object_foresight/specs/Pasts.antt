@@ -1,4 +1,4 @@
--- What passed calls say of a put behind them.
+-- What passed calls say of a put after them.
 use Rattle.std.specs.Prelude.{◌≡◌, ℕ, ◌+◌, ◌-◌, ◌<◌, ◌≤◌, ◌⊎◌, max, List, length, Option, Some, None, slice_index, slice_set}
 use Rattle.book_base.specs.declared.call.Call.{Call}
 use Rattle.book_base.specs.declared.TheConstants.{MAX_CALLS}

@@ -70,8 +70,8 @@ fn follow_caller(book: &Book, links: &Links, known: &mut Foresight, caller: u32)
     }
 }
 
-// Holds back the puts of what no answered call takes, behind what is taken or finds nothing before each
-// unanswered take.
+// Holds back the puts of what no answered call takes, after what is taken or finds nothing before
+// each unanswered take.
 fn keep(book: &Book, links: &Links, uses: &Uses, known: &mut Foresight)
     requires links { AreLinksOf book.now links.now }
     requires bars { (c : Call) → IsCall book.now c → HasBar known.old c }
@@ -111,7 +111,7 @@ fn keep_caller(
     }
 }
 
-// Holds back each call of a book behind itself: the book has no legal order.
+// Holds back each call of a book after itself: the book has no legal order.
 fn refuse(book: &Book, known: &mut Foresight)
     requires bars { (c : Call) → IsCall book.now c → HasBar known.old c }
 {
@@ -120,7 +120,7 @@ fn refuse(book: &Book, known: &mut Foresight)
     }
 }
 
-// Holds back each call of a caller behind itself.
+// Holds back each call of a caller after itself.
 fn refuse_caller(book: &Book, known: &mut Foresight, caller: u32)
     requires bars { (c : Call) → IsCall book.now c → HasBar known.old c }
     requires small { IsSmall book.now }
@@ -133,7 +133,7 @@ fn refuse_caller(book: &Book, known: &mut Foresight, caller: u32)
     }
 }
 
-// Holds back a put behind a floor, and below a limit.
+// Holds back a put by a floor, and below a limit.
 fn hold_behind(known: &mut Foresight, put: Call, past: &Past)
     requires bar { HasBar known.old put }
     requires few { (i : ℕ) → slice_index past.now.floor i ≤ MAX_CALLS }

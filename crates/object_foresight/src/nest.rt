@@ -108,7 +108,7 @@ impl Nests {
     }
 }
 
-/// Holds back each put of a stack behind the puts that precede its take and whose values outlast it.
+/// Holds back each put of a stack after the puts that precede its take and whose values outlast it.
 pub fn nest(
     alloc: Global,
     book: &Book,
@@ -158,7 +158,7 @@ fn nest_caller(
     Ok(())
 }
 
-// Holds back the put of what a call takes, behind the last put of each caller that outlasts it.
+// Holds back the put of what a call takes, after the last put of each caller that outlasts it.
 fn nest_take(
     book: &Book,
     links: &Links,

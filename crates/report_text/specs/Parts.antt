@@ -1,4 +1,4 @@
--- What the parts of a report's text say, each behind whatever stands before it, and where they stop.
+-- What the parts of a report's text say, each after whatever stands before it, and where they stop.
 use Rattle.std.specs.Prelude.{◌≡◌, ◌≢◌, ◌⊎◌, ℕ, ◌<◌, ◌^◌, List, [], ◌∷◌, ◌++◌, length, slice_index, codes, Option, Some, None}
 use Rattle.book_base.specs.declared.call.Call.{Call}
 use Rattle.book_base.specs.declared.call.Record.{Record}
@@ -29,7 +29,7 @@ use Rattle.report_text.specs.Drafts.{StandBefore, AreLimits, AreSeenCounts, IsDr
 
 -- ---- the words of a line
 
--- behind the operation the words are 'pending' alone, or begin with this answer
+-- after the operation the words are 'pending' alone, or begin with this answer
 abbrev pub SayAnswer : ℕ → List (List ℕ) → Option Record → List (List ℕ) → Type 0
 SayAnswer n words None behind = words ≡ codes "pending" ∷ []
 SayAnswer n words (Some r) behind = IsAnswer n r × NoPairFirst behind × (words ≡ reply_word r.reply ∷ codes "view" ∷ (pair_words 0 r.view ++ behind))
@@ -52,7 +52,7 @@ pub record IsFront (kind : Kind) (n : ℕ) (call : Call) (words : List (List ℕ
 abbrev pub IsFrontRefused : Kind → ℕ → Call → List (List ℕ) → What → Type 0
 IsFrontRefused kind n call words name = (counts : List ℕ) (told : List Line) → length counts ≡ n → IsFirstTest (LineFails kind counts told call words) name
 
--- the words behind the view, for a line with this end
+-- the words after the view, for a line with this end
 abbrev pub verdict_words : LineEnd → List (List ℕ)
 verdict_words Pending = []
 verdict_words (Unchecked r) = codes "unchecked" ∷ []
@@ -66,7 +66,7 @@ HasVerdict n r (Unchecked s) = s ≡ r
 HasVerdict n r (Delivered s cut) = (s ≡ r) × IsCut n cut
 HasVerdict n r (Error s cut) = (s ≡ r) × IsCut n cut
 
--- behind the view the words say this end
+-- after the view the words say this end
 abbrev pub SayVerdict : ℕ → Record → List (List ℕ) → LineEnd → Type 0
 SayVerdict n r words end = HasVerdict n r end × (words ≡ verdict_words end)
 
@@ -92,8 +92,8 @@ MayTell book call (Some r) = MayAnswer book call.caller r.view
 abbrev pub with_told : List Page → Call → Line → List Page
 with_told book call line = with_line book call line.op (answer_in line.end)
 
--- An answer with this view, or the words behind it in the line with this number, are refused: for want of memory, by a test of views, or
--- since the words say no verdict.
+-- An answer with this view, or the words after it in the line with this number, are refused: for
+-- want of memory, by a test of views, or since the words say no verdict.
 abbrev pub IsAnswerRefused : List Page → Call → List ℕ → List (List ℕ) → ℕ → ReadFault → Type 0
 IsAnswerRefused book call view words number e =
     (e ≡ NoMemory)
@@ -101,7 +101,8 @@ IsAnswerRefused book call view words number e =
     × (((fault : BookFault) × (view_test fault ≡ Some name) × IsFirstFault book call.caller view fault)
     ⊎ (MayAnswer book call.caller view × IsNoVerdict (length book) words name)))
 
--- The line with this number is refused for want of memory, or for the first test that it fails behind lines that give this book.
+-- The line with this number is refused for want of memory, or for the first test that it fails
+-- after lines that give this book.
 abbrev pub AreWordsRefused : Kind → List Page → Call → List (List ℕ) → ℕ → ReadFault → Type 0
 AreWordsRefused kind book call words number e =
     (e ≡ NoMemory)
@@ -137,7 +138,8 @@ IsAlwaysMisfit limits seen call count line name = (counts : List ℕ) (lines : L
 
 -- ---- lines
 
--- The next line is that of this call and says this: so it leads from one draft to another, whatever stands before it and behind.
+-- The next line is that of this call and says this: so it leads from one draft to another, whatever
+-- stands before it and after.
 pub record IsLineRead (kind : Kind) (counts : List ℕ) (told : List Line) (call : Call) (more : List Call) (text : Unread) (line : Line) (after : Draft) (left : Unread) : Type 0 where
   pub goes : GoesTo report_rules (InLines kind counts told (call ∷ more)) text (InLines kind counts (told ++ line ∷ []) more) left
   pub draft : IsDraft counts (told ++ line ∷ []) after
@@ -169,7 +171,7 @@ abbrev pub LinesAreStopped : Kind → Draft → ℕ → ℕ → Unread → ReadF
 LinesAreStopped kind before i count text e = (counts : List ℕ) (told : List Line) (more : List Call)
     → IsDraft counts told before → StandBefore counts told i 0 → StopsFor report_rules (InLines kind counts told (calls_from i 0 count ++ more)) text e
 
--- the lines of all callers, one behind the other
+-- the lines of all callers, one after the other
 abbrev pub joined : List (List Line) → List Line
 joined lines = flat_map (λ own. own) lines
 

@@ -42,7 +42,8 @@ part_page count own = record {
   records = flat_map (λ line. records_of (reached_of line.end)) own;
 }
 
--- The book of the lines so far, which stand one behind the other, for callers with these numbers of calls.
+-- The book of the lines so far, which stand one after the other, for callers with these numbers of
+-- calls.
 abbrev pub book_so_far : List ℕ → List Line → List Page
 book_so_far [] told = []
 book_so_far (count ∷ counts) told = part_page count (take count told) ∷ book_so_far counts (drop count told)
@@ -72,13 +73,13 @@ pub record SaysLine (kind : Kind) (n : ℕ) (call : Call) (words : List (List �
   pub formed : IsFormed n line.end
   pub text : words ≡ line_words kind call line
 
--- behind the reply the line has this view, and behind it these words, which begin with no pair
+-- after the reply the line has this view, and after it these words, which begin with no pair
 pub record IsBehindView (kind : Kind) (n : ℕ) (call : Call) (words : List (List ℕ)) (view : List ℕ) (behind : List (List ℕ)) : Type 0 where
   pub formed : IsCut n view
   pub plain : NoPairFirst behind
   pub text : IsBehindReply (kind_operations Second kind) call words (codes "view" ∷ (pair_words 0 view ++ behind))
 
--- the words begin with a verdict, and these stand behind it
+-- the words begin with a verdict, and these stand after it
 abbrev pub BeginAsVerdict : List (List ℕ) → List (List ℕ) → Type 0
 BeginAsVerdict words behind = (words ≡ codes "ok" ∷ codes "seen" ∷ behind) ⊎ (words ≡ codes "error" ∷ codes "seen" ∷ behind)
 
@@ -112,23 +113,25 @@ pub record Fits (counts : List ℕ) (told : List Line) (call : Call) (line : Lin
 
 -- ---- the tests of a line
 
--- A line for this call fails a test, behind lines that say these.
+-- A line for this call fails a test, after lines that say these.
 abbrev pub LineFails : Kind → List ℕ → List Line → Call → List (List ℕ) → What → Type 0
 -- the line doesn't begin with the caller and the number that are due
 LineFails kind counts told call words what.Place = (behind : List (List ℕ)) → words ≢ place_words call ++ behind
 -- the next words are no operation
 LineFails kind counts told call words what.Op = (behind : List (List ℕ)) × (words ≡ place_words call ++ behind)
     × ((op : ℕ) (others : List (List ℕ)) → IsOperationWord op → behind ≢ operation_words kind op ++ others)
--- the words behind the operation begin with no reply, and aren't 'pending' alone
+-- the words after the operation begin with no reply, and aren't 'pending' alone
 LineFails kind counts told call words what.Reply = (behind : List (List ℕ)) × IsBehindOperation (kind_operations Second kind) call words behind × (behind ≢ codes "pending" ∷ [])
     × ((reply : ℕ) (others : List (List ℕ)) → reply < 2 ^ 64 → behind ≢ reply_word reply ∷ others)
--- the next words are no view: the next isn't 'view', or of the pair words behind it one is no pair, or its caller doesn't rise
+-- the next words are no view: the next isn't 'view', or of the pair words after it one is no pair,
+-- or its caller doesn't rise
 LineFails kind counts told call words what.View = (behind : List (List ℕ)) × IsBehindReply (kind_operations Second kind) call words behind
     × (LacksViewWord behind ⊎ ((pairs : List (List ℕ)) × (behind ≡ codes "view" ∷ pairs) × HasBadPair (length counts) 0 pairs))
--- the words behind the view are none of the three forms
+-- the words after the view are none of the three forms
 LineFails kind counts told call words what.Mark = (view : List ℕ) × (behind : List (List ℕ)) × IsBehindView kind (length counts) call words view behind
     × (behind ≢ codes "unchecked" ∷ []) × ((others : List (List ℕ)) → ¬ (BeginAsVerdict behind others))
--- the words behind 'seen' are no cut; or the seen cut is wrong; or the line is pending, and an earlier seen cut holds its call
+-- the words after 'seen' are no cut; or the seen cut is wrong; or the line is pending, and an
+-- earlier seen cut holds its call
 LineFails kind counts told call words what.Seen =
     ((view : List ℕ) × (behind : List (List ℕ)) × (pairs : List (List ℕ)) × IsBehindView kind (length counts) call words view behind × BeginAsVerdict behind pairs
     × (HasBadPair (length counts) 0 pairs ⊎ HasWordBehindPairs pairs))
@@ -145,11 +148,12 @@ LineFails kind counts told call words name = (view : List ℕ) × (behind : List
 -- what is due in the text of a report, with what the lines before say
 pub data ReportDue : Type 0 where
   InHead : HeadDue → ReportDue
-  -- the lines of these calls, behind those that say these lines, for callers with these numbers of calls
+  -- the lines of these calls, after those that say these lines, for callers with these numbers of
+  -- calls
   InLines : Kind → List ℕ → List Line → List Call → ReportDue
   AtEnd : Findings → ReportDue
 
--- Behind the head come the lines of the calls.
+-- After the head come the lines of the calls.
 abbrev pub behind_head : HeadDue → ReportDue
 behind_head TitleDue = InHead TitleDue
 behind_head ObjectDue = InHead ObjectDue

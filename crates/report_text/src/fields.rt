@@ -54,7 +54,7 @@ pub(crate) fn read_fields(
     }
 }
 
-/// The call, its operation, and the answer, where there is one, at the front of a line.
+/// The call, its operation, and the answer, where there is one, at the beginning of a line.
 fn read_front(kind: Kind, words: &mut Words, call: Call, n: u32) -> Result<Front, What>
     requires some { 1 ≤ n }
     requires few { n ≤ MAX_CALLERS }
@@ -74,7 +74,7 @@ fn read_front(kind: Kind, words: &mut Words, call: Call, n: u32) -> Result<Front
     }
 }
 
-/// The answer behind an operation; none where the call is pending.
+/// The answer after an operation; none where the call is pending.
 fn read_answer(words: &mut Words, n: u32) -> Result<Option<Record>, What>
     requires some { 1 ≤ n }
     requires few { n ≤ MAX_CALLERS }
@@ -100,7 +100,7 @@ fn read_answer(words: &mut Words, n: u32) -> Result<Option<Record>, What>
     }
 }
 
-/// Takes this answer of the call into the book, and reads the verdict behind it. `number`
+/// Takes this answer of the call into the book, and reads the verdict after it. `number`
 /// is the line's.
 fn take_answer(
     book: &mut Book,
@@ -128,7 +128,7 @@ fn take_answer(
     }
 }
 
-/// The verdict behind a view, for this answer.
+/// The verdict after a view, for this answer.
 fn read_verdict(words: &mut Words, answer: Record, n: u32) -> Result<LineEnd, What>
     requires some { 1 ≤ n }
     requires few { n ≤ MAX_CALLERS }
@@ -162,7 +162,7 @@ fn read_verdict(words: &mut Words, answer: Record, n: u32) -> Result<LineEnd, Wh
     }
 }
 
-/// A seen cut, and nothing behind it.
+/// A seen cut, and nothing after it.
 fn read_seen(words: &mut Words, n: u32) -> Option<Cut>
     requires some { 1 ≤ n }
     requires few { n ≤ MAX_CALLERS }

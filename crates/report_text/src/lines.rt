@@ -17,7 +17,7 @@ use seq_objects::Kind;
 use std::alloc::Global;
 use text_fields::Lines;
 
-/// The lines of all callers, in a report about objects of this kind; the lines behind them stay.
+/// The lines of all callers, in a report about objects of this kind; the lines after them stay.
 /// `calls` has the number of calls of each caller.
 pub(crate) fn read_callers(
     alloc: Global,

@@ -68,7 +68,7 @@ fn put_line(out: &mut Vec<u8>, kind: Kind, call: Call, line: &Line) -> Result<()
     Ok(())
 }
 
-/// Appends the words of the end of a line, each behind a space.
+/// Appends the words of the end of a line, each after a space.
 fn put_ending(out: &mut Vec<u8>, end: LineEnd) -> Result<(), NoMemory>
     ensures { OnOk result (out.new.items ≡ out.old.items ++ spaced (ending_words end)) }
 {
@@ -95,7 +95,7 @@ fn put_ending(out: &mut Vec<u8>, end: LineEnd) -> Result<(), NoMemory>
     }
 }
 
-/// Appends the reply and the view of a record, each word behind a space.
+/// Appends the reply and the view of a record, each word after a space.
 fn put_answer(out: &mut Vec<u8>, answer: &Record) -> Result<(), NoMemory>
     ensures { OnOk result (out.new.items ≡ out.old.items
         ++ spaced (answer_words Second (Some answer.now))) }

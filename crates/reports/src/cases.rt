@@ -41,7 +41,7 @@ pub fn the_earlier_callers_error_is_first()
     ensures counts { counts_of two_errors ≡ record { calls = 2; delivered = 0; errors = 2 } }
 {}
 
-/// Lines behind one that isn't delivered are no report, and neither are lines that saw what they
+/// Lines after one that isn't delivered are no report, and neither are lines that saw what they
 /// can't have seen, or that no text can have.
 pub fn lines_that_are_no_report()
     // Lines with one after a pending line are no report.

@@ -36,8 +36,8 @@ impl Command {
     ghost use Rattle.selfcheck.specs.Command.{argued_command, command_of, has_argument, lone_command, reads_source};
     ghost use Rattle.selfcheck.specs.CommandLine.{is_parsed};
 
-    /// The command that the words name: those behind the program's name. Words that can't be those of a
-    /// command are answered before clap reads them.
+    /// The command that the words name: those after the program's name. Words that can't be those
+    /// of a command are answered before clap reads them.
     pub fn from_words(alloc: Global, words: &[String]) -> Result<Option<Command>, NoMemory>
         // The answered command is the one that the words name, and None where they name none.
         ensures command { IfOk result (λ command. command ≡ command_of words.now) }

@@ -21,7 +21,7 @@ pub(crate) fn fault_text(alloc: Global, fault: OrderFault) -> Result<Vec<u8>, No
     Ok(out)
 }
 
-/// Appends the words of a fault, each behind a space.
+/// Appends the words of a fault, each after a space.
 fn put_words(out: &mut Vec<u8>, fault: OrderFault) -> Result<(), NoMemory>
     ensures { OnOk result (out.new.items ≡ out.old.items ++ spaced (fault_words fault)) }
 {
@@ -38,7 +38,7 @@ fn put_words(out: &mut Vec<u8>, fault: OrderFault) -> Result<(), NoMemory>
     }
 }
 
-/// Appends a name and a place, each behind a space.
+/// Appends a name and a place, each after a space.
 fn put_place(out: &mut Vec<u8>, name: &[u8], place: u64) -> Result<(), NoMemory>
     ensures { OnOk result (out.new.items ≡ out.old.items
         ++ spaced (name.now ∷ decimal place ∷ [])) }
@@ -48,7 +48,7 @@ fn put_place(out: &mut Vec<u8>, name: &[u8], place: u64) -> Result<(), NoMemory>
     put_spaced(out, place)
 }
 
-/// Appends a name and two numbers, each behind a space.
+/// Appends a name and two numbers, each after a space.
 fn put_two(out: &mut Vec<u8>, name: &[u8], first: u64, second: u64) -> Result<(), NoMemory>
     ensures { OnOk result (out.new.items ≡ out.old.items
         ++ spaced (name.now ∷ decimal first ∷ decimal second ∷ [])) }
@@ -57,7 +57,7 @@ fn put_two(out: &mut Vec<u8>, name: &[u8], first: u64, second: u64) -> Result<()
     put_spaced(out, second)
 }
 
-/// Appends a name, a place and two replies, each behind a space.
+/// Appends a name, a place and two replies, each after a space.
 fn put_replies(
     out: &mut Vec<u8>,
     name: &[u8],

@@ -19,7 +19,7 @@ entry_named kind name = find (λ entry. bytes_eq entry.name name) (entries kind)
 abbrev pub text_of : Entry → ℕ → List ℕ
 text_of entry word = join_with_byte 32 (entry.name ∷ argument_words entry.arity word)
 
--- The arguments of a word, each behind a space.
+-- The arguments of a word, each after a space.
 abbrev pub spaced_arguments : Arity → ℕ → List ℕ
 spaced_arguments Nullary word = []
 spaced_arguments Unary word = 32 ∷ decimal (argument_of word)

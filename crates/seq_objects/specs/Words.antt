@@ -168,7 +168,7 @@ argument_words Nullary word = []
 argument_words Unary word = decimal (argument_of word) ∷ []
 argument_words Binary word = decimal (argument_of word) ∷ decimal (extra_of word) ∷ []
 
--- A whole operation word in digits: its low word, and behind a colon its high word where this
+-- A whole operation word in digits: its low word, and after a colon its high word where this
 -- isn't 0.
 abbrev pub whole_digits : ℕ → List ℕ
 whole_digits word =
@@ -189,7 +189,7 @@ operation_words kind word = words_by_entry (entry_of kind word) word
 unfoldable pub operation_text : Kind → ℕ → List ℕ
 operation_text kind word = join_with_byte 32 (operation_words kind word)
 
--- The words behind a first one, as far as they are there.
+-- The words after a first one, as far as they are there.
 abbrev pub further : Option (List ℕ) → Option (List ℕ) → List (List ℕ)
 further None third = []
 further (Some second) None = second ∷ []
@@ -210,7 +210,7 @@ pub record IsWord (word : List ℕ) : Type 0 where
   pub some : 0 < length word
   pub printed : All IsPrinted word
 
--- The new list is the old one with a front of the text at its end.
+-- The new list is the old one with a prefix of the text at its end.
 pub record AppendsFront (old new text : List ℕ) : Type 0 where
   pub front : List ℕ
   pub rest : List ℕ

@@ -47,7 +47,7 @@ pub fn put_number(out: &mut Vec<u8>, n: u64) -> Result<(), NoMemory>
     Ok(())
 }
 
-/// Appends a byte, and behind it a number in decimal digits.
+/// Appends a byte, and after it a number in decimal digits.
 pub fn put_marked(out: &mut Vec<u8>, mark: u8, n: u64) -> Result<(), NoMemory>
     ensures ok { OnOk result (out.new.items ≡ out.old.items ++ mark ∷ decimal n) }
     ensures err { OnErr result (AppendsFront out.old.items out.new.items (mark ∷ decimal n)) }
@@ -56,7 +56,7 @@ pub fn put_marked(out: &mut Vec<u8>, mark: u8, n: u64) -> Result<(), NoMemory>
     put_number(out, n)
 }
 
-/// What stands behind a byte that a word begins with.
+/// What stands after a byte that a word begins with.
 pub fn behind(mark: u8, word: &[u8]) -> Option<&[u8]>
     ensures found { IfSome result (λ rest. word.now ≡ mark ∷ rest.now) }
     ensures none { IfNone result ((rest : List ℕ) → word.now ≢ mark ∷ rest) }

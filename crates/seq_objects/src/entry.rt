@@ -222,7 +222,7 @@ impl Entry {
     }
 }
 
-/// Appends the arguments of a word, each behind a space.
+/// Appends the arguments of a word, each after a space.
 fn put_arguments(out: &mut Vec<u8>, arity: Arity, word: OpWord) -> Result<(), NoMemory>
     ensures ok { OnOk result (out.new.items ≡ out.old.items ++ spaced_arguments arity word) }
     ensures err { OnErr result

@@ -6,7 +6,7 @@ ghost use Rattle.seq_objects.specs.Words.{whole_digits, AppendsFront};
 use crate::digits::{number, put_marked};
 use book_base::{NoMemory, OpWord, high, join, low};
 
-/// The part of a word before the first such byte, and the part behind it.
+/// The part of a word before the first such byte, and the part after it.
 fn split_at_mark(mark: u8, word: &[u8]) -> Option<(&[u8], &[u8])>
     ensures found { IfSome result (λ (before, behind).
         (word.now ≡ before.now ++ mark ∷ behind.now) × Lacks mark before.now) }
@@ -16,7 +16,7 @@ fn split_at_mark(mark: u8, word: &[u8]) -> Option<(&[u8], &[u8])>
     Some((&word[..place], &word[place + 1..]))
 }
 
-/// The operation word that digits spell: its low word, and behind a colon its high word where this
+/// The operation word that digits spell: its low word, and after a colon its high word where this
 /// isn't 0.
 pub fn whole(digits: &[u8]) -> Option<OpWord>
     ensures found { IfSome result (λ word. whole_digits word ≡ digits.now) }
@@ -35,7 +35,7 @@ pub fn whole(digits: &[u8]) -> Option<OpWord>
     }
 }
 
-/// Appends a byte, and behind it an operation word in digits.
+/// Appends a byte, and after it an operation word in digits.
 pub fn put_whole(out: &mut Vec<u8>, mark: u8, op: OpWord) -> Result<(), NoMemory>
     ensures ok { OnOk result (out.new.items ≡ out.old.items ++ mark ∷ whole_digits op) }
     ensures err { OnErr result (AppendsFront out.old.items out.new.items (mark ∷ whole_digits op)) }

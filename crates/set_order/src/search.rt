@@ -114,8 +114,8 @@ impl<O: SetObject> SetSearch<'_, O> {
         }
     }
 
-    // The set of the part that the greatest number that is left picks, where it may stand next. The spare
-    // state has the list behind it then.
+    // The set of the part that the greatest number that is left picks, where it may stand next. The
+    // spare state has the list after it then.
     fn next_set(
         &self,
         walk: &Walk,
@@ -196,8 +196,8 @@ impl<O: SetObject> SetSearch<'_, O> {
         Ok(Some(PlaceSet::new(places)))
     }
 
-    // Puts a set next, unless that leads to a dead end: a remembered one, or one where an answered call is
-    // lost. The spare state has the list behind it.
+    // Puts a set next, unless that leads to a dead end: a remembered one, or one where an answered
+    // call is lost. The spare state has the list after it.
     fn enter(&self, walk: &mut Walk, spare: &State, set: PlaceSet) -> Result<Outcome, NoMemory>
         requires valid { IsValid self.now.book.now }
         requires small { IsSmall self.now.book.now }
@@ -220,7 +220,7 @@ impl<O: SetObject> SetSearch<'_, O> {
         self.descend(walk, spare, set, counts)
     }
 
-    // Puts a set next, with the counts and the list behind it.
+    // Puts a set next, with the counts and the list after it.
     fn descend(
         &self,
         walk: &mut Walk,

@@ -32,7 +32,7 @@ cut_words Second cut = pair_words 0 cut
 abbrev pub has_colon : List ℕ → Bool
 has_colon word = is_some (cut_at 58 word)
 
--- what stands before the first colon of a word, and what stands behind it
+-- what stands before the first colon of a word, and what stands after it
 abbrev pub AreParts : List ℕ → List ℕ → Type 0
 AreParts front behind = cut_at 58 (front ++ 58 ∷ behind) ≡ Some (front, behind)
 

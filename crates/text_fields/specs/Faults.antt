@@ -15,7 +15,7 @@ pub data Wanted : Type 0 where
 
 -- The rules of a kind of text. What is due next, as the lines so far have it, is a value of Due.
 pub record Rules (Due : Type 0) : Type 1 where
-  -- where this is due, a line of these words is right, and that is due behind it
+  -- where this is due, a line of these words is right, and that is due after it
   pub Passes : Due → List (List ℕ) → Due → Type 0
   -- where this is due, a line of these words fails the test with this name
   pub Fails : Due → List (List ℕ) → What → Type 0
@@ -104,7 +104,7 @@ pub record IsReadTo {Due : Type 0} (rules : Rules Due) (due : Due) (text : Unrea
 
 -- Rules are sharp where a line is right in one way, no right line fails a test, and a right line can be read back.
 pub record AreSharp {Due : Type 0} (rules : Rules Due) : Type 0 where
-  -- what is due behind a right line is one thing
+  -- what is due after a right line is one thing
   pub one_way : (due a b : Due) (words : List (List ℕ)) → rules.Passes due words a → rules.Passes due words b → a ≡ b
   -- a right line fails no test
   pub apart : (due after : Due) (words : List (List ℕ)) (what : What) → rules.Passes due words after → rules.Fails due words what → ⊥

@@ -27,11 +27,11 @@ pub record Unread : Type 0 where
   pub bytes : List ℕ
   pub number : ℕ
 
--- what stands before the first such byte, and what stands behind it
+-- what stands before the first such byte, and what stands after it
 abbrev pub cut_at : ℕ → List ℕ → Option (List ℕ × List ℕ)
 cut_at byte bytes = option_map (λ i. (take i bytes, drop (i + 1) bytes)) (position (λ b. b == byte) bytes)
 
--- the line with this number, where a line feed was found, and what is left behind it
+-- the line with this number, where a line feed was found, and what is left after it
 abbrev pub line_from : ℕ → Option (List ℕ × List ℕ) → Result (List ℕ × Unread) TextFault
 line_from number None = Err (record { line = number; what = Cut })
 line_from number (Some parts) = Ok (parts.0, record { bytes = parts.1; number = number + 1 })

@@ -19,7 +19,7 @@ pub fn next_number(words: &mut Words, most: u64) -> Option<u64>
     if n <= most { Some(n) } else { None }
 }
 
-/// As many numbers as there are callers, each at most this, and nothing behind them.
+/// As many numbers as there are callers, each at most this, and nothing after them.
 pub fn read_counts(words: &mut Words, n: u32, most: u64) -> Option<Cut>
     // There is at least one caller.
     requires some { 1 ≤ n }

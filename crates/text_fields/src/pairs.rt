@@ -42,7 +42,8 @@ pub fn read_pairs(words: &mut Words, n: u32) -> Option<Cut>
     }
 }
 
-/// Takes the next word, where it has a colon: what stands before its first colon, and what behind it.
+/// Takes the next word, where it has a colon: what stands before its first colon, and what after
+/// it.
 fn next_parts<'a>(words: &mut Words<'a>) -> Option<(&'a [u8], &'a [u8])>
     ensures found { IfSome result (λ (front, behind). (words.old ≡ (front.now ++ 58 ∷ behind.now) ∷ words.new) × AreParts front.now behind.now) }
     ensures none { IfNone result (NoPairFirst words.old × (words.new ≡ words.old)) }
@@ -53,7 +54,7 @@ fn next_parts<'a>(words: &mut Words<'a>) -> Option<(&'a [u8], &'a [u8])>
     Some(parts)
 }
 
-/// The caller and the count of a pair, which stand before its colon and behind it.
+/// The caller and the count of a pair, which stand before its colon and after it.
 fn pair(caller: &[u8], count: &[u8], n: u32) -> Option<(u32, u64)>
     requires { AreParts caller.now count.now }
     ensures found { IfSome result (λ (j, c). IsPair n (caller.now ++ 58 ∷ count.now) j c) }

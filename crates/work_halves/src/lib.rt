@@ -21,8 +21,9 @@ pub trait Work<C>: Send {
         ensures { done self.old shared.now self.new };
 }
 
-/// Each of the workers works once, in no order: the half in front in a thread of its own, beside the half behind,
-/// and so on within each half. Where a thread can't be had, one half works after the other.
+/// Each of the workers works once, in no order: the first half in a thread of its own, beside the
+/// second one, and so on within each half. Where a thread can't be had, one half works after the
+/// other.
 ///
 /// All have worked when it returns.
 #[cycle(halves)]
