@@ -59,7 +59,7 @@ impl MemorySink {
         })
     }
 
-    /// The bytes that it has taken.
+    /// The bytes that the sink has taken.
     pub fn bytes(&self) -> &[u8]
         // The answer is the bytes that the sink has taken.
         ensures taken { result.now ≡ self.now.taken }

@@ -104,7 +104,7 @@ pub fn object_steps_are_of_calls()
     ensures last { (after_stepping (object_step 9 2) (progress_of stepped)).steps ≡ object_step 0 3 ∷ object_step 3 6 ∷ object_step 6 9 ∷ object_step 9 2 ∷ [] }
     // A call that has just been announced has no object step.
     ensures announced { steps_now (local_after 3 fresh Announce) ≡ [] }
-    // Six phases may have been made with whatever object steps.
+    // Progress with object steps of both calls is what six phases make.
     ensures any_steps { IsProgressAfter (5 ∷ 7 ∷ []) 6 (progress_of stepped) }
 {}
 

@@ -22,11 +22,11 @@ pub trait ObjectPass {
     fn caller(&self) -> u32
         ensures { result ≡ caller self.now };
 
-    /// How many calls were made with it.
+    /// How many calls were made with the pass.
     fn made(&self) -> u64
         ensures { result ≡ made self.now };
 
-    /// How many calls may be made with it in all.
+    /// How many calls may be made with the pass in all.
     fn cap(&self) -> u64
         ensures { result ≡ cap self.now };
 }

@@ -83,7 +83,7 @@ impl SplitTally {
         // The accesses that the pass knew are the first of those that it knows.
         ensures history { IsPrefix (history_in pass.old) (history_in pass.new) }
         // The call loaded the word and then stored one more, maybe with others' accesses between,
-        // and its reply is the word loaded.
+        // and its reply tells the word loaded.
         ensures torn { op ≡ increment → IsTorn (caller_of_pass pass.old) result (history_in pass.new) }
         // The reply is a value exactly to the increment, and else `bad`.
         ensures form { IsTallyReply op result }

@@ -32,8 +32,8 @@ pub trait Machine {
         // The scratch holds what the machine keeps of the log.
         ensures seen { has_seen self.now log.now scratch.new };
 
-    /// The same, where the machine may go on from its last answer: of the first `known` entries the scratch
-    /// holds what the machine keeps.
+    /// The reply to the last entry of the log, where the machine may go on from its last answer: of
+    /// the first `known` entries the scratch holds what the machine keeps.
     fn go_on(&self, log: &[Entry], known: usize, scratch: &mut Scratch) -> u64
         // The log has more entries than the machine has answered.
         requires more { known < length log.now }

@@ -94,7 +94,7 @@ impl WordCell {
         ensures form { IsCellReply op result }
         // The accesses that the pass knew are the first of those that it knows.
         ensures history { IsPrefix (history_in pass.old) (history_in pass.new) }
-        // The last access is this read, and its reply is the last word stored before it.
+        // The last access is this read, and its reply tells the last word stored before it.
         ensures last { op ≡ read → IsLastRead (caller_of_pass pass.old) result (history_in pass.new) }
     {
         let reply = self.reply(&mut pass.seat, op);

@@ -222,7 +222,8 @@ impl<P: Program> Monitor<P> {
         self.claim.known(board)
     }
 
-    /// Where both know a witness on their board, it is the same one. It takes no memory.
+    /// Where both monitors know a witness on their board, they know the same one. No memory is
+    /// taken.
     pub fn agree(&mut self, other: &mut Monitor<P>)
         // The two monitors are of one board.
         requires { AreOfOne self.old other.old }

@@ -25,7 +25,7 @@ impl Report {
         sizes_of(self.all())
     }
 
-    /// The book of its lines: their calls, and the records of those that have one.
+    /// The book of the report's lines: their calls, and the records of those that have one.
     pub fn book(&self, alloc: Global) -> Result<Book, NoMemory>
         ensures { IfOk result (λ book. book ≡ book_of_lines self.now.lines) }
     {

@@ -19,7 +19,7 @@ pub struct Counts {
 }
 
 impl Report {
-    /// How many lines it has, how many of them are delivered, and how many are errors.
+    /// How many lines the report has, how many of them are delivered, and how many are errors.
     pub fn counts(&self) -> Counts
         ensures { result ≡ counts_of self.now.lines }
     {

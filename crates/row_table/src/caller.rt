@@ -48,35 +48,35 @@ impl<P> Caller<P> {
         self.seat.who
     }
 
-    /// How many calls it has announced.
+    /// How many calls the caller has announced.
     pub fn made(&self) -> u64
         ensures { result ≡ (local_with self.now).announced }
     {
         self.notes.announced
     }
 
-    /// How many calls it may still announce: the cap less those that it has.
+    /// How many calls the caller may still announce: the cap less those that it has announced.
     pub fn left(&self) -> u64
         ensures { result ≡ self.now.cap - (local_with self.now).announced }
     {
         self.cap.saturating_sub(self.notes.announced)
     }
 
-    /// Whether it makes calls: it was not halted.
+    /// Whether the caller makes calls: it was not halted.
     pub fn live(&self) -> bool
         ensures { result ≡ (stance_of self.now).live }
     {
         self.stance.live
     }
 
-    /// Whether it announces next and has staged no word of its row.
+    /// Whether the caller announces next and has staged no word of its row.
     pub fn idle(&self) -> bool
         ensures { IsTrue result ↔ local.IsIdle (local_with self.now) }
     {
         self.notes.phase == Phase::Announcing && self.notes.unstaged
     }
 
-    /// What its scan under way wants next, if one is under way. No step is made.
+    /// What the caller's scan under way wants next, if one is under way. No step is made.
     pub fn wants(&self) -> Option<Want>
         // The answer is what the scan under way wants next, and None where no scan is under way.
         ensures wants { result ≡ wanted_next self.now.callers (local_with self.now).scan }
@@ -90,7 +90,8 @@ impl<P> Caller<P> {
         }
     }
 
-    /// The cut that its last scan to end gave it, if one has ended and none is under way. No step is made.
+    /// The cut that the caller's last scan to end gave it, if one has ended and none is under way.
+    /// No step is made.
     pub fn given(&self) -> Option<Cut>
         ensures { result ≡ given_now (local_with self.now) }
     {
