@@ -88,8 +88,8 @@ impl Tally {
         ensures form { IsTallyReply op result }
         // The accesses that the pass knew are the first of those that it knows.
         ensures history { IsPrefix (history_in pass.old) (history_in pass.new) }
-        // The last access is this increment, and its reply tells the number of increments before it,
-        // modulo 2^64.
+        // The last access is this increment, and its reply tells the number of increments before
+        // it, modulo 2^64.
         ensures counted { op ≡ increment → IsCounted (caller_of_pass pass.old) result (history_in pass.new) }
     {
         let reply = self.reply(&mut pass.seat, op);
