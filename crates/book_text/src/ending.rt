@@ -17,10 +17,11 @@ pub fn read_end(lines: &mut Lines) -> Result<(), TextFault>
     // A fault says that no line is whole, that the next one isn't the last line of a text, or that
     // bytes follow it.
     ensures refused { IfErr result (IsNoEnd lines.old) }
-    // The end of a text is read as such, and leaves what it leaves.
+    // Where the next line is the last of a text with nothing after it, the answer is Ok, and the
+    // line is taken.
     ensures only { (left : Unread) → IsEnded lines.old left
         → MatchResult result (λ _. lines.new ≡ left) (λ _. ⊥) }
-    // Where the next line is no end for some reason, the answer is the fault that this reason has.
+    // Where the next line isn't the end of a text by some fault, the answer is that fault.
     ensures first { (fault : TextFault) → IsNoEnd lines.old fault
         → MatchResult result (λ _. ⊥) (λ e. e ≡ fault) }
 {

@@ -25,7 +25,8 @@ pub fn verify(alloc: Global, bytes: &[u8]) -> Result<BookVerdict, ReadFault>
     ensures verdict { IfOk result (IsBookVerdict bytes.now) }
     // A refusal has the first fault of the bytes as the text of a book, or says want of memory.
     ensures refused { IfErr result (IsFaultOf (IsFirstBookFault Second bytes.now)) }
-    // A book of either kind is answered so, unless memory runs out.
+    // Where the bytes are the text of a book, the answer is whether it has a legal order, unless
+    // memory runs out.
     ensures only { (verdict : BookVerdict) → IsBookVerdict bytes.now verdict
         → MatchResult result (λ v. v ≡ verdict) (λ e. e ≡ ReadFault.NoMemory) }
     // Where the bytes have a first fault, the answer is that fault, unless memory runs out.

@@ -22,7 +22,7 @@ pub fn certify(alloc: Global, bytes: &[u8]) -> Result<Option<Vec<u8>>, ReadFault
         MatchOption found (IsIllegalBook bytes.now) (λ text. Certifies bytes.now text.items)) }
     // A refusal has the first fault of the bytes as the text of a book, or says want of memory.
     ensures refused { IfErr result (IsFaultOf (IsFirstBookFault Second bytes.now)) }
-    // A book is answered so, unless memory runs out.
+    // A book with a legal order has a certificate answered, unless memory runs out.
     ensures legal { IsLegalBook bytes.now
         → MatchResult result IsSome (λ e. e ≡ ReadFault.NoMemory) }
     // A book without a legal order has no certificate, and is answered so, want of memory aside.

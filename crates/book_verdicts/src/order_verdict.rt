@@ -25,7 +25,8 @@ pub fn order(alloc: Global, bytes: &[u8]) -> Result<OrderVerdict, ReadFault>
     // A refusal has the first fault of the bytes as the text of a certificate, or says want of
     // memory.
     ensures refused { IfErr result (IsFaultOf (IsFirstCertificateFault bytes.now)) }
-    // A certificate is answered so, unless memory runs out.
+    // Where the bytes are the text of a certificate, the answer is the verdict on it, unless memory
+    // runs out.
     ensures only { (verdict : OrderVerdict) → IsOrderVerdict bytes.now verdict
         → MatchResult result (λ v. v ≡ verdict) (λ e. e ≡ ReadFault.NoMemory) }
     // Where the bytes have a first fault, the answer is that fault, unless memory runs out.

@@ -19,7 +19,7 @@ use std::alloc::Global;
 pub fn write_book(alloc: Global, kind: Kind, book: &Book) -> Result<Vec<u8>, NoMemory>
     // The bytes are what is written of the book.
     ensures written { IfOk result (λ bytes. IsWrittenText Second bytes.items kind book.now) }
-    // A reader reads them as the book and its kind.
+    // A reader reads the bytes as the book and its kind.
     ensures read { IfOk result (λ bytes. IsBookText Second bytes.items kind book.now) }
 {
     let mut out = Vec::new(alloc);

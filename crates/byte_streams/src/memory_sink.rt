@@ -89,12 +89,13 @@ impl Sink for MemorySink {
         // A write that wasn't refused left the count of faults.
         ensures calm { ¬ IsRefusal result piece.now → self.new.faults ≡ self.old.faults }
 
-        // It fails exactly where the number of the call says so, or where no room is left.
+        // A write fails exactly where the number of the call is one that fails, or where no room is
+        // left for a piece that isn't empty.
         ensures fails { IsErr result ↔ WriteFails self.old piece.now }
         // A failed write takes nothing, and counts as a call and as a fault.
         ensures failed { OnErr result (self.new ≡ after_failed_write self.old) }
 
-        // How much it takes, and what stands afterwards.
+        // A write takes as many bytes as the piece, the bound and the room left allow.
         ensures count { IfOk result (λ count. count ≡ taken_count self.old (length piece.now)) }
         // A write takes the first bytes of the piece, as many as are answered, and counts as a
         // call.

@@ -69,12 +69,12 @@ impl Source for MemorySource {
         // A read that didn't fail left the count of faults.
         ensures calm { OnOk result (self.new.faults ≡ self.old.faults) }
 
-        // It fails exactly where the number of the call says so.
+        // A read fails exactly where the number of the call is one that fails.
         ensures fails { IsErr result ↔ ReadFails self.old }
         // A failed read gives nothing, and counts as a call and as a fault.
         ensures failed { OnErr result (self.new ≡ after_failed_read self.old) }
 
-        // What it gives, how much, and what is left.
+        // A read gives as many bytes as the piece, the bound and the bytes left allow.
         ensures count { IfOk result (λ count. count ≡ given_count self.old (length piece.old)) }
         // The piece begins with the bytes that are given, and is as before besides.
         ensures given { IfOk result (λ count. piece.new ≡ take count self.old.left ++ drop count piece.old) }

@@ -37,7 +37,7 @@ impl Source for SteadySource {
     ghost faults = { λ _. 0 };
 
     fn read(&mut self, piece: &mut [u8]) -> Result<usize, Failed>
-        // It never fails, and gives as much as there is.
+        // A read never fails, and gives as many bytes as the piece and the bytes left allow.
         ensures count { IsOkAnd result (λ count. count ≡ min (length piece.old) (length self.old)) }
         // The piece begins with the bytes that are given, and is as before besides.
         ensures given { IfOk result (λ count. piece.new ≡ take count self.old ++ drop count piece.old) }

@@ -42,7 +42,7 @@ pub fn read_all<S: Source>(alloc: Global, source: &mut S) -> Result<Vec<u8>, Rea
     // At most `INPUT_LIMIT` + 1 bytes are answered.
     ensures bound { IfOk result (λ bytes. length bytes.items ≤ INPUT_LIMIT + 1) }
 
-    // After an error, the bytes that are left are an end of those that were left.
+    // After an error, the bytes that are left are a suffix of those that were left.
     ensures err { OnErr result ((given : List ℕ) × Consumes (S.left source.old) (S.left source.new) given) }
     // The source's count of faults isn't lower than before.
     ensures later { S.faults source.old ≤ S.faults source.new }

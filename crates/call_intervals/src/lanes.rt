@@ -23,19 +23,19 @@ pub fn call_lanes(
     // The events are the book's sketch.
     requires { IsSketch book.now events.now }
 
-    // There is a lane for each caller, and each call has exactly one interval, on its caller's lane.
+    // There is a lane for each caller of the book.
     ensures lanes { IfOk result (λ lanes. length lanes.items ≡ length book.now) }
     // Each interval stands on the lane of its call's caller.
     ensures own { IfOk result (λ lanes. StandOnTheirLanes (rows_of lanes.items)) }
     // Each call of the book has exactly one interval.
     ensures once { IfOk result (λ lanes. HaveOneEach book.now (rows_of lanes.items)) }
 
-    // An interval is what the sketch tells of its call, within the events.
+    // Each interval begins and ends where the sketch says so of its call.
     ensures told { IfOk result (λ lanes. AreTold book.now events.now (rows_of lanes.items)) }
     // Each interval has at least one place, and all its places are of events.
     ensures within { IfOk result (λ lanes. LieWithin events.now (rows_of lanes.items)) }
 
-    // A call that precedes another ends before it begins; an answered call that doesn't ends after.
+    // Where a call precedes another, its interval ends before the other's begins.
     ensures apart { IfOk result (λ lanes. AreApart book.now (rows_of lanes.items)) }
     // Where the interval of an answered call ends before another begins, the call precedes the
     // other's.

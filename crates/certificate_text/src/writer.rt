@@ -22,7 +22,7 @@ pub fn write_certificate(
     // The bytes are what is written of the certificate.
     ensures written { IfOk result (λ bytes.
         IsWrittenCertificate bytes.items kind book.now order.now) }
-    // A reader reads them as the kind, the book and the places.
+    // A reader reads the bytes as the kind, the book and the places.
     ensures read { IfOk result (λ bytes. IsCertificateText bytes.items kind book.now order.now) }
 {
     let mut out = write_book(alloc, kind, book)?;

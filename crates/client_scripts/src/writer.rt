@@ -18,7 +18,7 @@ use std::alloc::Global;
 pub fn write_script(alloc: Global, script: &Script) -> Result<Vec<u8>, NoMemory>
     // The bytes are what is written of the script.
     ensures written { IfOk result (λ bytes. IsWrittenText Second bytes.items script.now) }
-    // A reader reads them as the script.
+    // A reader reads the bytes as the script.
     ensures read { IfOk result (λ bytes. IsScriptText Second bytes.items script.now) }
 {
     let mut out = Vec::new(alloc);

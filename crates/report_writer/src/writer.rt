@@ -21,7 +21,7 @@ use std::alloc::Global;
 pub fn report_text(alloc: Global, report: &Report) -> Result<Vec<u8>, NoMemory>
     // The bytes are what is written of the report.
     ensures written { IfOk result (λ bytes. IsWrittenText bytes.items report.now) }
-    // So it is read back as that report.
+    // A reader reads the bytes as the report.
     ensures read { IfOk result (λ bytes. IsReportText bytes.items report.now) }
 {
     let mut out = Vec::new(alloc);

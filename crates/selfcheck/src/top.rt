@@ -88,10 +88,12 @@ pub fn selfcheck<R: Threads + Sync, S: Source, K: Sink>(
     source: &mut S,
     sink: &mut K,
 ) -> Status
-    // What was read and written, by the status.
+    // The status says which bytes were read and which were written: the whole output of the command
+    // for the input, a prefix of it, or nothing.
     ensures ends { Ends words.now result (S.left source.old) (S.left source.new) (K.taken sink.old) (K.taken sink.new) }
 
-    // Words that aren't right are answered whatever the input, and those that can be seen at once whatever the memory.
+    // Words that name no command are answered `Usage`, `WriteFault` or `NoMemory`, whatever the
+    // input.
     ensures usage { IsNone (command_of words.now) →
         (result ≡ Status.Usage) ⊎ (result ≡ Status.WriteFault) ⊎ (result ≡ Status.NoMemory) }
     // Words that can't be those of a command are answered `Usage` or `WriteFault`.
@@ -100,12 +102,14 @@ pub fn selfcheck<R: Threads + Sync, S: Source, K: Sink>(
     // The source stays unread where the words name no command that reads one.
     ensures unread { ¬ IsSomeAnd (command_of words.now) (λ command. IsTrue (reads_source command)) → source.new ≡ source.old }
 
-    // Where all outputs for the bytes have one status, it is the answer, faults and want of memory aside.
+    // Where all outputs of the command for the input have one status, it is the answer, faults and
+    // want of memory aside.
     ensures exact { (command : Command) (held : List ℕ) (status : Status) → command_of words.now ≡ Some command →
         S.left source.old ≡ Some held → HasOneStatus command (input_of command held) status →
         (result ≡ status) ⊎ IsUnfinished result }
 
-    // A run over an object inside the world is fine, faults and want of memory aside.
+    // A command that runs inside the world on an input that it takes is `Fine`, faults and want of
+    // memory aside.
     ensures right { (command : Command) (held : List ℕ) → command_of words.now ≡ Some command →
         S.left source.old ≡ Some held → IsTaken command (input_of command held) →
         RunsInside command (input_of command held) → (result ≡ Status.Fine) ⊎ IsUnfinished result }
@@ -113,13 +117,14 @@ pub fn selfcheck<R: Threads + Sync, S: Source, K: Sink>(
     ensures soak { (number : ℕ) → command_of words.now ≡ Some (Command.Soak number) →
         (result ≡ Status.Fine) ⊎ IsUnfinished result }
 
-    // An input that the command takes is answered.
+    // An input that the command takes is answered `Fine`, `Found` or `NoMemory`, where no count of
+    // faults rose in this call.
     ensures complete { (command : Command) (held : List ℕ) → command_of words.now ≡ Some command →
         S.left source.old ≡ Some held → IsTaken command (input_of command held) →
         ¬ Rose (S.faults source.old) (S.faults source.new) → ¬ Rose (K.faults sink.old) (K.faults sink.new) →
         (result ≡ Status.Fine) ⊎ (result ≡ Status.Found) ⊎ (result ≡ Status.NoMemory) }
 
-    // A fault has its cause in a count that rose in this call, and every other answer comes where none rose.
+    // An answer `ReadFault` comes only where the source's count of faults rose in this call.
     ensures read_fault { result ≡ Status.ReadFault → Rose (S.faults source.old) (S.faults source.new) }
     // An answer `WriteFault` comes only where the sink's count of faults rose in this call.
     ensures write_fault { result ≡ Status.WriteFault → Rose (K.faults sink.old) (K.faults sink.new) }
