@@ -43,8 +43,8 @@ pub fn foresee_stack<R: Reader>(
     reader: &R,
     book: &Book,
 ) -> Result<Foresight, NoMemory>
-    // For each object that reads as a stack, holds its words and begins empty, each call that the answer forbids is
-    // infeasible there.
+    // For each object that reads as a stack, holds its words and begins empty, each call that the
+    // answer forbids is infeasible there.
     ensures { IfOk result (λ known. (init : List ℕ) (next : List ℕ → ℕ → List ℕ × ℕ) → IsStack (R.reading reader.now) next
         → HoldsItsWords (R.reading reader.now) → (R.reading reader.now).values init ≡ [] → IsForesight init next book.now known) }
 {
