@@ -8,8 +8,12 @@ ghost use Rattle.book_laws.specs.Greatest.{GreatestIsOne, GreatestContainsEach};
 /// The computed book at a cut of a valid book is what the relation says, and nothing else is; it is
 /// valid (Castañeda and Rodríguez 2023).
 pub fn book_at_is_the_book_at()
+    // The computed book at a cut of a valid book is one that the relation takes for the book at
+    // that cut.
     ensures book { IsTheBookAt }
+    // A book that the relation takes for the book at a cut is the computed one.
     ensures only { IsTheOnlyOne }
+    // The book at a cut of a valid book is valid.
     ensures valid { StaysValid }
 {}
 
@@ -17,16 +21,23 @@ pub fn book_at_is_the_book_at()
 /// are the cut.
 #[tactic(auto, using(crate::proofs::BookAtLaws::is_the_book_at_the_smaller, crate::proofs::BookAtLaws::record_counts_are_the_cut))]
 pub fn books_at_cuts_agree()
+    // The book at a cut of the book at a larger cut is the book at the smaller one.
     ensures smaller { IsTheBookAtTheSmaller }
+    // The record counts of the book at a cut are the cut.
     ensures counts { RecordCountsAreTheCut }
 {}
 
 /// The book at the cut of all its records has all answered calls of the book, and of the others exactly
 /// those that some view holds. It has a legal order exactly where the book has one.
 pub fn calls_without_a_view_are_free()
+    // The book at the cut of all its records has each record of the book.
     ensures records { KeepsEachRecord }
+    // The book at the cut of all its records has exactly the calls that are answered or held by a
+    // view.
     ensures calls { KeepsEachHeldCall }
+    // The book at the cut of all its records has the operations of the book.
     ensures operations { KeepsEachOperation }
+    // The book at the cut of all its records has a legal order exactly where the book has one.
     ensures orders { HasOneWhereTheBookHas }
 {}
 
@@ -34,8 +45,12 @@ pub fn calls_without_a_view_are_free()
 /// and a front of that order is one. So where the book at a cut has none, the book at each larger cut has
 /// none (Castañeda and Rodríguez 2023).
 pub fn error_is_final()
+    // Where the book at a cut has a legal order, a prefix of that order is legal for the book at
+    // each smaller cut.
     ensures front { SomeFrontIsLegal }
+    // Where the book at a cut has a legal order, the book at each smaller cut has one.
     ensures smaller { SmallerHasOne }
+    // Where the book at a cut has no legal order, the book at each larger cut has none.
     ensures larger { LargerHasNone }
 {}
 
@@ -43,6 +58,8 @@ pub fn error_is_final()
 /// other.
 #[tactic(auto, using(crate::proofs::GreatestCuts::greatest_is_one, crate::proofs::GreatestCuts::greatest_contains_each))]
 pub fn greatest_of_comparable()
+    // The greatest counts of some pairwise comparable cuts, at least one, are one of these cuts.
     ensures one { GreatestIsOne }
+    // The greatest counts of some pairwise comparable cuts contain each of these cuts.
     ensures contains { GreatestContainsEach }
 {}

@@ -8,15 +8,21 @@ ghost use Rattle.history_rules.specs.SmallObjects.{sample, queue_next, stack_nex
 
 /// The small queue, stack, priority queue and register are what the rules ask for.
 pub fn small_objects_are_read_so()
+    // The small queue is a queue, as the rules ask for.
     ensures queue { IsQueue sample queue_next }
+    // The small stack is a stack, as the rules ask for.
     ensures stack { IsStack sample stack_next }
+    // The small priority queue is one, as the rules ask for, at the rising lists.
     ensures least { IsPriorityQueue sample least_next is_rising }
+    // The small register is a register, as the rules ask for.
     ensures register { IsRegister register register_next }
 {}
 
 /// Both values were put in at once, and 6 was taken first: in every legal order 6 is put in first, so that
 /// the put of 5 is hopeless at the start.
 pub fn six_is_put_first()
+    // The put of 6 stands before the put of 5 in each legal order.
     ensures order { MustComeFirst [] queue_next six_first (call_of 1 0) (call_of 0 0) }
+    // The put of 5 is infeasible at the start.
     ensures hopeless { IsHopeless [] queue_next six_first (0 ∷ 0 ∷ []) [] (call_of 0 0) }
 {}

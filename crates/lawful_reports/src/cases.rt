@@ -17,9 +17,13 @@ ghost use Rattle.lawful_reports.specs.Cases.{with_second, with_first, behind_an_
 /// The delivered lines of the run stand in the order of their calls, and in none that leaves one
 /// out or has another reply. Lines of which none is delivered stand in the empty order.
 pub fn delivered_lines_stand_in_an_order()
+    // Both delivered lines stand in the order of the two calls, each with its reply.
     ensures both { StandInOrder both_delivered (first_place 0 50 ∷ first_place 1 60 ∷ []) }
+    // Lines without a delivered one stand in the empty order.
     ensures none { StandInOrder both_failed [] }
+    // Both delivered lines don't stand in an order that lacks the second call.
     ensures one_left_out { ¬ StandInOrder both_delivered (first_place 0 50 ∷ []) }
+    // Both delivered lines don't stand in an order with another reply.
     ensures another_reply { ¬ StandInOrder both_delivered (first_place 0 50 ∷ first_place 1 61 ∷ []) }
 {}
 
@@ -28,15 +32,24 @@ pub fn delivered_lines_stand_in_an_order()
 /// verdicts included, doesn't refuse them: it is so of every false error. That none ends with their
 /// calls does.
 pub fn false_errors_are_refused()
+    // One of the lines is an error.
     ensures errors { list_any any_error both_failed ≡ true }
+    // The steps of the two whole calls are a run.
     ensures run { IsRun pair two_calls }
+    // The calls of the lines are those of the locals after the run.
     ensures calls { map calls_in (locals_after two_calls) ≡ calls_of both_failed }
+    // The history of the run is linearizable for the object that gives ten times the operation.
     ensures linearizable { IsLinearizable [] tenfold (history_of pair two_calls) }
+    // The lines as errors are no lawful report for that object, whatever the operations and the
+    // allotments.
     ensures no_report { AreNoReport [] tenfold both_failed }
+    // No run with a linearizable history has these lines with these verdicts.
     ensures of_the_lines { NoLinearizableRunHasTheseLines [] tenfold both_failed }
+    // Some run with a linearizable history has the calls of these lines.
     ensures of_the_calls { ¬ NoLinearizableRunHasTheseCalls [] tenfold both_failed }
     // They are true errors of an object that gives 0.
     ensures lawful { IsLawful [] silent pair five_and_six (5 ∷ 5 ∷ []) both_failed }
+    // No run with a linearizable history has these calls for the object that always gives 0.
     ensures of_lawful_calls { NoLinearizableRunHasTheseCalls [] silent both_failed }
 {}
 
@@ -46,24 +59,32 @@ pub fn other_lines_are_refused()
     // A call left out, a record left out, all calls left out.
     ensures call_left_out { ¬ AreLinesOf [] silent (locals_after (take 24 two_calls))
         ((unchecked 5 fifty ∷ []) ∷ [] ∷ []) }
+    // Lines that leave out a record aren't those of the locals.
     ensures record_left_out { ¬ AreLinesOf [] silent (locals_after (take 24 two_calls))
         ((pending 5 ∷ []) ∷ (pending 6 ∷ []) ∷ []) }
+    // Lines that leave out all calls aren't those of the locals.
     ensures all_left_out { ¬ AreLinesOf [] tenfold (locals_after two_calls) nothing }
     // Another operation, reply, view or seen cut, no seen cut, and a call more.
     ensures operation { ¬ AreLinesOf [] tenfold (locals_after two_calls)
         (with_second (delivered 7 sixty (1 ∷ 1 ∷ []) ∷ [])) }
+    // Lines with another reply aren't those of the locals.
     ensures reply { ¬ AreLinesOf [] tenfold (locals_after two_calls)
         (with_second (delivered 6 fifty (1 ∷ 1 ∷ []) ∷ [])) }
+    // Lines with another view aren't those of the locals.
     ensures seen_view { ¬ AreLinesOf [] tenfold (locals_after two_calls)
         (with_second (delivered 6 (answer 60 (0 ∷ 1 ∷ [])) (1 ∷ 1 ∷ []) ∷ [])) }
+    // Lines with another seen cut aren't those of the locals.
     ensures seen_cut { ¬ AreLinesOf [] tenfold (locals_after two_calls)
         (with_second (delivered 6 sixty (0 ∷ 1 ∷ []) ∷ [])) }
+    // Lines that leave out a seen cut aren't those of the locals.
     ensures cut_left_out { ¬ AreLinesOf [] tenfold (locals_after two_calls)
         (with_second (unchecked 6 sixty ∷ [])) }
+    // Lines with a call more aren't those of the locals.
     ensures call_more { ¬ AreLinesOf [] tenfold (locals_after two_calls)
         (with_second (delivered 6 sixty (1 ∷ 1 ∷ []) ∷ pending 7 ∷ [])) }
     // Another verdict, though all calls are right.
     ensures false_error { ¬ AreLinesOf [] tenfold (locals_after two_calls) first_failed }
+    // Lines that miss an error aren't those of the locals.
     ensures missed_error { ¬ AreLinesOf [] silent (locals_after two_calls) both_delivered }
 {}
 
@@ -73,11 +94,14 @@ pub fn wrong_reports_are_refused()
     // The lines have other operations than the callers were given, or more.
     ensures operations { ¬ IsLawful [] tenfold pair ((5 ∷ []) ∷ (7 ∷ []) ∷ []) (5 ∷ 5 ∷ [])
         both_delivered }
+    // A report with a line beyond the operations isn't lawful.
     ensures beyond_operations { ¬ IsLawful [] tenfold pair five_and_six (6 ∷ 5 ∷ [])
         (with_first (delivered 5 fifty (1 ∷ 0 ∷ []) ∷ pending 0 ∷ [])) }
     // A call is judged that its caller's stop leaves unjudged; a caller goes on behind an error.
     ensures beyond_stop { ¬ IsLawful [] tenfold pair five_and_six (4 ∷ 5 ∷ []) both_delivered }
+    // A report with an error beyond a stop isn't lawful.
     ensures error_beyond_stop { ¬ IsLawful [] silent pair five_and_six (4 ∷ 5 ∷ []) both_failed }
+    // A report with a line after an error isn't lawful.
     ensures behind_error { ¬ IsLawful [] silent pair ((5 ∷ 7 ∷ []) ∷ (6 ∷ []) ∷ []) (10 ∷ 5 ∷ [])
         behind_an_error }
     // A view doesn't hold its own call.
@@ -85,6 +109,7 @@ pub fn wrong_reports_are_refused()
         (with_first (delivered 5 (answer 50 (0 ∷ 1 ∷ [])) (1 ∷ 0 ∷ []) ∷ [])) }
     // A seen cut has no count for a caller, or doesn't hold its own call.
     ensures narrow_cut { AreNoReport [] tenfold (with_first (delivered 5 fifty (1 ∷ []) ∷ [])) }
+    // Lines with a seen cut that lacks its own call are no lawful report.
     ensures cut_without_call { AreNoReport [] tenfold
         (with_second (delivered 6 sixty (1 ∷ 0 ∷ []) ∷ [])) }
 {}

@@ -8,7 +8,9 @@ ghost use Rattle.log_program.specs.LogRules.{LogRulesHold, TicketsStay, SomePlac
 /// stored, no ticket is at two places, and the word that an object step left is still there; and a ticket never
 /// changes.
 pub fn log_rules_hold()
+    // The rules of a log hold in every reachable world of its program.
     ensures rules { LogRulesHold }
+    // A ticket never changes along a run.
     ensures tickets { TicketsStay }
 {}
 
@@ -19,6 +21,8 @@ pub fn some_place_is_free()
 
 /// The object history of every run of a log is linearizable, in the order of its tickets (Herlihy and Wing 1990).
 pub fn logs_linearize()
+    // The object history of every run of a log is linearizable.
     ensures linearizable { LogsLinearize }
+    // The order of tickets linearizes the object history of every run of a log.
     ensures order { LogOrdersAreOfTickets }
 {}

@@ -7,10 +7,16 @@ ghost use Rattle.logged_calls.specs.Cases.{count_before, one_answered, others_ma
 /// or after it; where it was announced and not asked, no reply counts it. Nor does a reply count a call of a caller
 /// that isn't there, nor one of its own caller that comes later.
 pub fn logs_have_the_calls_that_were_asked()
+    // A reply of 1 is of a log where the other caller's call was asked and came before.
     ensures asked_before { IsLoggedBy count_before 2 (others_made 2) (one_answered 1) }
+    // A reply of 0 is of a log where the other caller's call was asked and came after.
     ensures asked_after { IsLoggedBy count_before 2 (others_made 2) (one_answered 0) }
+    // A reply of 0 is of a log where the other caller's call was announced and not asked.
     ensures unasked { IsLoggedBy count_before 2 (others_made 1) (one_answered 0) }
+    // A reply doesn't count a call that was announced and not asked.
     ensures counts_unasked { ¬ IsLoggedBy count_before 2 (others_made 1) (one_answered 1) }
+    // A reply doesn't count a call of a caller that isn't there.
     ensures counts_a_stranger { ¬ IsLoggedBy count_before 1 (others_made 2) (one_answered 1) }
+    // A reply doesn't count a later call of its own caller.
     ensures counts_its_next { ¬ IsLoggedBy count_before 1 both_made answered_backwards }
 {}

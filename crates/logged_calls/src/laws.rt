@@ -12,6 +12,10 @@ pub fn runs_of_logs_are_logged()
 /// In every run of a tally an answered increment has a value for its reply, and in every run of a cell an answered
 /// write has done and an answered read a value; an operation that the object doesn't know is answered bad.
 pub fn runs_of_words_are_formed()
+    // In each run of a tally the reply of each answered call is a value exactly to an increment,
+    // and else `bad`.
     ensures tallies { RunsOfTalliesAreFormed }
+    // In each run of a cell the reply of each answered call is done exactly to a write, a value
+    // exactly to the read, and else `bad`.
     ensures cells { RunsOfCellsAreFormed }
 {}

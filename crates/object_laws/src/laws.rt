@@ -15,33 +15,48 @@ pub fn counters_count()
 
 /// A register gives the value that was written last, and 0 before each write.
 pub fn registers_give_the_last_write()
+    // The reply to a read is the value of the last write before it.
     ensures last { ReadsGiveTheLastWrite }
+    // The reply to a read before each write is 0.
     ensures first { ReadsGiveZeroAtFirst }
+    // The reply to each write is done.
     ensures done { AreDone kinds.Register words.write }
 {}
 
 /// A set tells whether an add of a value stands, without a later remove of it.
 pub fn sets_tell_what_stands()
+    // The reply to `has` tells whether an add of the value stands, without a later remove of it.
     ensures has { HasTells }
+    // The reply to `add` tells whether no add of the value stands before it.
     ensures add { AddTells }
+    // The reply to `remove` tells whether an add of the value stands before it.
     ensures remove { RemoveTells }
 {}
 
 /// A queue gives the values in the order in which they were put in.
 pub fn queues_give_the_oldest()
+    // The reply to a dequeue is the first of the values put in that isn't out, or none where each
+    // is out.
     ensures order { DequeuesGiveTheOldest }
+    // The reply to each enqueue is done.
     ensures done { AreDone kinds.Queue words.enq }
 {}
 
 /// A stack gives the value that was put in last and isn't out.
 pub fn stacks_give_the_newest()
+    // The reply to a pop is the last value put in that isn't out, or none where what was put in is
+    // out.
     ensures order { PopsGiveTheNewest }
+    // The reply to each push is done.
     ensures done { AreDone kinds.Stack words.push }
 {}
 
 /// A priority queue gives the least value that is in, and each value at most as often as it was put in.
 pub fn priority_queues_give_the_least()
+    // The reply to `min` is the least value that is in, or none where no value is in.
     ensures least { MinsGiveTheLeast }
+    // Each value comes out at most as often as it was put in.
     ensures often { ComesOutAtMostAsOften }
+    // The reply to each insert is done.
     ensures done { AreDone kinds.Pqueue words.insert }
 {}

@@ -7,103 +7,147 @@ ghost use Rattle.seq_objects.specs.WorkedSteps.{Makes};
 
 /// Steps of a register. A list without an item reads as 0.
 pub fn worked_register_steps()
+    // The register begins with the list of 0 alone.
     ensures begins { kind_init kinds.Register ≡ 0 ∷ [] }
+    // A write of 7 leaves the list of 7 alone, and is replied done.
     ensures writes { Makes kinds.Register 4294967303 (codes "write 7")
         (4 ∷ 9 ∷ []) (7 ∷ []) (codes "done") }
+    // A read at 4 leaves the list, and is replied 4.
     ensures reads { Makes kinds.Register 8589934592 (codes "read")
         (4 ∷ 9 ∷ []) (4 ∷ 9 ∷ []) (codes "=4") }
+    // A read at the empty list leaves it, and is replied 0.
     ensures reads_an_empty_list { Makes kinds.Register 8589934592 (codes "read")
         [] [] (codes "=0") }
+    // A read gives the low 32 bits of the first word.
     ensures reads_the_low_bits { Makes kinds.Register 8589934592 (codes "read")
         (4294967301 ∷ []) (4294967301 ∷ []) (codes "=5") }
+    // A word that no entry has leaves the list, and is replied `bad`.
     ensures leaves_an_unknown_word { Makes kinds.Register 12884901888 (codes "#12884901888")
         (4 ∷ []) (4 ∷ []) (codes "bad") }
 {}
 
 /// Steps of a counter. The count goes on with 0 after the greatest number below 2^32.
 pub fn worked_counter_steps()
+    // The counter begins with the list of 0 alone.
     ensures begins { kind_init kinds.Counter ≡ 0 ∷ [] }
+    // An increment at 5 leaves the list of 6 alone, and is replied 5.
     ensures counts { Makes kinds.Counter 4294967296 (codes "inc")
         (5 ∷ 9 ∷ []) (6 ∷ []) (codes "=5") }
+    // An increment at the empty list leaves 1, and is replied 0.
     ensures counts_an_empty_list { Makes kinds.Counter 4294967296 (codes "inc")
         [] (1 ∷ []) (codes "=0") }
+    // An increment at the greatest number below 2^32 leaves 0.
     ensures goes_on_with_zero { Makes kinds.Counter 4294967296 (codes "inc")
         (4294967295 ∷ []) (0 ∷ []) (codes "=4294967295") }
+    // An increment counts the low 32 bits of the first word.
     ensures counts_the_low_bits { Makes kinds.Counter 4294967296 (codes "inc")
         (4294967298 ∷ []) (3 ∷ []) (codes "=2") }
+    // An increment with an argument leaves the list, and is replied `bad`.
     ensures leaves_an_argument { Makes kinds.Counter 4294967297 (codes "#4294967297")
         (4 ∷ []) (4 ∷ []) (codes "bad") }
+    // A word that no entry has leaves the list, and is replied `bad`.
     ensures leaves_an_unknown_word { Makes kinds.Counter 8589934592 (codes "#8589934592")
         (4 ∷ []) (4 ∷ []) (codes "bad") }
 {}
 
 /// Steps of a set. A value is put before the first greater item.
 pub fn worked_set_steps()
+    // The set begins with the empty list.
     ensures begins { kind_init kinds.IntSet ≡ [] }
+    // A value that isn't there is put between a lesser and a greater item, and the reply is yes.
     ensures adds_in_order { Makes kinds.IntSet 4294967299 (codes "add 3")
         (1 ∷ 5 ∷ []) (1 ∷ 3 ∷ 5 ∷ []) (codes "yes") }
+    // A value is put before the first greater item, also in a list that doesn't rise.
     ensures adds_before_the_first_greater { Makes kinds.IntSet 4294967299 (codes "add 3")
         (2 ∷ 7 ∷ 1 ∷ []) (2 ∷ 3 ∷ 7 ∷ 1 ∷ []) (codes "yes") }
+    // A value that is greater than all items is put at the end.
     ensures adds_at_the_end { Makes kinds.IntSet 4294967299 (codes "add 3")
         (2 ∷ []) (2 ∷ 3 ∷ []) (codes "yes") }
+    // A value that is there isn't put in again, and the reply is no.
     ensures adds_nothing_twice { Makes kinds.IntSet 4294967299 (codes "add 3")
         (1 ∷ 3 ∷ []) (1 ∷ 3 ∷ []) (codes "no") }
+    // A remove takes out the first of two equal items, and is replied yes.
     ensures takes_out_the_first { Makes kinds.IntSet 8589934595 (codes "remove 3")
         (1 ∷ 3 ∷ 2 ∷ 3 ∷ []) (1 ∷ 2 ∷ 3 ∷ []) (codes "yes") }
+    // A remove of a value that isn't there leaves the list, and is replied no.
     ensures takes_out_none { Makes kinds.IntSet 8589934596 (codes "remove 4")
         (1 ∷ 3 ∷ []) (1 ∷ 3 ∷ []) (codes "no") }
+    // A look for a value that is there is replied yes.
     ensures has { Makes kinds.IntSet 12884901891 (codes "has 3")
         (1 ∷ 3 ∷ []) (1 ∷ 3 ∷ []) (codes "yes") }
+    // A look for a value that isn't there is replied no.
     ensures has_not { Makes kinds.IntSet 12884901892 (codes "has 4")
         (1 ∷ 3 ∷ []) (1 ∷ 3 ∷ []) (codes "no") }
+    // A look for a value isn't replied yes for an item of which only the low 32 bits are it.
     ensures has_not_by_the_low_bits { Makes kinds.IntSet 12884901891 (codes "has 3")
         (4294967299 ∷ []) (4294967299 ∷ []) (codes "no") }
+    // A word that no entry has leaves the list, and is replied `bad`.
     ensures leaves_an_unknown_word { Makes kinds.IntSet 17179869184 (codes "#17179869184")
         (4 ∷ []) (4 ∷ []) (codes "bad") }
 {}
 
 /// Steps of a priority queue. A value is put before the first greater item, and the first leaves.
 pub fn worked_pqueue_steps()
+    // The priority queue begins with the empty list.
     ensures begins { kind_init kinds.Pqueue ≡ [] }
+    // A value is put after an equal item and before a greater one.
     ensures inserts_in_order { Makes kinds.Pqueue 4294967300 (codes "insert 4")
         (2 ∷ 4 ∷ 6 ∷ []) (2 ∷ 4 ∷ 4 ∷ 6 ∷ []) (codes "done") }
+    // A value is put before the first greater item, also in a list that doesn't rise.
     ensures inserts_before_the_first_greater { Makes kinds.Pqueue 4294967300 (codes "insert 4")
         (1 ∷ 6 ∷ 2 ∷ []) (1 ∷ 4 ∷ 6 ∷ 2 ∷ []) (codes "done") }
+    // A value that is greater than all items is put at the end.
     ensures inserts_at_the_end { Makes kinds.Pqueue 4294967300 (codes "insert 4")
         (2 ∷ []) (2 ∷ 4 ∷ []) (codes "done") }
+    // A take takes out the first item, also where a lesser one follows.
     ensures takes_the_first { Makes kinds.Pqueue 8589934592 (codes "min")
         (4 ∷ 2 ∷ []) (2 ∷ []) (codes "=4") }
+    // A take gives the low 32 bits of the first item.
     ensures takes_the_low_bits { Makes kinds.Pqueue 8589934592 (codes "min")
         (4294967298 ∷ 9 ∷ []) (9 ∷ []) (codes "=2") }
+    // A take at the empty list leaves it, and is replied none.
     ensures takes_none { Makes kinds.Pqueue 8589934592 (codes "min") [] [] (codes "none") }
+    // A word that no entry has leaves the list, and is replied `bad`.
     ensures leaves_an_unknown_word { Makes kinds.Pqueue 12884901888 (codes "#12884901888")
         (4 ∷ []) (4 ∷ []) (codes "bad") }
 {}
 
 /// Steps of a queue: items come in at the end, and leave at the front.
 pub fn worked_queue_steps()
+    // The queue begins with the empty list.
     ensures begins { kind_init kinds.Queue ≡ [] }
+    // A put adds its value at the end, and is replied done.
     ensures puts_at_the_end { Makes kinds.Queue 4294967303 (codes "enq 7")
         (4 ∷ 2 ∷ []) (4 ∷ 2 ∷ 7 ∷ []) (codes "done") }
+    // A take takes out the first item.
     ensures takes_the_first { Makes kinds.Queue 8589934592 (codes "deq")
         (4 ∷ 2 ∷ 9 ∷ []) (2 ∷ 9 ∷ []) (codes "=4") }
+    // A take gives the low 32 bits of the first item.
     ensures takes_the_low_bits { Makes kinds.Queue 8589934592 (codes "deq")
         (4294967298 ∷ 9 ∷ []) (9 ∷ []) (codes "=2") }
+    // A take at the empty list leaves it, and is replied none.
     ensures takes_none { Makes kinds.Queue 8589934592 (codes "deq") [] [] (codes "none") }
+    // A word that no entry has leaves the list, and is replied `bad`.
     ensures leaves_an_unknown_word { Makes kinds.Queue 12884901888 (codes "#12884901888")
         (4 ∷ []) (4 ∷ []) (codes "bad") }
 {}
 
 /// Steps of a stack: items come in at the end, and leave at the end.
 pub fn worked_stack_steps()
+    // The stack begins with the empty list.
     ensures begins { kind_init kinds.Stack ≡ [] }
+    // A put adds its value at the end, and is replied done.
     ensures puts_at_the_end { Makes kinds.Stack 4294967303 (codes "push 7")
         (4 ∷ 2 ∷ []) (4 ∷ 2 ∷ 7 ∷ []) (codes "done") }
+    // A take takes out the last item.
     ensures takes_the_last { Makes kinds.Stack 8589934592 (codes "pop")
         (4 ∷ 2 ∷ 9 ∷ []) (4 ∷ 2 ∷ []) (codes "=9") }
+    // A take gives the low 32 bits of the last item.
     ensures takes_the_low_bits { Makes kinds.Stack 8589934592 (codes "pop")
         (9 ∷ 4294967298 ∷ []) (9 ∷ []) (codes "=2") }
+    // A take at the empty list leaves it, and is replied none.
     ensures takes_none { Makes kinds.Stack 8589934592 (codes "pop") [] [] (codes "none") }
+    // A word that no entry has leaves the list, and is replied `bad`.
     ensures leaves_an_unknown_word { Makes kinds.Stack 12884901888 (codes "#12884901888")
         (4 ∷ []) (4 ∷ []) (codes "bad") }
 {}

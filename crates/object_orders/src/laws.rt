@@ -7,25 +7,35 @@ ghost use Rattle.object_orders.specs.TallyAndCell.{TallyServesCounter, CellServe
 /// Where the calls of all runs take effect one at a time, each between its announcement and its return, the
 /// object history of every run is linearizable, in the order of effects (Herlihy and Wing 1990).
 pub fn effects_linearize()
+    // Where calls take effect one at a time, the object history of each run is linearizable.
     ensures linearizable { EffectsLinearize }
+    // Where calls take effect one at a time, the order of effects linearizes the object history of
+    // each run.
     ensures order { TheOrderIsOfEffects }
 {}
 
 /// Every run of an object of one word is linearizable, where each call makes at most one step: a call takes
 /// effect at its step, or at its announcement where its operation makes none.
 pub fn one_words_linearize()
+    // The object history of each run of an object of one word is linearizable.
     ensures linearizable { OneWordsLinearize }
+    // The order that linearizes a run of an object of one word is that of its steps, and of
+    // announcements of operations without a step.
     ensures order { OneWordOrdersAreOfSteps }
 {}
 
 /// The tally serves the counter, so that every run of it is linearizable.
 pub fn tallies_linearize()
+    // The tally serves the counter.
     ensures serves { TallyServesCounter }
+    // The object history of each run of the tally is linearizable for the counter.
     ensures linearizable { TalliesLinearize }
 {}
 
 /// The cell serves the register, so that every run of it is linearizable.
 pub fn cells_linearize()
+    // The cell serves the register.
     ensures serves { CellServesRegister }
+    // The object history of each run of the cell is linearizable for the register.
     ensures linearizable { CellsLinearize }
 {}

@@ -21,69 +21,103 @@ ghost use Rattle.pinned_numbers.specs.Machines.{ArePuts, AreTakes, AreNeither, l
 
 /// The limits of books, tables and states.
 pub fn limits_of_books()
+    // A book has at most 16 callers.
     ensures callers { MAX_CALLERS ≡ 16 }
+    // A caller has at most 256 calls.
     ensures calls { MAX_CALLS ≡ 256 }
+    // A list has at most 8192 words.
     ensures room { MAX_ROOM ≡ 8192 }
 {}
 
 /// The reply `bad`: the word of a table's rows and of texts.
 pub fn the_reply_bad()
+    // The reply word `bad` is 4 times 2^32.
     ensures word { BAD ≡ 17179869184 }
+    // The reply `bad` of the objects is that word.
     ensures of_objects { reply_bad ≡ BAD }
+    // The text of that word is `bad`.
     ensures text { reply_word BAD ≡ codes "bad" }
 {}
 
 /// The phases of a call: the five that lines count.
 pub fn phases_of_a_call()
+    // A call has five phases.
     ensures number { PHASES ≡ 5 }
+    // A caller without a stop is given five phases for each of its calls.
     ensures allotted { (calls : ℕ) → phases_for None calls ≡ PHASES * calls }
+    // After five phases for each of some calls, and fewer than five more, these calls are judged.
     ensures made { (calls more : ℕ) → more < PHASES → judged (PHASES * calls + more) ≡ calls }
 {}
 
 /// The limits of texts.
 pub fn limits_of_texts()
+    // Texts of version 2 have at most 16 callers.
     ensures second_callers { (TEXT_CALLERS ≡ 16) × (most_callers Second ≡ TEXT_CALLERS) }
+    // Texts of version 2 have at most 256 calls of a caller.
     ensures second_calls { (TEXT_CALLS ≡ 256) × (most_calls Second ≡ TEXT_CALLS) }
+    // Texts of version 2 have operation words below 2^128.
     ensures second_words { word_limit Second ≡ 2 ^ 128 }
+    // Texts of version 1 have at most 8 callers.
     ensures first_callers { (FIRST_TEXT_CALLERS ≡ 8) × (most_callers First ≡ FIRST_TEXT_CALLERS) }
+    // Texts of version 1 have at most 64 calls of a caller.
     ensures first_calls { (FIRST_TEXT_CALLS ≡ 64) × (most_calls First ≡ FIRST_TEXT_CALLS) }
+    // Texts of version 1 have operation words below 2^64.
     ensures first_words { word_limit First ≡ 2 ^ 64 }
+    // An input has at most 1,048,576 bytes.
     ensures input { INPUT_LIMIT ≡ 1048576 }
 {}
 
 /// The codes that the program ends with.
 pub fn codes_of_statuses()
+    // The program ends with 0 where all is fine, and with 1 where an error was found.
     ensures written { (code_of statuses.Fine ≡ 0) × (code_of statuses.Found ≡ 1) }
+    // The program ends with 2 where the words aren't right, and with 3 where the input is refused.
     ensures refused { (code_of statuses.Usage ≡ 2) × (code_of statuses.Refused ≡ 3) }
+    // The program ends with 4 where reading failed, and with 5 where writing did.
     ensures failed { (code_of statuses.ReadFault ≡ 4) × (code_of statuses.WriteFault ≡ 5) }
+    // The program ends with 6 for want of memory.
     ensures no_memory { code_of statuses.NoMemory ≡ 6 }
 {}
 
 /// What the faulty machines take for a put and for a take, by the table of operations.
 pub fn codes_of_puts_and_takes()
+    // An enqueue, a push, a write, an increment, an add, an insert and a put are puts.
     ensures puts { ArePuts (words.enq ∷ words.push ∷ words.write ∷ words.inc
         ∷ words.add ∷ words.insert ∷ words.put ∷ []) }
+    // A dequeue, a pop, a read, a remove, a `min` and a get are takes.
     ensures takes { AreTakes (words.deq ∷ words.pop ∷ words.read ∷ words.remove
         ∷ words.min ∷ words.get ∷ []) }
+    // A look for a value, a compare-and-set and a delete are neither puts nor takes.
     ensures neither { AreNeither (words.has ∷ words.cas ∷ words.del ∷ []) }
 {}
 
 /// A late queue: the put of a caller waits for that caller's next call.
 pub fn late_puts_wait()
+    // The put of a caller is there for that caller's next take.
     ensures own { late_text ((0, words.enq, 7) ∷ (0, words.deq, 0) ∷ []) ≡ codes "=7" }
+    // The put of a caller isn't there for another caller's take.
     ensures other { late_text ((0, words.enq, 7) ∷ (1, words.deq, 0) ∷ []) ≡ codes "none" }
+    // The first put of a caller is there for another caller's take once the caller has made its
+    // second.
     ensures woken { late_text ((0, words.enq, 7) ∷ (0, words.enq, 8)
         ∷ (1, words.deq, 0) ∷ []) ≡ codes "=7" }
+    // A take finds the put of its own caller, and not an earlier one of another caller that still
+    // waits.
     ensures in_order { late_text ((0, words.enq, 7) ∷ (1, words.enq, 8)
         ∷ (1, words.deq, 0) ∷ []) ≡ codes "=8" }
 {}
 
 /// An inventing counter: the third call of each caller is answered 99, and no other one.
 pub fn third_calls_are_answered_99()
+    // The second call of a caller is answered 1.
     ensures second { invented_text (0 ∷ 0 ∷ []) ≡ codes "=1" }
+    // The third call of a caller is answered 99.
     ensures third { invented_text (0 ∷ 0 ∷ 0 ∷ []) ≡ codes "=99" }
+    // The fourth call of a caller is answered 3.
     ensures fourth { invented_text (0 ∷ 0 ∷ 0 ∷ 0 ∷ []) ≡ codes "=3" }
+    // The first call of another caller is answered 2 after two calls.
     ensures of_another { invented_text (0 ∷ 0 ∷ 1 ∷ []) ≡ codes "=2" }
+    // The third call of another caller is answered 99.
     ensures third_of_another { invented_text (1 ∷ 0 ∷ 1 ∷ 0 ∷ 1 ∷ []) ≡ codes "=99" }
 {}
 

@@ -7,22 +7,36 @@ ghost use Rattle.report_laws.specs.Working.{VerdictsStay, WorkersGoThrough, Work
 
 /// Phase by phase, a caller comes exactly as far as its phases go.
 pub fn phases_are_made_one_by_one()
+    // Before its first phase a caller has no call.
     ensures none { NoPhaseIsMade }
+    // A caller with k calls judged and an operation left comes one phase further by announcing it.
     ensures announcing { AnnouncingIsAPhase }
+    // A caller with an announced call comes one phase further by asking, which changes no progress.
     ensures asking { AskingIsAPhase }
+    // A caller with an asked call comes one phase further by the view, which gives the call its
+    // record.
     ensures viewing { ViewingIsAPhase }
+    // A caller with a recorded call comes one phase further by publishing the record.
     ensures publishing { PublishingIsAPhase }
+    // A caller with a published record comes one phase further by its seen cut, with which the call
+    // is judged.
     ensures seeing { SeeingIsAPhase }
 {}
 
 /// Phase by phase, an object that tells its pairs tells an operation and a reply for each call that it was
 /// asked.
 pub fn objects_tell_phase_by_phase()
+    // Before the first phase an object tells nothing.
     ensures none { NothingIsTold }
+    // As a call is announced an object still tells the pairs of the calls before.
     ensures announcing { ToldAsAnnounced }
+    // As an object is asked it tells one pair more, with the call's operation and the reply.
     ensures asking { ToldAsAsked }
+    // As a call is viewed an object tells the same pairs, of which the last has the record's reply.
     ensures viewing { ToldAsViewed }
+    // As a record is published an object tells the same pairs.
     ensures publishing { ToldAsPublished }
+    // As a cut is seen an object tells the same pairs.
     ensures seeing { ToldAsSeen }
 {}
 
@@ -33,7 +47,9 @@ pub fn verdicts_stay()
 
 /// Where a worker went through its allotment, or halted at an error, it has worked.
 pub fn workers_go_through_or_halt()
+    // What a worker leaves that made all phases of its allotment, and met no error, is worked.
     ensures through { WorkersGoThrough }
+    // What a worker leaves that halted at an error, after lines without one, is worked.
     ensures halted { WorkersHalt }
 {}
 
@@ -45,8 +61,11 @@ pub fn lawful_from_worlds()
 /// What the workers of all callers leave, each said of its own caller alone, are the lines of the locals
 /// that they leave, and lawful.
 pub fn lawful_from_workers()
+    // The lines that a worker leaves are those of its allotment.
     ensures allotted { WorkersKeepToTheirAllotments }
+    // The lines that all workers leave are those of the locals that they leave.
     ensures lines { WorkersLeaveTheLines }
+    // The lines that all workers leave are a lawful report.
     ensures lawful { WorkersAreLawful }
 {}
 
@@ -62,7 +81,9 @@ pub fn errors_are_final()
 
 /// What a line saw is in the book of the lines, and each line but a caller's last is delivered.
 pub fn lines_fit_a_report()
+    // What a line saw is in the book of the lines: no count is above its caller's records.
     ensures seen { SeenCutsAreInTheBook }
+    // Each line of an allotment but the last is delivered.
     ensures delivered { LinesBeforeTheLastAreDelivered }
 {}
 

@@ -10,6 +10,9 @@ pub fn books_are_valid()
 /// At every cut of what was published, comparable with the views or not, the book is a valid book, and
 /// its record counts are the cut.
 pub fn books_at_published_cuts()
+    // A cut of what was published is within the record counts of the book.
     ensures within { PublishedCutsAreWithin }
+    // At each cut of what was published the book of the locals is valid, and its record counts are
+    // the cut.
     ensures books { BooksAtPublishedCuts }
 {}

@@ -16,6 +16,9 @@ pub fn linearizations_are_legal_orders()
 /// No false error: where the object history of a run is linearizable, its book has a legal order, and so
 /// has the book at every cut of what was published. For every program (Castañeda and Rodríguez 2023).
 pub fn no_false_error()
+    // Where the object history of a run is linearizable, the book of its locals has a legal order.
     ensures whole { LinearizableRunsHaveLegalBooks }
+    // Where the object history of a run is linearizable, the book at each cut of what was published
+    // has a legal order.
     ensures cuts { NoFalseError }
 {}

@@ -11,6 +11,10 @@ pub fn rows_are_a_valid_book()
 /// The book of the rows at a cut of what was published, so at each cut that a scan of the region of
 /// answers gave, is a valid book, and is the book at that cut of all callers' calls.
 pub fn books_at_cuts_are_in_the_rows()
+    // The book of the rows at each cut of what was published is valid, and is the book at that cut
+    // of all callers' calls.
     ensures published { BooksAtCutsAreInTheRows }
+    // The book of the rows at each cut that a scan of M gave is valid, and is the book at that cut
+    // of all callers' calls.
     ensures given { BooksAtGivenCutsAreInTheRows }
 {}

@@ -11,7 +11,11 @@ pub fn seen_cuts_fit()
 /// program that ends with these calls has a linearizable object history; and the same of every cut of what
 /// a run published (Castañeda and Rodríguez 2023).
 pub fn no_run_has_this_error()
+    // Where the book at a cut of what a run published has no legal order, the object history of the
+    // run isn't linearizable.
     ensures cuts { NoRunHasThisError }
+    // Where the book of some calls has no legal order at a cut that one of them has seen, no run
+    // that ends with these calls has a linearizable object history.
     ensures seen { NoRunHasThisErrorSeen }
 {}
 

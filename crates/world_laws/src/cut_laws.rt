@@ -7,17 +7,28 @@ ghost use Rattle.world_laws.specs.Spans.{CutsAreInstantaneous, CutsHoldEarlier, 
 /// The cut that a scan gave was the counts of its region at one moment of the run, and so was each cut that a
 /// counted row embeds (Afek and others 1993).
 pub fn cuts_were_counts()
+    // The cut that a scan gave was the counts of its region at one moment of the run.
     ensures given { CutsWereCounts }
+    // The cut that a counted row embeds was the counts of its region at one moment of the run.
     ensures embedded { EmbeddedCutsWereCounts }
+    // Each cut that a scan gave, in the locals of a reachable world, was the counts of its region
+    // at one moment.
     ensures given_to_locals { GivenCutsWereCounts }
+    // Each cut that a counted row embeds, in the locals of a reachable world, was the counts of its
+    // region at one moment.
     ensures embedded_in_locals { EmbeddedCutsWereOwnCounts }
 {}
 
 /// Any two cuts that scans of one region gave are comparable; so are any two views, and any two seen cuts.
 pub fn cuts_are_comparable()
+    // Any two cuts that scans of one region gave in a run are comparable.
     ensures runs { CutsAreComparable }
+    // Any two cuts that scans of one region gave, in the locals of a reachable world, are
+    // comparable.
     ensures locals { GivenCutsAreComparable }
+    // Any two views in the locals of a reachable world are comparable.
     ensures views { ViewsAreComparable }
+    // Any two seen cuts in the locals of a reachable world are comparable.
     ensures seen { SeenCutsAreComparable }
 {}
 
@@ -30,9 +41,13 @@ pub fn cuts_are_instantaneous()
 /// The cut of a scan holds what was counted before the scan began, and nothing that was counted after it
 /// ended; and its own entry is its caller's count.
 pub fn cuts_hold_by_time()
+    // The cut of a scan holds all that was counted before the scan began.
     ensures earlier { CutsHoldEarlier }
+    // The cut of a scan holds nothing that was counted after the scan ended.
     ensures no_later { CutsHoldNoLater }
+    // The entry of a scan's cut for its own caller is that caller's count.
     ensures own { CutsHoldOwn }
+    // A cut tells how many counts its caller had looked at before the scan began.
     ensures since { CutsTellSince }
 {}
 
@@ -45,15 +60,23 @@ pub fn cuts_have_spans()
 /// A cut that a caller was given contains each earlier one of the region, and each count of it that the caller
 /// had looked at before the scan began.
 pub fn cuts_rise()
+    // A cut of a region contains each cut of that region that its caller was given before.
     ensures cuts { CutsRise }
+    // A cut contains each count of its region that its caller had looked at before the scan began.
     ensures looked { CutsHoldLooked }
+    // A caller has looked at no fewer counts than one of its cuts tells.
     ensures since { CutsHaveSince }
 {}
 
 /// A scan of `n` callers makes at most `n + 1` collects, which are `n * (n + 1)` looks, and at most `n` peeks,
 /// whatever the others do: so far as it is under way, and when it has given its cut.
 pub fn scans_are_bounded()
+    // The scan under way of each caller, in the locals of a reachable world, makes at most n + 1
+    // collects and n peeks.
     ensures locals { ScansAreBounded }
+    // The scan under way of each caller at the end of a run makes at most n + 1 collects and n
+    // peeks.
     ensures runs { ScansAreBoundedInRuns }
+    // A scan that has given its cut made at most n + 1 collects and n peeks.
     ensures ended { EndedScansAreBounded }
 {}

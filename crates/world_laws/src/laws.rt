@@ -5,7 +5,9 @@ ghost use Rattle.world_laws.specs.Runs.{StartIsReachable, StepsReach, CountsNeve
 /// The worlds that runs reach are the start and what each possible step makes of such a world.
 #[tactic(auto, using(crate::proofs::Running::start_is_reachable, crate::proofs::Running::steps_reach))]
 pub fn runs_go_on()
+    // The world at the start is reachable.
     ensures start { StartIsReachable }
+    // The world after a possible step of a reachable world is reachable.
     ensures step { StepsReach }
 {}
 
@@ -24,8 +26,11 @@ pub fn counted_rows_stay()
 /// A caller's own words and its local are changed by its own events alone.
 #[tactic(auto, using(crate::proofs::Running::counts_are_own, crate::proofs::Running::rows_are_own, crate::proofs::Running::locals_are_own))]
 pub fn own_events_alone()
+    // The counts of a caller stay while only others make steps.
     ensures counts { CountsAreOwn }
+    // The rows of a caller stay while only others make steps.
     ensures rows { RowsAreOwn }
+    // The local of a caller stays while only others make steps.
     ensures local { LocalsAreOwn }
 {}
 

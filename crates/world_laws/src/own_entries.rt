@@ -6,21 +6,32 @@ ghost use Rattle.world_laws.specs.Own.{ViewsCountTheirCall, SeenCutsCountTheirCa
 /// View `k` and seen cut `k` of a caller have `k + 1` for it, and the cut that its row `k` embeds has `k`; and
 /// none of them counts more than is counted (Afek and others 1993).
 pub fn own_entries_are_numbers()
+    // View k of a caller counts k + 1 of its own calls, and no more calls of a caller than are
+    // counted.
     ensures views { ViewsCountTheirCall }
+    // Seen cut k of a caller counts k + 1 of its own records, and no more records of a caller than
+    // are counted.
     ensures seen { SeenCutsCountTheirCall }
+    // The cut that row k of a caller embeds counts k of its own rows, and no more rows of a caller
+    // than are counted.
     ensures embedded { EmbeddedCutsCountTheirRow }
 {}
 
 /// What a caller keeps of cuts its own scans gave: each view is a cut of announcements, each seen cut one of
 /// answers, and the cut that a row embeds one of the row's region.
 pub fn kept_cuts_are_given()
+    // Each view of a caller is a cut of announcements that a scan of its own gave.
     ensures views { ViewsAreGiven }
+    // Each seen cut of a caller is a cut of answers that a scan of its own gave.
     ensures seen { SeenCutsAreGiven }
+    // The cut that a row embeds is one of the row's region that a scan of its caller gave.
     ensures embedded { EmbeddedCutsAreGiven }
 {}
 
 /// A later view of a caller contains its earlier ones, and a later seen cut the earlier seen cuts.
 pub fn kept_cuts_rise()
+    // A later view of a caller contains its earlier ones.
     ensures views { ViewsRise }
+    // A later seen cut of a caller contains its earlier ones.
     ensures seen { SeenCutsRise }
 {}

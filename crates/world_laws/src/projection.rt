@@ -6,7 +6,11 @@ ghost use Rattle.world_laws.specs.Projection.{RunsProject, BeginningsProject, Bo
 /// each of its moments with the same words but the object words, the same locals but their object steps,
 /// so with the same scans, cuts and books, and with the same object history.
 pub fn runs_project()
+    // A run without its object steps is a run of the program whose object is outside.
     ensures runs { RunsProject }
+    // Each moment of a run has the words and the locals of that moment of the run without object
+    // steps, but for the object's own.
     ensures moments { BeginningsProject }
+    // The books of a run are those of the run without its object steps.
     ensures books { BooksProject }
 {}
