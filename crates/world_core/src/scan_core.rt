@@ -42,7 +42,9 @@ impl Model for ScanCore {
 impl ScanCore {
     /// A scan that has taken no word.
     pub fn begin(n: u32, me: u32, region: Region) -> ScanCore
+        // The scan's caller is one of the callers.
         requires caller { me < n }
+        // There are at most `MAX_CALLERS` callers.
         requires few { n ≤ MAX_CALLERS }
         ensures { result ≡ standing n me region [] }
     {
@@ -73,9 +75,15 @@ impl ScanCore {
 
     /// What the scan wants next.
     pub fn next(&self) -> Want
+        // The answer is what the scan's course wants next, with the entries that it has taken of a
+        // borrowed cut.
         ensures now { result ≡ wanted_by self.now.course self.now.current }
+        // A finished cut is answered exactly where the scan has ended.
         ensures ended { is_done result ≡ has_ended self.now.course }
+        // What is wanted names one of the callers, and a finished cut has one count for each of
+        // them.
         ensures fits { FitsCallers self.now.callers result }
+        // The answer is what a scan of these callers wants after the words that this one has taken.
         ensures wanted { (n me : ℕ) (region : Region) (taken : List ℕ) → self.now ≡ standing n me region taken → result ≡ wanted n taken }
     {
         match self.course {
@@ -90,8 +98,12 @@ impl ScanCore {
     /// Where counts never fall and the scanning caller's own count stands still, a scan of `n` callers makes
     /// at most `n + 1` collects, which is `n * (n + 1)` looks, and at most `n` peeks.
     pub fn take(&mut self, word: u64)
+        // The scan hasn't ended.
         requires { has_ended self.old.course ≡ false }
+        // The scan has taken this word after those that it had taken.
         ensures taken { (n me : ℕ) (region : Region) (taken : List ℕ) → self.old ≡ standing n me region taken → self.new ≡ standing n me region (taken ++ word ∷ []) }
+        // Where counts never fall and the caller's own stands still, the scan has made at most n *
+        // (n + 1) looks and n peeks.
         ensures short { (n me : ℕ) (region : Region) (taken : List ℕ) → self.old ≡ standing n me region taken → IsSteady n me (taken ++ word ∷ []) → IsShort n (taken ++ word ∷ []) }
     {
         self.current.set(self.taken, word);
