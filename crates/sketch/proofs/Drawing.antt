@@ -1,5 +1,5 @@
 -- Drawing a sketch, one event after another.
-use Rattle.std.proofs.Common.{slice_get, ◌≡◌, ℕ, zero, suc, ◌+◌, ◌<◌, ◌≤◌, ◌⊎◌, ◌∙◌, List, [], ◌∷◌, ◌++◌, length, sum, get_or, replicate, Some, refl, sym, ap, subst, inl, inr, arith}
+use Rattle.std.proofs.Common.{slice_get, ◌≡◌, ℕ, zero, suc, ◌+◌, ◌-◌, ◌<◌, ◌≤◌, ◌⊎◌, ◌↔◌, ◌∙◌, List, [], ◌∷◌, ◌++◌, length, sum, get_or, replicate, Some, refl, sym, ap, subst, inl, inr, arith}
 use Rattle.std.proofs.lemmas.Bool.{cases_eq, cases_lt}
 use Rattle.std.proofs.lemmas.List.{length-set, length-map, length-replicate}
 use Rattle.std.proofs.lemmas.List.Sums.{sum_by-set}
@@ -18,9 +18,22 @@ use Rattle.book_laws.proofs.LegalOrder.{same_call, raised_same, raised_other, ra
 use Rattle.sketch.specs.declared.event.Event.{Event}
 use Rattle.sketch.specs.declared.event.Event.TheVariants.{Invoke, Return}
 use Rattle.sketch.specs.declared.drawn.Drawn.{Drawn}
-use Rattle.sketch.specs.Sketch.{IsEventOf, IsSeenWith, IsListedBefore, ComesBefore, IsSketch}
-use Rattle.sketch.specs.Drawing.{IsDrawn, IsPartOf, IsNext, IsNextOf, FollowsOn, with_event, left_to_draw, IsDrawnSketch}
+use Rattle.sketch.specs.Sketch.{IsEventOf, IsSeenWith, IsListedBefore, ComesBefore, StandsIn, IsSketch}
+use Rattle.sketch.specs.Drawing.{IsDrawn, IsPartOf, IsNext, IsNextOf, FollowsOn, with_event}
 use Rattle.sketch.proofs.Waiting.{ReturnsBefore}
+
+-- how many events of the book aren't drawn
+abbrev pub left_to_draw : List Page → Drawn → ℕ
+left_to_draw book drawn = (sum (announced book) - sum drawn.invoked) + (sum (answered book) - sum drawn.returned)
+
+-- A list of events is the sketch of a book as far as it is drawn.
+pub record IsDrawnSketch (book : List Page) (drawn : Drawn) (events : List Event) : Type 0 where
+  -- it has the drawn events, and no others
+  pub whole : (event : Event) → StandsIn events event ↔ IsDrawn drawn event
+  -- each stands after all that come before it
+  pub ordered : (j k : ℕ) (e f : Event) → slice_get events j ≡ Some e → slice_get events k ≡ Some f → j < k → ComesBefore book e f
+  -- and comes before all events of the book that aren't drawn
+  pub before : (e f : Event) → IsDrawn drawn e → IsEventOf book f → (IsDrawn drawn f → ⊥) → ComesBefore book e f
 
 -- the event's caller is counted
 abbrev IsInside : Drawn → Event → Type 0

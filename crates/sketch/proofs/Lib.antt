@@ -1,3 +1,4 @@
 pub mod Orderly
 pub mod Waiting
 pub mod Drawing
+pub mod Existing

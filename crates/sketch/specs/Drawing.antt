@@ -1,14 +1,14 @@
 -- Sketches, one event after another.
-use Rattle.std.specs.Prelude.{◌≡◌, ℕ, ◌+◌, ◌-◌, ◌<◌, ◌≤◌, ◌⊎◌, ◌↔◌, List, length, sum, Some, slice_get, slice_index}
+use Rattle.std.specs.Prelude.{◌≡◌, ◌≤◌, ◌⊎◌, ℕ, List, length, Some, slice_index}
 use Rattle.book_base.specs.declared.call.Call.{Call}
 use Rattle.book_base.specs.declared.call.Record.{Record}
 use Rattle.book_base.specs.Cut.{Holds, IsWithin}
-use Rattle.book_base.specs.Book.{Page, calls_of, answers_of, announced, answered, record_of}
+use Rattle.book_base.specs.Book.{Page, calls_of, answers_of, record_of}
 use Rattle.book_base.specs.Next.{raised}
 use Rattle.sketch.specs.declared.event.Event.{Event}
 use Rattle.sketch.specs.declared.event.Event.TheVariants.{Invoke, Return}
 use Rattle.sketch.specs.declared.drawn.Drawn.{Drawn}
-use Rattle.sketch.specs.Sketch.{IsEventOf, ComesBefore, StandsIn}
+use Rattle.sketch.specs.Sketch.{IsEventOf, ComesBefore}
 
 -- The event is drawn: its call is among those that were invoked, or that returned, so far.
 abbrev pub IsDrawn : Drawn → Event → Type 0
@@ -45,16 +45,3 @@ pub record IsNext (book : List Page) (drawn : Drawn) (event : Event) : Type 0 wh
 abbrev pub with_event : Drawn → Event → Drawn
 with_event drawn (Invoke call) = record drawn { invoked = raised drawn.invoked call.caller }
 with_event drawn (Return call) = record drawn { returned = raised drawn.returned call.caller }
-
--- how many events of the book aren't drawn
-abbrev pub left_to_draw : List Page → Drawn → ℕ
-left_to_draw book drawn = (sum (announced book) - sum drawn.invoked) + (sum (answered book) - sum drawn.returned)
-
--- A list of events is the sketch of a book as far as it is drawn.
-pub record IsDrawnSketch (book : List Page) (drawn : Drawn) (events : List Event) : Type 0 where
-  -- it has the drawn events, and no others
-  pub whole : (event : Event) → StandsIn events event ↔ IsDrawn drawn event
-  -- each stands after all that come before it
-  pub ordered : (j k : ℕ) (e f : Event) → slice_get events j ≡ Some e → slice_get events k ≡ Some f → j < k → ComesBefore book e f
-  -- and comes before all events of the book that aren't drawn
-  pub before : (e f : Event) → IsDrawn drawn e → IsEventOf book f → (IsDrawn drawn f → ⊥) → ComesBefore book e f

@@ -12,6 +12,10 @@ use Rattle.sketch.specs.Sketch.{IsSketch, StandsIn}
 abbrev pub BooksHaveOneSketch : Type 0
 BooksHaveOneSketch = (book : List Page) (events others : List Event) → IsSketch book events → IsSketch book others → events ≡ others
 
+-- A valid book has one.
+abbrev pub ValidBooksHaveASketch : Type 0
+ValidBooksHaveASketch = (book : List Page) → IsValid book → (events : List Event) × IsSketch book events
+
 -- An event stands in a sketch once.
 abbrev pub EventsStandOnce : Type 0
 EventsStandOnce = (book : List Page) (events : List Event) → IsSketch book events → (j k : ℕ) (event : Event)

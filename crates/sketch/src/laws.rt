@@ -1,11 +1,17 @@
 //! Laws of sketches. Each is the contract of a function with nothing in it.
 
-ghost use Rattle.sketch.specs.Laws.{BooksHaveOneSketch, EventsStandOnce, CallsReturnAfterTheyAreInvoked, ViewsHoldWhatWasInvoked, ReturnsComeBeforeUnseenCalls};
+ghost use Rattle.sketch.specs.Laws.{BooksHaveOneSketch, ValidBooksHaveASketch, EventsStandOnce, CallsReturnAfterTheyAreInvoked, ViewsHoldWhatWasInvoked, ReturnsComeBeforeUnseenCalls};
 
 /// A book has one sketch.
 #[tactic(auto, using(crate::proofs::Orderly::books_have_one_sketch))]
 pub fn books_have_one_sketch()
     ensures { BooksHaveOneSketch }
+{}
+
+/// A valid book has a sketch.
+#[tactic(auto, using(crate::proofs::Existing::valid_books_have_a_sketch))]
+pub fn valid_books_have_a_sketch()
+    ensures { ValidBooksHaveASketch }
 {}
 
 /// Each call of a book is invoked once, and each answered call returns once, after its invocation.

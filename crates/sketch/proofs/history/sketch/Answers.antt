@@ -1,7 +1,6 @@
 use Rattle.std.proofs.Common.{◌<◌, sym, subst}
 use Rattle.sketch.specs.declared.drawn.Drawn.{Drawn}
-use Rattle.sketch.specs.Drawing.{IsDrawnSketch, left_to_draw}
-use Rattle.sketch.proofs.Drawing.{part_none, sketch_none, sketch_more, fewer_left}
+use Rattle.sketch.proofs.Drawing.{IsDrawnSketch, left_to_draw, part_none, sketch_none, sketch_more, fewer_left}
 use Rattle.sketch.proofs.history.sketch.Goals as goal
 
 pub loop-event-init : goal.loop-event-init

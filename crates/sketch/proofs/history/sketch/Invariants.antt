@@ -1,4 +1,5 @@
-use Rattle.sketch.specs.Drawing.{IsPartOf, IsDrawnSketch, left_to_draw}
+use Rattle.sketch.specs.Drawing.{IsPartOf}
+use Rattle.sketch.proofs.Drawing.{IsDrawnSketch, left_to_draw}
 use Rattle.sketch.proofs.history.sketch.Given as goal
 
 abbrev pub invariant-loop-event : goal.invariant-loop-event
