@@ -1,6 +1,6 @@
 //! Runs over an object inside the world that open the table of rows themselves.
 
-ghost use Rattle.std.specs.Prelude.{◌≡◌, ◌≤◌, false, length, IfOk};
+ghost use Rattle.std.specs.Prelude.{◌≡◌, ◌≤◌, false, List, length, IfOk};
 ghost use Rattle.std.specs.List.{list_any};
 ghost use Rattle.book_base.specs.declared.TheConstants.{MAX_CALLS};
 ghost use Rattle.text_fields.specs.Counts.{AreAtMost};
@@ -8,7 +8,9 @@ ghost use Rattle.client_scripts.specs.Plans.{sizes};
 ghost use Rattle.bench_clients.specs.Starts.{run_allotments};
 ghost use Rattle.call_lines.specs.Lawful.{IsLawful};
 ghost use Rattle.call_lines.specs.Lines.{any_error};
+ghost use Rattle.world_core.specs.Local.{Local};
 ghost use Rattle.core_objects.specs.CoreObjects.{shape_with, ArePassesFor};
+ghost use Rattle.run_report.specs.Reporting.{IsReportOf};
 
 use crate::run::run_core;
 use book_base::{MAX_CALLS, NoMemory};
@@ -41,6 +43,10 @@ where
     requires few_calls { cap ≤ MAX_CALLS }
     requires calls { AreAtMost cap (sizes script.now.operations) }
     requires passes { ArePassesFor (O.fits object.now) (length script.now.operations) cap passes.old.items }
+    ensures report { IfOk result (λ report. (locals : List Local) × IsReportOf
+        (O.S.init (O.sequential_of object.now)) (O.S.next (O.sequential_of object.now))
+        (shape_with (O.P.meaning (O.program_of object.now)) (length script.now.operations) cap)
+        locals script.now (run_allotments script.now) report) }
     ensures kind { IfOk result (λ report. report.kind ≡ script.now.kind) }
     ensures lawful { IfOk result (λ report. IsLawful (O.S.init (O.sequential_of object.now))
         (O.S.next (O.sequential_of object.now))

@@ -16,14 +16,6 @@ use Rattle.named_runs.specs.LogLaws.{AnswersComeFromTheLog, EntriesAreOfCalls}
 
 -- ---- a pair of a log stands there
 
--- Call k of a caller stands in the rest of a log behind some front, and its reply is the answer to the log up to it.
-record Stands (answer : List Entry → ℕ) (i : ℕ) (front rest : List Entry) (k op reply : ℕ) : Type 0 where
-  before : List Entry
-  behind : List Entry
-  at : rest ≡ before ++ entry i op ∷ behind
-  number : length (calls_by i before) ≡ k
-  replied : reply ≡ answer (front ++ (before ++ entry i op ∷ []))
-
 -- an entry of a caller is the one that asks for its operation
 entry_is : (i : ℕ) (e : Entry) → (e.caller == i) ≡ true → e ≡ entry i e.op
 entry_is i e own = let same : e.caller ≡ i = eqb-true e.caller i own in λ j. record { caller = same j; op = e.op }
@@ -38,59 +30,47 @@ calls_with_other i e log other =
     ap (λ (l : List Entry). map (λ (d : Entry). d.op) l) (cond-false (e.caller == i) (e ∷ filter (λ (d : Entry). d.caller == i) log) (filter (λ (d : Entry). d.caller == i) log) other)
 
 module _ (answer : List Entry → ℕ) (i : ℕ) where
-  -- the entry of another in front has no pair
-  behind_other : (front rest : List Entry) (e : Entry) → (e.caller == i) ≡ false → pairs_behind answer i front (e ∷ rest) ≡ pairs_behind answer i (front ++ e ∷ []) rest
-  behind_other front rest e other = cond-false (e.caller == i) _ _ other
+  -- Call k of the caller stands in the rest of a log behind some front, and its reply is the answer to the log up to it.
+  abbrev Stands : List Entry → List Entry → ℕ → ℕ → ℕ → Type 0
+  Stands front rest k op reply =
+      (before behind : List Entry) × (rest ≡ before ++ entry i op ∷ behind) × (length (calls_by i before) ≡ k) × (reply ≡ answer (front ++ (before ++ entry i op ∷ [])))
 
   -- with one entry more in front it still stands there
-  later : (front rest : List Entry) (e : Entry) (j k op reply : ℕ) (s : Stands answer i (front ++ e ∷ []) rest k op reply)
-      → length (calls_by i (e ∷ s.before)) ≡ j → Stands answer i front (e ∷ rest) j op reply
+  later : (front rest : List Entry) (e : Entry) (j k op reply : ℕ) (s : Stands (front ++ e ∷ []) rest k op reply) → length (calls_by i (e ∷ s.0)) ≡ j → Stands front (e ∷ rest) j op reply
   later front rest e j k op reply s count =
-      record {
-        before = e ∷ s.before;
-        behind = s.behind;
-        at = ap (λ (log : List Entry). e ∷ log) s.at;
-        number = count;
-        replied = s.replied ∙ ap answer (append_assoc front (e ∷ []) (s.before ++ entry i op ∷ []));
-      }
+      (e ∷ s.0, s.1, ap (λ (log : List Entry). e ∷ log) s.2, count, s.4 ∙ ap answer (append_assoc front (e ∷ []) (s.0 ++ entry i op ∷ [])))
 
   -- the first pair is that of the entry in front, where that is the caller's
   first_or_later : (front rest : List Entry) (e : Entry) (op reply : ℕ) → (e.caller == i) ≡ true
-      → ((k : ℕ) → slice_get (pairs_behind answer i (front ++ e ∷ []) rest) k ≡ Some (op, reply) → Stands answer i (front ++ e ∷ []) rest k op reply)
-      → (k : ℕ) → slice_get ((e.op, answer (front ++ e ∷ [])) ∷ pairs_behind answer i (front ++ e ∷ []) rest) k ≡ Some (op, reply) → Stands answer i front (e ∷ rest) k op reply
+      → ((k : ℕ) → slice_get (pairs_behind answer i (front ++ e ∷ []) rest) k ≡ Some (op, reply) → Stands (front ++ e ∷ []) rest k op reply)
+      → (k : ℕ) → slice_get ((e.op, answer (front ++ e ∷ [])) ∷ pairs_behind answer i (front ++ e ∷ []) rest) k ≡ Some (op, reply) → Stands front (e ∷ rest) k op reply
   first_or_later front rest e op reply own others zero there =
       let same : ◌≡◌ {A = ℕ × ℕ} (e.op, answer (front ++ e ∷ [])) (op, reply) = same_Some (e.op, answer (front ++ e ∷ [])) (op, reply) there in
       let is : e ≡ entry i op = entry_is i e own ∙ ap (λ (pair : ℕ × ℕ). entry i pair.0) same in
-      record {
-        before = [];
-        behind = rest;
-        at = ap (λ (d : Entry). d ∷ rest) is;
-        number = refl;
-        replied = sym (ap (λ (pair : ℕ × ℕ). pair.1) same) ∙ ap (λ (d : Entry). answer (front ++ d ∷ [])) is;
-      }
+      ([], rest, ap (λ (d : Entry). d ∷ rest) is, refl, sym (ap (λ (pair : ℕ × ℕ). pair.1) same) ∙ ap (λ (d : Entry). answer (front ++ d ∷ [])) is)
   first_or_later front rest e op reply own others (suc k) there =
       let s = others k there in
-      later front rest e (suc k) k op reply s (ap (λ (l : List ℕ). length l) (calls_with_own i e s.before own) ∙ ap suc s.number)
+      later front rest e (suc k) k op reply s (ap (λ (l : List ℕ). length l) (calls_with_own i e s.0 own) ∙ ap suc s.3)
 
-  pair_stands : (front rest : List Entry) (k op reply : ℕ) → slice_get (pairs_behind answer i front rest) k ≡ Some (op, reply) → Stands answer i front rest k op reply
+  pair_stands : (front rest : List Entry) (k op reply : ℕ) → slice_get (pairs_behind answer i front rest) k ≡ Some (op, reply) → Stands front rest k op reply
   pair_stands front [] k op reply there = absurd (none-some (op, reply) there)
   pair_stands front (e ∷ rest) k op reply there = elim (cases_Bool (e.caller == i)) [
     | inl own ↦
         first_or_later front rest e op reply own (λ j at. pair_stands (front ++ e ∷ []) rest j op reply at) k
         (sym (ap (λ (pairs : List (ℕ × ℕ)). slice_get pairs k) (behind_own answer i front rest e own)) ∙ there)
     | inr other ↦
-        let s = pair_stands (front ++ e ∷ []) rest k op reply (sym (ap (λ (pairs : List (ℕ × ℕ)). slice_get pairs k) (behind_other front rest e other)) ∙ there) in
-        later front rest e k k op reply s (ap (λ (l : List ℕ). length l) (calls_with_other i e s.before other) ∙ s.number)
+        let s = pair_stands (front ++ e ∷ []) rest k op reply (sym (ap (λ (pairs : List (ℕ × ℕ)). slice_get pairs k) (cond-false (e.caller == i) _ _ other)) ∙ there) in
+        later front rest e k k op reply s (ap (λ (l : List ℕ). length l) (calls_with_other i e s.0 other) ∙ s.3)
   ]
 
 -- each answered call stands in the log, and was answered from the log up to it
 pub answers_come_from_the_log : AnswersComeFromTheLog
 answers_come_from_the_log answer n phases calls logged i k op reply low there =
     let pairs : List (ℕ × ℕ) = pairs_of answer logged.log i in
-    let told : slice_get (take (answered (phases i)) pairs) k ≡ Some (op, reply) =
-    ap (λ (ps : List (ℕ × ℕ)). slice_get ps k) (logged.replies i low) ∙ there in
-    let s = pair_stands answer i [] logged.log k op reply (slice_get-take (answered (phases i)) pairs k (op, reply) told) in
-    record { before = s.before; behind = s.behind; at = s.at; number = s.number; replied = s.replied }
+    let s =
+    pair_stands answer i [] logged.log k op reply
+    (slice_get-take (answered (phases i)) pairs k (op, reply) (ap (λ (list : List (ℕ × ℕ)). slice_get list k) (logged.replies i low) ∙ there)) in
+    record { before = s.0; behind = s.1; at = s.2; number = s.3; replied = s.4 }
 
 -- ---- an entry of a log is of a call
 

@@ -45,10 +45,6 @@ module _ {T : Type 0} (caller : T → ℕ) (passes : List T) (n : ℕ) where
       → All (λ pass. (made pass ≡ 0) × (cap pass ≡ 256)) passes → IsPlan Second plan → AreUnusedPasses is_own caller made cap plan.operations passes
   opened_passes is_own made cap plan count callers own new h = record { as_many = passes_count callers ∙ count; each = opened_unused is_own made cap plan callers own new h }
 
--- passes in order are all the object's own
-own_passes : {T : Type 0} (is_own : T → Type 0) (caller : T → ℕ) (passes : List T) → AreInOrder (IsOwnPass is_own caller) passes → All is_own passes
-own_passes is_own caller passes h k d low = (h k (get_or passes k d) (slice_get-get_or passes k d low)).own
-
 -- passes that are those of the callers from a on
 callers_from : {T : Type 0} (caller : T → ℕ) (a : ℕ) (passes : List T) → ((i : ℕ) (pass : T) → slice_get passes i ≡ Some pass → caller pass ≡ a + i)
     → map caller passes ≡ range_with_len a (length passes)
@@ -58,13 +54,10 @@ callers_from caller a (pass ∷ passes) h =
     let others = callers_from caller (a + 1) passes (λ i other there. omega (arith, h (suc i) other there)) in
     λ j. first j ∷ others j
 
--- passes in order are those of all callers
-callers_in_order : {T : Type 0} (is_own : T → Type 0) (caller : T → ℕ) (passes : List T) (n : ℕ) → length passes ≡ n
-    → AreInOrder (IsOwnPass is_own caller) passes → map caller passes ≡ range_with_len 0 n
-callers_in_order is_own caller passes n count h =
-    callers_from caller 0 passes (λ i pass there. omega (arith, (h i pass there).of)) ∙ ap (range_with_len 0) count
-
 -- passes in order are those that the object was opened with
 pub passes_back : {T : Type 0} (is_own : T → Type 0) (caller : T → ℕ) (passes : List T) (n : ℕ) → length passes ≡ n
     → AreInOrder (IsOwnPass is_own caller) passes → AreOwnPasses is_own caller n passes
-passes_back is_own caller passes n count h = record { callers = callers_in_order is_own caller passes n count h; own = own_passes is_own caller passes h }
+passes_back is_own caller passes n count h = record {
+  callers = callers_from caller 0 passes (λ i pass there. omega (arith, (h i pass there).of)) ∙ ap (range_with_len 0) count;
+  own = λ k d low. (h k (get_or passes k d) (slice_get-get_or passes k d low)).own;
+}

@@ -1,15 +1,12 @@
 -- What a run reports that opens the table of rows itself.
-use Rattle.std.specs.Prelude.{◌≡◌, ℕ, false, List, Option, IsSome, length}
+use Rattle.std.specs.Prelude.{◌≡◌, ℕ, false, List, Option, Some, IsSome, length}
 use Rattle.std.specs.List.{list_any}
-use Rattle.seq_objects.specs.declared.kind.Kind.{Kind}
 use Rattle.seq_objects.specs.Objects.{kind_init, kind_next}
-use Rattle.world_core.specs.Calls.{Made}
 use Rattle.world_core.specs.Local.{Local}
 use Rattle.world_core.specs.Shape.{Shape}
 use Rattle.call_lines.specs.Lawful.{IsLawful}
 use Rattle.call_lines.specs.Lines.{any_error}
 use Rattle.client_scripts.specs.Plans.{Plan}
-use Rattle.call_phases.specs.Ends.{Sequential}
 use Rattle.bench_clients.specs.Places.{AreInOrder}
 use Rattle.bench_clients.specs.Starts.{run_allotments, replay_allotments}
 use Rattle.reports.specs.Findings.{Findings}
@@ -17,7 +14,8 @@ use Rattle.run_report.specs.Reporting.{outside_shape, IsReportOf, IsToldIn}
 use Rattle.faulty_objects.specs.declared.behaviour.Behaviour.{Behaviour}
 use Rattle.core_runs.specs.LoggedReports.{phases_in, calls_of_lines}
 use Rattle.named_runs.specs.NamedObjects.{IsOfBehaviour}
-use Rattle.named_runs.specs.Worlds.{inside_of, world_of}
+use Rattle.named_runs.specs.declared.inside.Inside.{Inside}
+use Rattle.named_runs.specs.Worlds.{inside_of, shape_in, world_of}
 
 -- A report of a plan's callers in a world of this shape that had these allotments: of the plan's kind, and lawful by the object of that
 -- kind.
@@ -30,21 +28,16 @@ pub record IsToldReport {T : Type 0} (made : T → ℕ) (told : T → Option (Li
   pub report : IsLawfulReport (outside_shape (length plan.operations)) plan allotments findings
   pub told_in : AreInOrder (IsToldIn made told allotments findings) passes
 
--- The report of a run over an object inside the world, by which its lines are judged: of the locals of the callers in a world of this
--- shape, and without an error line.
-pub record IsInsideReport (object : Sequential) (s : Shape) (plan : Plan) (allotments : List ℕ) (findings : Findings) : Type 0 where
+-- The report of a run over an object inside the world: of the locals of the callers in a world of that object, judged by the object of
+-- the plan's kind.
+pub record IsInsideReport (inside : Inside) (plan : Plan) (findings : Findings) : Type 0 where
   pub locals : List Local
-  pub report : IsReportOf object.init object.next s locals plan allotments findings
-  pub no_error : list_any any_error findings.lines ≡ false
-
--- A lawful report of a world of this shape, whose calls were answered as this says of the calls of callers of a script of its kind.
-pub record IsExplainedReport (s : Shape) (explains : Kind → ℕ → (ℕ → ℕ) → (ℕ → List Made) → Type 0) (plan : Plan) (allotments : List ℕ) (findings : Findings) : Type 0 where
-  pub report : IsLawfulReport s plan allotments findings
-  pub object : explains plan.kind (length findings.lines) (phases_in allotments findings) (calls_of_lines findings)
+  pub report : IsReportOf (kind_init plan.kind) (kind_next plan.kind) (shape_in (Some inside) plan.kind (length plan.operations)) locals plan (run_allotments plan) findings
 
 -- A lawful report of a world of this shape, whose calls the object of a behaviour answered.
-abbrev pub IsNamedReport : Shape → Behaviour → Plan → List ℕ → Findings → Type 0
-IsNamedReport s behaviour plan allotments findings = IsExplainedReport s (IsOfBehaviour behaviour) plan allotments findings
+pub record IsNamedReport (s : Shape) (behaviour : Behaviour) (plan : Plan) (allotments : List ℕ) (findings : Findings) : Type 0 where
+  pub report : IsLawfulReport s plan allotments findings
+  pub object : IsOfBehaviour behaviour plan.kind (length findings.lines) (phases_in allotments findings) (calls_of_lines findings)
 
 -- A report of a plan's callers that each went on by themselves, over the object of a behaviour: of the world of that object, and
 -- without an error line where that is inside the world.

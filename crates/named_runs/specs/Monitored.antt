@@ -25,19 +25,15 @@ pub record AreMonitored (plan : Plan) (locals : List Local) : Type 0 where
   pub together : AreTogether (outside_shape (length plan.operations + 2)) locals
   pub made : HaveMadeAll plan locals
 
--- So they are, and the passes of the plan's callers, in order, tell of their calls.
+-- So they are, and these passes, in order, tell of the calls of their callers.
 pub record AreToldMonitored {T : Type 0} (told : T → Option (List (ℕ × ℕ))) (passes : List T) (plan : Plan) (locals : List Local) : Type 0 where
   pub monitored : AreMonitored plan locals
   pub told_in : AreTold told (phases_in plan) (calls_at locals) passes
 
--- So they are, and their calls were answered as this says of the calls of callers, of a script of this kind.
-pub record AreExplainedMonitored (explains : Kind → ℕ → (ℕ → ℕ) → (ℕ → List Made) → Type 0) (plan : Plan) (locals : List Local) : Type 0 where
-  pub monitored : AreMonitored plan locals
-  pub object : explains plan.kind (length plan.operations + 2) (phases_in plan) (calls_at locals)
-
 -- So they are, and the object of a behaviour answered their calls.
-abbrev pub AreNamedMonitored : Behaviour → Plan → List Local → Type 0
-AreNamedMonitored behaviour plan locals = AreExplainedMonitored (IsOfBehaviour behaviour) plan locals
+pub record AreNamedMonitored (behaviour : Behaviour) (plan : Plan) (locals : List Local) : Type 0 where
+  pub monitored : AreMonitored plan locals
+  pub object : IsOfBehaviour behaviour plan.kind (length plan.operations + 2) (phases_in plan) (calls_at locals)
 
 -- The output of a run that left such locals: a status and a text, right of the records that they have published.
 abbrev pub IsMonitorOutput : (List Local → Type 0) → Kind → Status → List ℕ → Type 0

@@ -1,6 +1,7 @@
 -- Which object answered the calls of its callers.
-use Rattle.std.specs.Prelude.{◌≡◌, ℕ, List, Option, Some, IfSome, map, All}
+use Rattle.std.specs.Prelude.{◌≡◌, ℕ, List, Option, IfSome, map, All}
 use Rattle.std.specs.List.{range_with_len}
+use Rattle.shared_log.specs.declared.entry.Entry.{Entry}
 use Rattle.world_core.specs.Calls.{Made}
 use Rattle.call_lines.specs.Phases.{IsTold}
 use Rattle.seq_objects.specs.declared.kind.Kind.{Kind}
@@ -26,12 +27,6 @@ pub record AreOwnPasses {T : Type 0} (is_own : T → Type 0) (caller : T → ℕ
 abbrev pub AreTold : {T : Type 0} → (T → Option (List (ℕ × ℕ))) → (ℕ → ℕ) → (ℕ → List Made) → List T → Type 0
 AreTold told phases calls passes = AreInOrder (λ i pass. IfSome (told pass) (IsTold (phases i) (calls i))) passes
 
--- A list of calls is told, and the reply of each has this form for its operation.
-pub record TellsFormed (form : ℕ → ℕ → Type 0) (told : Option (List (ℕ × ℕ))) : Type 0 where
-  pub pairs : List (ℕ × ℕ)
-  pub told_is : told ≡ Some pairs
-  pub formed : All (λ pair. form pair.0 pair.1) pairs
-
 -- The object of a behaviour, for scripts of a kind, answered the calls of n callers, each of which made so many phases: a log object
 -- answers from its log, by the object of the kind; of the others the replies have the form that each gives for an operation.
 abbrev pub IsOfBehaviour : Behaviour → Kind → ℕ → (ℕ → ℕ) → (ℕ → List Made) → Type 0
@@ -44,3 +39,16 @@ IsOfBehaviour Late kind n phases calls = IsLoggedBy (late_reply (kind_next kind)
 IsOfBehaviour Invent kind n phases calls = IsLoggedBy (invent_reply (kind_next kind) (kind_init kind)) n phases calls
 IsOfBehaviour Split kind n phases calls = AreFormed IsTallyReply n calls
 IsOfBehaviour Onepass kind n phases calls = AreFormed IsQueueReply n calls
+
+-- An object that was opened for scripts of a kind and for n callers is the object of a behaviour which answered their calls, whatever
+-- calls these passes of theirs are told in.
+abbrev pub HasAnswered : {T : Type 0} → Behaviour → (Kind → ℕ → Type 0) → (T → Type 0) → (T → ℕ) → (T → Option (List (ℕ × ℕ))) → List T → Type 0
+HasAnswered behaviour is_opened_for is_own caller told passes =
+    (kind : Kind) (n : ℕ) (phases : ℕ → ℕ) (calls : ℕ → List Made) → is_opened_for kind n → AreOwnPasses is_own caller n passes → AreTold told phases calls passes
+    → IsOfBehaviour behaviour kind n phases calls
+
+-- A log was opened for n callers of scripts of a kind: these are its callers, and where all is answered from one log by its answer, the
+-- object of a behaviour answered.
+abbrev pub IsLogFor : Behaviour → (List Entry → ℕ) → ℕ → Kind → ℕ → Type 0
+IsLogFor behaviour answer callers kind n =
+    (callers ≡ n) × ((phases : ℕ → ℕ) (calls : ℕ → List Made) → IsLoggedBy answer n phases calls → IsOfBehaviour behaviour kind n phases calls)

@@ -1,5 +1,5 @@
 -- Which object answers the calls of a run, and what its world is.
-use Rattle.std.specs.Prelude.{ℕ, Option, Some, None}
+use Rattle.std.specs.Prelude.{◌≡◌, ℕ, Option, Some, None}
 use Rattle.book_base.specs.declared.TheConstants.{MAX_CALLS}
 use Rattle.seq_objects.specs.declared.kind.Kind.{Kind}
 use Rattle.seq_objects.specs.declared.kind.Kind.TheVariants.{Counter, Register}
@@ -20,6 +20,12 @@ inside_of behaviours.Lawful kind = Some Log
 inside_of behaviours.Tally Counter = Some Tally
 inside_of behaviours.Cell Register = Some Cell
 inside_of behaviour kind = None
+
+-- An object inside the world serves the runs for its behaviour: the tally those of counters, the cell those of registers.
+abbrev pub Serves : Inside → Behaviour → Kind → Type 0
+Serves Log behaviour kind = behaviour ≡ behaviours.Lawful
+Serves Tally behaviour kind = (behaviour ≡ behaviours.Tally) × (kind ≡ Counter)
+Serves Cell behaviour kind = (behaviour ≡ behaviours.Cell) × (kind ≡ Register)
 
 -- The shape of the world of n callers with the greatest cap, in which an object answers the calls of a script of a kind.
 abbrev pub shape_in : Option Inside → Kind → ℕ → Shape

@@ -1,5 +1,5 @@
-ghost use Rattle.std.specs.Prelude.{◌≡◌};
-ghost use Rattle.named_runs.specs.Worlds.{inside_of};
+ghost use Rattle.std.specs.Prelude.{◌≡◌, IfSome};
+ghost use Rattle.named_runs.specs.Worlds.{inside_of, Serves};
 
 use faulty_objects::Behaviour;
 use seq_objects::Kind;
@@ -18,7 +18,8 @@ pub(crate) enum Inside {
 /// The object inside the world over which a script of this kind is run for a behaviour: the lawful one for every kind, the tally
 /// for a counter and the cell for a register. Every other run is over an object outside the world.
 pub(crate) fn object_inside(behaviour: Behaviour, kind: Kind) -> Option<Inside>
-    ensures { result ≡ inside_of behaviour kind }
+    ensures inside { result ≡ inside_of behaviour kind }
+    ensures serves { IfSome result (λ inside. Serves inside behaviour kind) }
 {
     match behaviour {
         Behaviour::Lawful => Some(Inside::Log),

@@ -1,55 +1,47 @@
-//! Whole runs of a script over an object inside the world that open the table of rows themselves.
+//! Runs of a script over an object inside the world.
 
-ghost use Rattle.std.specs.Prelude.{◌≡◌, ◌⊎◌, length};
-ghost use Rattle.book_base.specs.declared.TheConstants.{MAX_CALLS};
-ghost use Rattle.core_objects.specs.CoreObjects.{ArePassesFor, shape_with};
-ghost use Rattle.byte_streams.specs.Fault.{LeavesSink};
-ghost use Rattle.run_writer.specs.Runs.{RunEnds};
-ghost use Rattle.bench_clients.specs.Starts.{object_by, run_allotments};
+ghost use Rattle.std.specs.Prelude.{◌≡◌, false, IfOk};
+ghost use Rattle.std.specs.List.{list_any};
+ghost use Rattle.call_lines.specs.Lines.{any_error};
+ghost use Rattle.faulty_objects.specs.declared.behaviour.Behaviour.{Behaviour};
+ghost use Rattle.named_runs.specs.Worlds.{Serves};
 ghost use Rattle.named_runs.specs.BehaviourRuns.{IsInsideReport};
 
+use crate::inside::Inside;
 use book_base::{MAX_CALLS, NoMemory};
-use byte_streams::{Sink, Status};
 use client_scripts::Script;
-use core_objects::CoreObject;
-use row_table::Rows;
-use run_writer::{Form, core_and_write};
+use core_objects::{CoreCell, CoreLog, CoreTally};
+use core_runs::run_core_fresh;
+use reports::Report;
 use std::alloc::Global;
 use std::thread::Threads;
 
-// Runs all callers of a script over an object inside the world, each in a thread of its own where one can be had, and writes what
-// the form shows of their report, which has no error line. The table of rows is opened for the run, with the object's program and
-// the greatest cap, and closed behind it.
-pub(crate) fn run_inside<R: Threads + Sync, O: CoreObject + Sync, K: Sink>(
+// Runs all callers of a script over an object inside the world, each in a thread of its own where one can be had. No line of their
+// report is an error. The object and the table of rows are opened for the run, with the greatest cap.
+pub(crate) fn run_inside<R: Threads + Sync>(
     rt: &R,
     alloc: Global,
+    inside: Inside,
     script: &Script,
-    object: &O,
-    passes: &mut Vec<O::Pass>,
-    form: Form,
-    sink: &mut K,
-) -> Status
-where
-    O::S: Sync,
-    O::P: Send + Sync,
-    O::Pass: Send,
-    requires passes { ArePassesFor (O.fits object.now) (length script.now.operations) MAX_CALLS passes.old.items }
-    ensures ends { RunEnds (object_by O.S.init O.S.next (O.sequential_of object.now))
-        (IsInsideReport (object_by O.S.init O.S.next (O.sequential_of object.now))
-        (shape_with (O.P.meaning (O.program_of object.now)) (length script.now.operations) MAX_CALLS)
-        script.now (run_allotments script.now))
-        form result (K.taken sink.old) (K.taken sink.new) }
-    ensures fine { (result ≡ Status.Fine) ⊎ (result ≡ Status.WriteFault) ⊎ (result ≡ Status.NoMemory) }
-    ensures faults { LeavesSink K.faults result sink.old sink.new }
+) -> Result<Report, NoMemory>
+    requires serves { (behaviour : Behaviour) × Serves inside behaviour script.now.kind }
+    ensures report { IfOk result (IsInsideReport inside script.now) }
+    ensures no_error { IfOk result (λ report. list_any any_error report.lines ≡ false) }
 {
-    let (rows, mut bench) = match Rows::open(alloc, object.program(), script.callers(), MAX_CALLS) {
-        Ok(opened) => opened,
-        Err(NoMemory) => return Status::NoMemory,
-    };
-    let status = core_and_write(
-        rt, alloc, &rows, &mut bench, object, passes, script, form, sink,
-    );
-    // What was written stands, also where no memory is left for the words of the closed table.
-    let _world = rows.close(alloc, bench);
-    status
+    let kind = script.kind();
+    let callers = script.callers();
+    match inside {
+        Inside::Log => {
+            let (log, mut passes) = CoreLog::open(alloc, kind, callers, MAX_CALLS)?;
+            run_core_fresh(rt, alloc, &log, &mut passes, MAX_CALLS, script)
+        }
+        Inside::Tally => {
+            let (tally, mut passes) = CoreTally::open(alloc, callers, MAX_CALLS)?;
+            run_core_fresh(rt, alloc, &tally, &mut passes, MAX_CALLS, script)
+        }
+        Inside::Cell => {
+            let (cell, mut passes) = CoreCell::open(alloc, callers, MAX_CALLS)?;
+            run_core_fresh(rt, alloc, &cell, &mut passes, MAX_CALLS, script)
+        }
+    }
 }

@@ -1,8 +1,11 @@
 //! Machines of log objects that have a name.
 
-ghost use Rattle.std.specs.Prelude.{◌≡◌, ℕ, List};
-ghost use Rattle.seq_objects.specs.declared.kind.Kind.{Kind as TheKind};
-ghost use Rattle.shared_log.specs.declared.entry.Entry.{Entry};
+ghost use Rattle.std.specs.Prelude.{ℕ, List};
+ghost use Rattle.world_core.specs.Calls.{Made};
+ghost use Rattle.logged_calls.specs.Logged.{IsLoggedBy};
+ghost use Rattle.faulty_objects.specs.declared.behaviour.Behaviour.{Behaviour as TheBehaviour};
+ghost use Rattle.faulty_objects.specs.declared.behaviour.Behaviour.TheVariants as behaviours;
+ghost use Rattle.named_runs.specs.NamedObjects.{IsOfBehaviour};
 
 use faulty_objects::{Invent, Late, Lossy, Twice};
 use lawful_objects::{Machine, Plain};
@@ -10,19 +13,17 @@ use seq_objects::Kind;
 
 /// A machine that is made for the object of a kind.
 pub(crate) trait NamedMachine: Machine + Drop + Sized {
-    /// How it answers for the object of a kind: the reply to the last entry of a log.
-    ghost answer: { TheKind → List Entry → ℕ };
+    /// The behaviour of a log object that answers by it.
+    ghost behaviour: { TheBehaviour };
 
     /// The machine for the object of this kind.
     fn for_kind(kind: Kind) -> Self
-        ensures { Self.reply_to result ≡ answer kind };
+        ensures { (n : ℕ) (phases : ℕ → ℕ) (calls : ℕ → List Made)
+            → IsLoggedBy (Self.reply_to result) n phases calls → IsOfBehaviour behaviour kind n phases calls };
 }
 
 impl NamedMachine for Plain<Kind> {
-    ghost use Rattle.seq_objects.specs.Objects.{kind_init, kind_next};
-    ghost use Rattle.lawful_objects.specs.Replays.{last_reply};
-
-    ghost answer = { λ kind. last_reply (kind_next kind) (kind_init kind) };
+    ghost behaviour = { behaviours.Lawful };
 
     fn for_kind(object: Kind) -> Self {
         Plain { object }
@@ -30,10 +31,7 @@ impl NamedMachine for Plain<Kind> {
 }
 
 impl NamedMachine for Lossy<Kind> {
-    ghost use Rattle.seq_objects.specs.Objects.{kind_init, kind_next};
-    ghost use Rattle.faulty_machines.specs.Lossy.{lossy_reply};
-
-    ghost answer = { λ kind. lossy_reply (kind_next kind) (kind_init kind) };
+    ghost behaviour = { behaviours.Lossy };
 
     fn for_kind(object: Kind) -> Self {
         Lossy { object }
@@ -41,10 +39,7 @@ impl NamedMachine for Lossy<Kind> {
 }
 
 impl NamedMachine for Twice<Kind> {
-    ghost use Rattle.seq_objects.specs.Objects.{kind_init, kind_next};
-    ghost use Rattle.faulty_machines.specs.Twice.{twice_reply};
-
-    ghost answer = { λ kind. twice_reply (kind_next kind) (kind_init kind) };
+    ghost behaviour = { behaviours.Twice };
 
     fn for_kind(object: Kind) -> Self {
         Twice { object }
@@ -52,10 +47,7 @@ impl NamedMachine for Twice<Kind> {
 }
 
 impl NamedMachine for Late<Kind> {
-    ghost use Rattle.seq_objects.specs.Objects.{kind_init, kind_next};
-    ghost use Rattle.faulty_machines.specs.Late.{late_reply};
-
-    ghost answer = { λ kind. late_reply (kind_next kind) (kind_init kind) };
+    ghost behaviour = { behaviours.Late };
 
     fn for_kind(object: Kind) -> Self {
         Late { object }
@@ -63,10 +55,7 @@ impl NamedMachine for Late<Kind> {
 }
 
 impl NamedMachine for Invent<Kind> {
-    ghost use Rattle.seq_objects.specs.Objects.{kind_init, kind_next};
-    ghost use Rattle.faulty_machines.specs.Invent.{invent_reply};
-
-    ghost answer = { λ kind. invent_reply (kind_next kind) (kind_init kind) };
+    ghost behaviour = { behaviours.Invent };
 
     fn for_kind(object: Kind) -> Self {
         Invent { object }

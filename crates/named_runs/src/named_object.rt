@@ -1,10 +1,11 @@
 //! Objects outside the world that have a name.
 
-ghost use Rattle.std.specs.Prelude.{◌≡◌, ◌≤◌, ◌*◌, ℕ, List, IfOk, All};
+ghost use Rattle.std.specs.Prelude.{◌≡◌, ◌≤◌, ℕ, IfOk, All};
 ghost use Rattle.book_base.specs.declared.TheConstants.{MAX_CALLERS, MAX_CALLS};
 ghost use Rattle.seq_objects.specs.declared.kind.Kind.{Kind as TheKind};
-ghost use Rattle.world_core.specs.Calls.{Made};
-ghost use Rattle.named_runs.specs.NamedObjects.{AreOwnPasses, AreTold};
+ghost use Rattle.faulty_objects.specs.declared.behaviour.Behaviour.{Behaviour as TheBehaviour};
+ghost use Rattle.faulty_objects.specs.declared.behaviour.Behaviour.TheVariants as behaviours;
+ghost use Rattle.named_runs.specs.NamedObjects.{AreOwnPasses, HasAnswered};
 
 use crate::named_machine::NamedMachine;
 use book_base::{MAX_CALLERS, MAX_CALLS, NoMemory};
@@ -16,16 +17,13 @@ use shared_words::WordsPass;
 use std::alloc::Global;
 
 /// An object that a name stands for. It is opened with a pass for each of its callers, and once they are through it is closed
-/// with these passes: then it explains their calls.
+/// with these passes: then it is the object of its behaviour that answered their calls.
 pub(crate) trait NamedObject: BlackBox + Sized {
-    /// For how many callers the object was opened.
-    ghost callers_of: { Self → ℕ };
+    /// The behaviour that names it.
+    ghost behaviour: { TheBehaviour };
 
-    /// The object serves scripts of this kind.
-    ghost serves: { Self → TheKind → Type 0 };
-
-    /// What an object that serves a kind says of the calls of `n` callers, by how many phases each made.
-    ghost explains: { TheKind → ℕ → (ℕ → ℕ) → (ℕ → List Made) → Type 0 };
+    /// The object was opened for scripts of this kind, and for this many callers.
+    ghost is_opened_for: { Self → TheKind → ℕ → Type 0 } = { λ object kind n. Unit {0} };
 
     /// An object for scripts of a kind, with `n` callers and `cap` calls each, and a pass for each caller, in order.
     fn open_for(
@@ -38,29 +36,26 @@ pub(crate) trait NamedObject: BlackBox + Sized {
         requires few_callers { n ≤ MAX_CALLERS }
         requires some_calls { 1 ≤ cap }
         requires few_calls { cap ≤ MAX_CALLS }
-        ensures callers { IfOk result (λ r. callers_of r.0 ≡ n) }
-        ensures serves { IfOk result (λ r. serves r.0 kind) }
+        ensures opened { IfOk result (λ r. is_opened_for r.0 kind n) }
         ensures passes { IfOk result (λ r. AreOwnPasses (Self.is_own r.0) Self.Pass.caller n r.1.items) }
         ensures fresh { IfOk result (λ r. All
             (λ pass. (Self.Pass.made pass ≡ 0) × (Self.Pass.cap pass ≡ cap)) r.1.items) };
 
-    /// Takes the passes of all callers back. Whatever calls the passes are told in, the object explains them.
+    /// Takes the passes of all callers back. Whatever calls the passes are told in, the object answered them.
     fn close_with(self, passes: Vec<Self::Pass>)
-        requires { AreOwnPasses (Self.is_own self) Self.Pass.caller (callers_of self) passes.items }
-        ensures { (kind : TheKind) (phases : ℕ → ℕ) (calls : ℕ → List Made) → serves self kind
-            → AreTold Self.Pass.told phases calls passes.items
-            → explains kind (callers_of self) phases calls };
+        requires { (kind : TheKind) × (n : ℕ) × is_opened_for self kind n
+            × AreOwnPasses (Self.is_own self) Self.Pass.caller n passes.items }
+        ensures { HasAnswered behaviour (is_opened_for self) (Self.is_own self) Self.Pass.caller Self.Pass.told
+            passes.items };
 }
 
 impl<M: NamedMachine> NamedObject for LogBox<M> {
     ghost use Rattle.lawful_objects.specs.Passes.{callers_in, machine_in};
-    ghost use Rattle.logged_calls.specs.Logged.{IsLoggedBy};
+    ghost use Rattle.named_runs.specs.NamedObjects.{IsLogFor};
 
-    ghost callers_of = { callers_in };
+    ghost behaviour = { M.behaviour };
 
-    ghost serves = { λ object kind. M.reply_to (machine_in object) ≡ M.answer kind };
-
-    ghost explains = { λ kind. IsLoggedBy (M.answer kind) };
+    ghost is_opened_for = { λ object. IsLogFor M.behaviour (M.reply_to (machine_in object)) (callers_in object) };
 
     fn open_for(
         alloc: Global,
@@ -72,24 +67,18 @@ impl<M: NamedMachine> NamedObject for LogBox<M> {
     }
 
     fn close_with(self, passes: Vec<LogPass>)
-        requires { AreOwnPasses (⟦<LogBox<M> as BlackBox>⟧.is_own self) ⟦<LogPass as ObjectPass>⟧.caller (callers_in self) passes.items }
-        ensures { (kind : TheKind) (phases : ℕ → ℕ) (calls : ℕ → List Made) → M.reply_to (machine_in self) ≡ M.answer kind
-            → AreTold ⟦<LogPass as ObjectPass>⟧.told phases calls passes.items → IsLoggedBy (M.answer kind) (callers_in self) phases calls }
+        requires { (kind : TheKind) × (n : ℕ) × IsLogFor M.behaviour (M.reply_to (machine_in self)) (callers_in self) kind n
+            × AreOwnPasses (⟦<LogBox<M> as BlackBox>⟧.is_own self) ⟦<LogPass as ObjectPass>⟧.caller n passes.items }
+        ensures { HasAnswered M.behaviour (IsLogFor M.behaviour (M.reply_to (machine_in self)) (callers_in self))
+            (⟦<LogBox<M> as BlackBox>⟧.is_own self) ⟦<LogPass as ObjectPass>⟧.caller ⟦<LogPass as ObjectPass>⟧.told
+            passes.items }
     {
         self.close(passes);
     }
 }
 
 impl NamedObject for Tally {
-    ghost use Rattle.lawful_objects.specs.Forms.{IsTallyReply};
-    ghost use Rattle.shared_words.specs.Passes as passes_of;
-    ghost use Rattle.logged_calls.specs.Logged.{AreFormed};
-
-    ghost callers_of = { λ object. passes_of.callers_of object.word };
-
-    ghost serves = { λ object kind. Unit {0} };
-
-    ghost explains = { λ kind n phases. AreFormed IsTallyReply n };
+    ghost behaviour = { behaviours.Tally };
 
     fn open_for(
         alloc: Global,
@@ -101,24 +90,15 @@ impl NamedObject for Tally {
     }
 
     fn close_with(self, passes: Vec<WordsPass>)
-        requires { AreOwnPasses (⟦<Tally as BlackBox>⟧.is_own self) ⟦<WordsPass as ObjectPass>⟧.caller (passes_of.callers_of self.word) passes.items }
-        ensures { (kind : TheKind) (phases : ℕ → ℕ) (calls : ℕ → List Made) → Unit {0}
-            → AreTold ⟦<WordsPass as ObjectPass>⟧.told phases calls passes.items → AreFormed IsTallyReply (passes_of.callers_of self.word) calls }
+        ensures { HasAnswered behaviours.Tally (λ kind n. Unit {0}) (⟦<Tally as BlackBox>⟧.is_own self)
+            ⟦<WordsPass as ObjectPass>⟧.caller ⟦<WordsPass as ObjectPass>⟧.told passes.items }
     {
         let _passes = passes;
     }
 }
 
 impl NamedObject for WordCell {
-    ghost use Rattle.lawful_objects.specs.Forms.{IsCellReply};
-    ghost use Rattle.shared_words.specs.Passes as passes_of;
-    ghost use Rattle.logged_calls.specs.Logged.{AreFormed};
-
-    ghost callers_of = { λ object. passes_of.callers_of object.word };
-
-    ghost serves = { λ object kind. Unit {0} };
-
-    ghost explains = { λ kind n phases. AreFormed IsCellReply n };
+    ghost behaviour = { behaviours.Cell };
 
     fn open_for(
         alloc: Global,
@@ -130,24 +110,15 @@ impl NamedObject for WordCell {
     }
 
     fn close_with(self, passes: Vec<WordsPass>)
-        requires { AreOwnPasses (⟦<WordCell as BlackBox>⟧.is_own self) ⟦<WordsPass as ObjectPass>⟧.caller (passes_of.callers_of self.word) passes.items }
-        ensures { (kind : TheKind) (phases : ℕ → ℕ) (calls : ℕ → List Made) → Unit {0}
-            → AreTold ⟦<WordsPass as ObjectPass>⟧.told phases calls passes.items → AreFormed IsCellReply (passes_of.callers_of self.word) calls }
+        ensures { HasAnswered behaviours.Cell (λ kind n. Unit {0}) (⟦<WordCell as BlackBox>⟧.is_own self)
+            ⟦<WordsPass as ObjectPass>⟧.caller ⟦<WordsPass as ObjectPass>⟧.told passes.items }
     {
         let _passes = passes;
     }
 }
 
 impl NamedObject for SplitTally {
-    ghost use Rattle.lawful_objects.specs.Forms.{IsTallyReply};
-    ghost use Rattle.shared_words.specs.Passes as passes_of;
-    ghost use Rattle.logged_calls.specs.Logged.{AreFormed};
-
-    ghost callers_of = { λ object. passes_of.callers_of object.words };
-
-    ghost serves = { λ object kind. Unit {0} };
-
-    ghost explains = { λ kind n phases. AreFormed IsTallyReply n };
+    ghost behaviour = { behaviours.Split };
 
     fn open_for(
         alloc: Global,
@@ -159,24 +130,15 @@ impl NamedObject for SplitTally {
     }
 
     fn close_with(self, passes: Vec<WordsPass>)
-        requires { AreOwnPasses (⟦<SplitTally as BlackBox>⟧.is_own self) ⟦<WordsPass as ObjectPass>⟧.caller (passes_of.callers_of self.words) passes.items }
-        ensures { (kind : TheKind) (phases : ℕ → ℕ) (calls : ℕ → List Made) → Unit {0}
-            → AreTold ⟦<WordsPass as ObjectPass>⟧.told phases calls passes.items → AreFormed IsTallyReply (passes_of.callers_of self.words) calls }
+        ensures { HasAnswered behaviours.Split (λ kind n. Unit {0}) (⟦<SplitTally as BlackBox>⟧.is_own self)
+            ⟦<WordsPass as ObjectPass>⟧.caller ⟦<WordsPass as ObjectPass>⟧.told passes.items }
     {
         let _passes = passes;
     }
 }
 
 impl NamedObject for OnePass {
-    ghost use Rattle.faulty_objects.specs.Forms.{IsQueueReply};
-    ghost use Rattle.shared_words.specs.Passes as passes_of;
-    ghost use Rattle.logged_calls.specs.Logged.{AreFormed};
-
-    ghost callers_of = { λ object. passes_of.callers_of object.words };
-
-    ghost serves = { λ object kind. Unit {0} };
-
-    ghost explains = { λ kind n phases. AreFormed IsQueueReply n };
+    ghost behaviour = { behaviours.Onepass };
 
     fn open_for(
         alloc: Global,
@@ -188,9 +150,8 @@ impl NamedObject for OnePass {
     }
 
     fn close_with(self, passes: Vec<WordsPass>)
-        requires { AreOwnPasses (⟦<OnePass as BlackBox>⟧.is_own self) ⟦<WordsPass as ObjectPass>⟧.caller (passes_of.callers_of self.words) passes.items }
-        ensures { (kind : TheKind) (phases : ℕ → ℕ) (calls : ℕ → List Made) → Unit {0}
-            → AreTold ⟦<WordsPass as ObjectPass>⟧.told phases calls passes.items → AreFormed IsQueueReply (passes_of.callers_of self.words) calls }
+        ensures { HasAnswered behaviours.Onepass (λ kind n. Unit {0}) (⟦<OnePass as BlackBox>⟧.is_own self)
+            ⟦<WordsPass as ObjectPass>⟧.caller ⟦<WordsPass as ObjectPass>⟧.told passes.items }
     {
         let _passes = passes;
     }

@@ -1,24 +1,30 @@
-//! Whole runs of a script, and what is written of them.
+//! Whole runs and replays of a script, and what is written of them.
 
-ghost use Rattle.std.specs.Prelude.{◌≡◌, ◌<◌, ℕ, length, vec_len};
+ghost use Rattle.std.specs.Prelude.{◌≡◌, ◌⊎◌, ◌<◌, ℕ, None, length, vec_len};
 ghost use Rattle.row_table.specs.Callers.{IsBenchOf, HoldsAll};
 ghost use Rattle.call_phases.specs.Asking.{fits_own, own_count};
+ghost use Rattle.core_objects.specs.CoreObjects.{AreOpenedWith, ArePassesFor};
 ghost use Rattle.bench_clients.specs.Places.{AreInOrder};
-ghost use Rattle.bench_clients.specs.Starts.{run_allotments, MayBegin};
+ghost use Rattle.bench_clients.specs.Starts.{object_by, run_allotments, replay_allotments, MayBegin};
 ghost use Rattle.bench_clients.specs.Returns.{IsBackOn};
+ghost use Rattle.core_runs.specs.Inside.{fits_inside};
 ghost use Rattle.run_report.specs.Passes.{IsOwnPass, AreUnusedPasses};
+ghost use Rattle.run_report.specs.Reporting.{IsFreeAgain};
+ghost use Rattle.reports.specs.Findings.{Findings};
 ghost use Rattle.byte_streams.specs.Fault.{LeavesSink};
 ghost use Rattle.run_writer.specs.Runs.{RunEnds, object_of_kind};
-ghost use Rattle.run_writer.specs.Running.{IsToldBenchReport, EndsByReport};
+ghost use Rattle.run_writer.specs.Running.{IsBenchReport, IsCoreReport, IsToldBenchReport, EndsByReport};
 
 use crate::form::Form;
 use crate::report_output::write_report;
 use book_base::NoMemory;
 use byte_streams::{Sink, Status};
 use client_scripts::Script;
+use core_objects::CoreObject;
+use core_runs::run_core;
 use drv_wrapper::{BlackBox, ObjectPass};
 use row_table::{Bench, Rows};
-use run_report::run_over;
+use run_report::{replay_over, run_over};
 use std::alloc::Global;
 use std::thread::Threads;
 use world_core::{Outside, Program};
@@ -75,6 +81,118 @@ where
     let kind = script.kind();
     match run_over(rt, alloc, rows, bench, &kind, object, passes, script) {
         Ok(report) => write_report(alloc, form, &kind, &report, sink),
+        Err(NoMemory) => Status::NoMemory,
+    }
+}
+
+/// Lets all callers of a script take its turns over any object behind the trait, in one thread, and writes what the form shows of
+/// their report, which is lawful.
+///
+/// The bench holds all callers, unused, and each has its pass of the object, unused too; afterwards it holds them all again, and
+/// the passes are in their order, whatever the answer.
+pub fn replay_and_write<B: BlackBox, K: Sink>(
+    alloc: Global,
+    rows: &Rows,
+    bench: &mut Bench,
+    object: &B,
+    passes: &mut Vec<B::Pass>,
+    script: &Script,
+    form: Form,
+    sink: &mut K,
+) -> Status
+    requires begins { MayBegin ⟦<Outside as Program>⟧.meaning script.now 0 rows.now bench.old }
+    requires passes { AreUnusedPasses (B.is_own object.now) B.Pass.caller B.Pass.made B.Pass.cap
+        script.now.operations passes.old.items }
+
+    // What stands afterwards, whatever the answer.
+    ensures bench { IsBenchOf ⟦<Outside as Program>⟧.meaning rows.now bench.new × HoldsAll bench.new }
+    ensures all_passes { vec_len passes.new ≡ length script.now.operations }
+    ensures passes { AreInOrder (IsOwnPass (B.is_own object.now) B.Pass.caller) passes.new.items }
+    ensures back { (i : ℕ) → i < length script.now.operations → IsBackOn
+        ⟦<Outside as Program>⟧.meaning rows.now (fits_own (B.is_own object.now) B.Pass.caller)
+        (own_count B.Pass.made B.Pass.cap B.Pass.told) script.now.operations (replay_allotments script.now)
+        bench.new passes.new.items i }
+
+    // The headline: what was written, by the status, is of a lawful report of the locals on the bench.
+    ensures ends { RunEnds (object_of_kind script.now.kind)
+        (IsToldBenchReport (object_of_kind script.now.kind) ⟦<Outside as Program>⟧.meaning rows.now bench.new
+        B.Pass.made B.Pass.told passes.new.items script.now (replay_allotments script.now))
+        form result (K.taken sink.old) (K.taken sink.new) }
+
+    // Whether a line of that report is an error decides the status, and who stands free for its next call.
+    ensures reported { EndsByReport (object_of_kind script.now.kind) ⟦<Outside as Program>⟧.meaning rows.now
+        bench.new script.now (replay_allotments script.now) result }
+
+    // A fault has its cause in a count that rose in this call, and every other answer comes where none rose.
+    ensures faults { LeavesSink K.faults result sink.old sink.new }
+{
+    let kind = script.kind();
+    match replay_over(alloc, rows, bench, &kind, object, passes, script) {
+        Ok(report) => write_report(alloc, form, &kind, &report, sink),
+        Err(NoMemory) => Status::NoMemory,
+    }
+}
+
+/// Runs all callers of a script over an object inside the world, each in a thread of its own where
+/// one can be had, and writes what the form shows of their report, which is lawful and has no error
+/// line: every run of the object's program is linearizable (Herlihy and Wing 1990), and no such run
+/// leaves published records without a legal order (Castañeda and Rodríguez 2023). So the answer is
+/// never that an error was found.
+///
+/// The rows were opened with the object's program. The bench holds all callers, unused, and each has
+/// its pass of the object, which fits it; afterwards the bench holds them all again, and each pass
+/// fits the object steps that its caller has made, whatever the answer.
+pub fn core_and_write<R: Threads + Sync, O: CoreObject + Sync, K: Sink>(
+    rt: &R,
+    alloc: Global,
+    rows: &Rows<O::P>,
+    bench: &mut Bench<O::P>,
+    object: &O,
+    passes: &mut Vec<O::Pass>,
+    script: &Script,
+    form: Form,
+    sink: &mut K,
+) -> Status
+where
+    O::S: Sync,
+    O::P: Send + Sync,
+    O::Pass: Send,
+    requires program { AreOpenedWith O.P.meaning (O.program_of object.now) rows.now }
+    requires begins { MayBegin O.P.meaning script.now 0 rows.now bench.old }
+    requires passes { ArePassesFor (O.fits object.now) rows.now.callers rows.now.cap passes.old.items }
+
+    // What stands afterwards, whatever the answer.
+    ensures bench { IsBenchOf O.P.meaning rows.now bench.new × HoldsAll bench.new }
+    ensures all_passes { vec_len passes.new ≡ length script.now.operations }
+    ensures back { (i : ℕ) → i < length script.now.operations
+        → IsBackOn O.P.meaning rows.now (fits_inside (O.fits object.now)) (λ pass. None)
+        script.now.operations (run_allotments script.now) bench.new passes.new.items i }
+
+    // The headline: what was written, by the status, is of a lawful report of the locals on the
+    // bench, which has no error line.
+    ensures ends { RunEnds (object_by O.S.init O.S.next (O.sequential_of object.now))
+        (IsCoreReport (object_by O.S.init O.S.next (O.sequential_of object.now)) O.P.meaning
+        rows.now bench.new script.now (run_allotments script.now))
+        form result (K.taken sink.old) (K.taken sink.new) }
+
+    // So no error is found, and all is fine, failed writes and want of memory aside.
+    ensures right { ¬ (result ≡ Status.Found) }
+    ensures fine { (result ≡ Status.Fine) ⊎ (result ≡ Status.WriteFault) ⊎ (result ≡ Status.NoMemory) }
+
+    // By that report, each caller that stopped between two calls, or made all of its calls, stands
+    // free for its next one, want of memory aside.
+    ensures free { ¬ (result ≡ Status.NoMemory) → (report : Findings)
+        → IsBenchReport (object_by O.S.init O.S.next (O.sequential_of object.now)) O.P.meaning
+        rows.now bench.new script.now (run_allotments script.now) report
+        → (i : ℕ) → i < length script.now.operations
+        → IsFreeAgain bench.new (run_allotments script.now) report i }
+
+    // A fault has its cause in a count that rose in this call, and every other answer comes where
+    // none rose.
+    ensures faults { LeavesSink K.faults result sink.old sink.new }
+{
+    match run_core(rt, alloc, rows, bench, object, passes, script) {
+        Ok(report) => write_report(alloc, form, object.sequential(), &report, sink),
         Err(NoMemory) => Status::NoMemory,
     }
 }

@@ -1,5 +1,6 @@
 use Rattle.std.proofs.Common.{◌≡◌, ◌∙◌, subst, arith, ℕ, List, length}
 use Rattle.world_core.specs.Shape.{Shape}
+use Rattle.world_core.specs.Local.{Local}
 use Rattle.bench_clients.specs.Starts.{run_allotments}
 use Rattle.call_lines.specs.Lawful.{IsLawful}
 use Rattle.core_objects.specs.CoreObjects.{shape_with}
@@ -25,6 +26,23 @@ pub run_core-report-requires-clause-passes : goal.run_core-report-requires-claus
 run_core-report-requires-clause-passes g c κs within =
     let opened = c.in_ok-rows.ensures.rows in
     passes_for_rows c.in_ok-rows.rows _ _ (opened.0 ∙ c.callers.ensures.count) opened.1 (g.O.CoreObject.fits c.args.object.now) _ c.requires.passes
+
+pub returns-clause-report : goal.returns-clause-report
+returns-clause-report g c =
+    let plan = c.args.script.now in
+    let rows = c.in_ok-rows.rows in
+    let bench = c.run_core-report.new.bench in
+    let opened = c.in_ok-rows.ensures.rows in
+    let init = g.O.S.SeqObject.init (g.O.CoreObject.sequential_of c.args.object.now) in
+    let next = g.O.S.SeqObject.next (g.O.CoreObject.sequential_of c.args.object.now) in
+    let meaning = g.O.P.Program.meaning in
+    let program = g.O.CoreObject.program_of c.args.object.now in
+    let same : shape_of meaning rows ≡ shape_with (meaning program) (length plan.operations) c.args.cap =
+    shape_opened_with rows _ _ (opened.0 ∙ c.callers.ensures.count) opened.1 meaning _ (opened.2 ∙ c.program.ensures) in
+    if_ok_as c.run_core-report.result
+    (λ (report : Findings). IsReportOf init next (shape_of meaning rows) (locals_on bench) plan (run_allotments plan) report)
+    (λ (report : Findings). (locals : List Local) × IsReportOf init next (shape_with (meaning program) (length plan.operations) c.args.cap) locals plan (run_allotments plan) report)
+    (λ report is. (locals_on bench, subst (λ (s : Shape). IsReportOf init next s (locals_on bench) plan (run_allotments plan) report) same is)) c.run_core-report.ensures.report
 
 pub returns-clause-kind : goal.returns-clause-kind
 returns-clause-kind g c =

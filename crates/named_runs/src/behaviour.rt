@@ -1,0 +1,149 @@
+//! Runs, replays and monitored runs of a script over the object of a behaviour.
+
+ghost use Rattle.std.specs.Prelude.{◌≡◌, ◌⊎◌, ◌≤◌, ◌+◌, IsSome, length};
+ghost use Rattle.book_base.specs.declared.TheConstants.{MAX_CALLERS};
+ghost use Rattle.byte_streams.specs.Fault.{LeavesSink};
+ghost use Rattle.byte_streams.specs.Writing.{EndsWriting};
+ghost use Rattle.run_writer.specs.Runs.{RunEnds, object_of_kind};
+ghost use Rattle.bench_clients.specs.Starts.{run_allotments};
+ghost use Rattle.run_report.specs.Reporting.{outside_shape};
+ghost use Rattle.named_runs.specs.Worlds.{inside_of};
+ghost use Rattle.named_runs.specs.BehaviourRuns.{IsNamedReport, IsNamedReplayReport, IsNamedRunReport};
+ghost use Rattle.named_runs.specs.Monitored.{AreNamedMonitored, IsMonitorOutput};
+
+use crate::inside::object_inside;
+use crate::inside_run::run_inside;
+use crate::named::{monitor_named, replay_named, run_named};
+use book_base::NoMemory;
+use byte_streams::{Sink, Status};
+use client_scripts::Script;
+use faulty_objects::{Behaviour, Invent, Late, Lossy, OnePass, SplitTally, Twice};
+use lawful_objects::{LogBox, Plain, Tally, WordCell};
+use run_writer::{Form, write_report};
+use seq_objects::Kind;
+use std::alloc::Global;
+use std::thread::Threads;
+
+// Calls a function with the object of a behaviour as the first of its types.
+macro_rules! over_behaviour {
+    ($behaviour:expr, $over:ident::<$($t:ty),*>($($x:expr),*)) => {
+        match $behaviour {
+            Behaviour::Lawful => $over::<LogBox<Plain<Kind>>, $($t),*>($($x),*),
+            Behaviour::Tally => $over::<Tally, $($t),*>($($x),*),
+            Behaviour::Cell => $over::<WordCell, $($t),*>($($x),*),
+            Behaviour::Lossy => $over::<LogBox<Lossy<Kind>>, $($t),*>($($x),*),
+            Behaviour::Twice => $over::<LogBox<Twice<Kind>>, $($t),*>($($x),*),
+            Behaviour::Late => $over::<LogBox<Late<Kind>>, $($t),*>($($x),*),
+            Behaviour::Invent => $over::<LogBox<Invent<Kind>>, $($t),*>($($x),*),
+            Behaviour::Split => $over::<SplitTally, $($t),*>($($x),*),
+            Behaviour::Onepass => $over::<OnePass, $($t),*>($($x),*),
+        }
+    };
+}
+
+// Runs a script over the object of a behaviour that is outside the world.
+fn run_outside<R: Threads + Sync, K: Sink>(
+    rt: &R,
+    alloc: Global,
+    behaviour: Behaviour,
+    script: &Script,
+    form: Form,
+    sink: &mut K,
+) -> Status
+    ensures ends { RunEnds (object_of_kind script.now.kind)
+        (IsNamedReport (outside_shape (length script.now.operations)) behaviour script.now
+        (run_allotments script.now)) form result (K.taken sink.old) (K.taken sink.new) }
+    ensures faults { LeavesSink K.faults result sink.old sink.new }
+{
+    over_behaviour!(
+        behaviour,
+        run_named::<R, K>(rt, alloc, behaviour, script, form, sink)
+    )
+}
+
+/// Runs all callers of a script over the object of a behaviour, each in a thread of its own where one can be had, and writes what
+/// the form shows of their report, which is lawful whatever the object does.
+///
+/// The object of `lawful`, for every kind, that of `tally` for a counter's script and that of `cell` for a register's are inside the
+/// world: such a run has no error line. Every other object is outside it. The table of rows and the object are opened for the
+/// script's callers with the greatest cap, and closed behind the run.
+pub fn run_behaviour<R: Threads + Sync, K: Sink>(
+    rt: &R,
+    alloc: Global,
+    behaviour: Behaviour,
+    script: &Script,
+    form: Form,
+    sink: &mut K,
+) -> Status
+    // The headline: what was written, by the status, is of a lawful report, whose calls the object of the behaviour answered.
+    ensures ends { RunEnds (object_of_kind script.now.kind) (IsNamedRunReport behaviour script.now)
+        form result (K.taken sink.old) (K.taken sink.new) }
+
+    // Over an object inside the world all is fine, failed writes and want of memory aside.
+    ensures fine { IsSome (inside_of behaviour script.now.kind)
+        → (result ≡ Status.Fine) ⊎ (result ≡ Status.WriteFault) ⊎ (result ≡ Status.NoMemory) }
+
+    // A fault has its cause in a count that rose in this call, and every other answer comes where none rose.
+    ensures faults { LeavesSink K.faults result sink.old sink.new }
+{
+    let kind = script.kind();
+    match object_inside(behaviour, kind) {
+        Some(inside) => match run_inside(rt, alloc, inside, script) {
+            Ok(report) => write_report(alloc, form, &kind, &report, sink),
+            Err(NoMemory) => Status::NoMemory,
+        },
+        None => run_outside(rt, alloc, behaviour, script, form, sink),
+    }
+}
+
+/// Lets all callers of a script take its turns over the object of a behaviour, in one thread, and writes what the form shows of
+/// their report, which is lawful whatever the object does.
+///
+/// The table of rows and the object are opened for the script's callers with the greatest cap, and closed behind the replay.
+pub fn replay_behaviour<K: Sink>(
+    alloc: Global,
+    behaviour: Behaviour,
+    script: &Script,
+    form: Form,
+    sink: &mut K,
+) -> Status
+    // The headline: what was written, by the status, is of a lawful report, whose calls the object of the behaviour answered.
+    ensures ends { RunEnds (object_of_kind script.now.kind) (IsNamedReplayReport behaviour script.now)
+        form result (K.taken sink.old) (K.taken sink.new) }
+
+    // A fault has its cause in a count that rose in this call, and every other answer comes where none rose.
+    ensures faults { LeavesSink K.faults result sink.old sink.new }
+{
+    over_behaviour!(
+        behaviour,
+        replay_named::<K>(alloc, behaviour, script, form, sink)
+    )
+}
+
+/// Runs all callers of a script over the object of a behaviour, each in a thread of its own where one can be had: none judges a
+/// call, and two monitors watch them. It writes `legal`, or `illegal` and the text of a witness, by the book of all records that
+/// the callers published.
+///
+/// The table of rows and the object are opened for two callers more than the script has, with the greatest cap, and closed behind
+/// the run, the object with the passes of all of them.
+pub fn monitor_behaviour<R: Threads + Sync, K: Sink>(
+    rt: &R,
+    alloc: Global,
+    behaviour: Behaviour,
+    script: &Script,
+    sink: &mut K,
+) -> Status
+    requires few { length script.now.operations + 2 ≤ MAX_CALLERS }
+
+    // The headline: what was written, by the status, is right of callers whose calls the object of the behaviour answered.
+    ensures ends { EndsWriting (IsMonitorOutput (AreNamedMonitored behaviour script.now) script.now.kind)
+        result (K.taken sink.old) (K.taken sink.new) }
+
+    // A fault has its cause in a count that rose in this call, and every other answer comes where none rose.
+    ensures faults { LeavesSink K.faults result sink.old sink.new }
+{
+    over_behaviour!(
+        behaviour,
+        monitor_named::<R, K>(rt, alloc, behaviour, script, sink)
+    )
+}

@@ -1,0 +1,143 @@
+//! Whole runs of a script that open the table of rows themselves: each caller in a thread of its own, by turns, and with monitors.
+
+ghost use Rattle.std.specs.Prelude.{◌≡◌, ◌≤◌, ◌+◌, length, vec_len, vec_capacity};
+ghost use Rattle.book_base.specs.declared.TheConstants.{MAX_CALLERS};
+ghost use Rattle.bench_clients.specs.Places.{AreInOrder};
+ghost use Rattle.bench_clients.specs.Starts.{run_allotments, replay_allotments};
+ghost use Rattle.run_report.specs.Passes.{IsOwnPass, AreUnusedPasses};
+ghost use Rattle.byte_streams.specs.Fault.{LeavesSink};
+ghost use Rattle.byte_streams.specs.Writing.{EndsWriting};
+ghost use Rattle.run_writer.specs.Runs.{RunEnds, object_of_kind};
+ghost use Rattle.named_runs.specs.BehaviourRuns.{IsToldReport};
+ghost use Rattle.named_runs.specs.Monitored.{AreToldMonitored, IsMonitorOutput};
+
+use book_base::MAX_CALLS;
+use byte_streams::{Sink, Status};
+use client_scripts::Script;
+use drv_wrapper::{BlackBox, ObjectPass};
+use monitor_writer::monitor_and_write;
+use row_table::Rows;
+use run_writer::{Form, replay_and_write, run_and_write};
+use std::alloc::Global;
+use std::thread::Threads;
+use world_core::Outside;
+
+/// Runs all callers of a script over an object, each in a thread of its own where one can be had, and writes what the form shows
+/// of their report, which is lawful. The table of rows is opened for the run, with the greatest cap, and closed behind it.
+///
+/// Each caller has its pass of the object, unused. Afterwards the passes are in their order, whatever the answer.
+pub fn run_fresh<R: Threads + Sync, B: BlackBox + Sync, K: Sink>(
+    rt: &R,
+    alloc: Global,
+    script: &Script,
+    object: &B,
+    passes: &mut Vec<B::Pass>,
+    form: Form,
+    sink: &mut K,
+) -> Status
+where
+    B::Pass: Send,
+    requires passes { AreUnusedPasses (B.is_own object.now) B.Pass.caller B.Pass.made B.Pass.cap
+        script.now.operations passes.old.items }
+
+    // What stands afterwards, whatever the answer.
+    ensures all_passes { vec_len passes.new ≡ length script.now.operations }
+    ensures passes { AreInOrder (IsOwnPass (B.is_own object.now) B.Pass.caller) passes.new.items }
+
+    // The headline: what was written, by the status, is of a lawful report, in which the passes are told.
+    ensures ends { RunEnds (object_of_kind script.now.kind)
+        (IsToldReport B.Pass.made B.Pass.told passes.new.items script.now
+        (run_allotments script.now))
+        form result (K.taken sink.old) (K.taken sink.new) }
+
+    // A fault has its cause in a count that rose in this call, and every other answer comes where none rose.
+    ensures faults { LeavesSink K.faults result sink.old sink.new }
+{
+    let Ok((rows, mut bench)) = Rows::open(alloc, Outside, script.callers(), MAX_CALLS) else {
+        return Status::NoMemory;
+    };
+    let status = run_and_write(
+        rt, alloc, &rows, &mut bench, object, passes, script, form, sink,
+    );
+    // What was written stands, also where no memory is left for the words of the closed table.
+    let _world = rows.close(alloc, bench);
+    status
+}
+
+/// Lets all callers of a script take its turns over an object, in one thread, and writes what the form shows of their report, which
+/// is lawful. The table of rows is opened for the replay, with the greatest cap, and closed behind it.
+///
+/// Each caller has its pass of the object, unused. Afterwards the passes are in their order, whatever the answer.
+pub fn replay_fresh<B: BlackBox, K: Sink>(
+    alloc: Global,
+    script: &Script,
+    object: &B,
+    passes: &mut Vec<B::Pass>,
+    form: Form,
+    sink: &mut K,
+) -> Status
+    requires passes { AreUnusedPasses (B.is_own object.now) B.Pass.caller B.Pass.made B.Pass.cap
+        script.now.operations passes.old.items }
+
+    // What stands afterwards, whatever the answer.
+    ensures all_passes { vec_len passes.new ≡ length script.now.operations }
+    ensures passes { AreInOrder (IsOwnPass (B.is_own object.now) B.Pass.caller) passes.new.items }
+
+    // The headline: what was written, by the status, is of a lawful report, in which the passes are told.
+    ensures ends { RunEnds (object_of_kind script.now.kind)
+        (IsToldReport B.Pass.made B.Pass.told passes.new.items script.now
+        (replay_allotments script.now))
+        form result (K.taken sink.old) (K.taken sink.new) }
+
+    // A fault has its cause in a count that rose in this call, and every other answer comes where none rose.
+    ensures faults { LeavesSink K.faults result sink.old sink.new }
+{
+    let Ok((rows, mut bench)) = Rows::open(alloc, Outside, script.callers(), MAX_CALLS) else {
+        return Status::NoMemory;
+    };
+    let status = replay_and_write(alloc, &rows, &mut bench, object, passes, script, form, sink);
+    // What was written stands, also where no memory is left for the words of the closed table.
+    let _world = rows.close(alloc, bench);
+    status
+}
+
+/// Runs all callers of a script over an object, each in a thread of its own where one can be had, while two
+/// monitors watch them, and writes what is right of the records that they published. The table of rows is opened
+/// for the run, with two callers more and the greatest cap, and closed behind it.
+///
+/// Each of the script's callers has its pass of the object, unused. Afterwards the passes are in their order,
+/// whatever the answer.
+pub fn monitor_fresh<R: Threads + Sync, B: BlackBox + Sync, K: Sink>(
+    rt: &R,
+    alloc: Global,
+    script: &Script,
+    object: &B,
+    passes: &mut Vec<B::Pass>,
+    sink: &mut K,
+) -> Status
+where
+    B::Pass: Send,
+    requires few { length script.now.operations + 2 ≤ MAX_CALLERS }
+    requires passes { AreUnusedPasses (B.is_own object.now) B.Pass.caller B.Pass.made B.Pass.cap
+        script.now.operations passes.old.items }
+
+    // What stands afterwards, whatever the answer.
+    ensures all_passes { vec_len passes.new ≡ length script.now.operations }
+    ensures capacity { vec_capacity passes.old ≤ vec_capacity passes.new }
+    ensures passes { AreInOrder (IsOwnPass (B.is_own object.now) B.Pass.caller) passes.new.items }
+
+    // The headline: what was written, by the status, is right of callers in whose calls the passes are told.
+    ensures ends { EndsWriting (IsMonitorOutput (AreToldMonitored B.Pass.told passes.new.items script.now)
+        script.now.kind) result (K.taken sink.old) (K.taken sink.new) }
+
+    // A fault has its cause in a count that rose in this call, and every other answer comes where none rose.
+    ensures faults { LeavesSink K.faults result sink.old sink.new }
+{
+    let Ok((rows, mut bench)) = Rows::open(alloc, Outside, script.callers() + 2, MAX_CALLS) else {
+        return Status::NoMemory;
+    };
+    let status = monitor_and_write(rt, alloc, &rows, &mut bench, object, passes, script, sink);
+    // What was written stands, also where no memory is left for the words of the closed table.
+    let _world = rows.close(alloc, bench);
+    status
+}
