@@ -10,7 +10,7 @@ use Rattle.book_base.specs.declared.call.Call.{Call}
 use Rattle.book_base.specs.declared.call.Record.{Record}
 use Rattle.book_base.specs.declared.TheConstants.{MAX_CALLERS, MAX_CALLS}
 use Rattle.book_base.specs.Cut.{IsWithin, AreComparable}
-use Rattle.book_base.specs.Book.{first_unanswered, Page, page_of, calls_of, answers_of, announced, record_of, IsValid, IsSmall, unanswered_page, unanswered_book, with_call, with_operation, with_answer}
+use Rattle.book_base.specs.Book.{AnswersAreRecorded, first_unanswered, Page, page_of, calls_of, answers_of, announced, record_of, IsValid, IsSmall, unanswered_page, unanswered_book, with_call, with_operation, with_answer}
 use Rattle.book_base.specs.Refusal.{MayAnswer}
 use Rattle.book_base.proofs.PageLemmas.{empty, page_past}
 
@@ -251,6 +251,18 @@ pub record_of-with_answer_new : (book : List Page) (i : ℕ) (r : Record) → i 
 record_of-with_answer_new book i r h =
     let p : Page = record (page_of book i) { records = (page_of book i).records ++ r ∷ [] } in
     ap (λ (q : Page). slice_get q.records (answers_of book i)) (page_of-set_same book i p h) ∙ slice_get-push_last (page_of book i).records r
+
+-- and nothing else changes
+pub answers_are_recorded : AnswersAreRecorded
+answers_are_recorded =
+    record {
+      new = record_of-with_answer_new;
+      old = record_of-with_answer_old;
+      only = λ book i r call s h e. elim (record_of-with_answer_cases book i r call s h e) [
+        | inl was ↦ inl was
+        | inr is ↦ inr ((λ k. record { caller = is.0 k; number = is.1 k }), is.2)
+      ];
+    }
 
 -- an answer that leaves a valid book is one that may be given
 pub MayAnswer-from_valid : (book : List Page) (i : ℕ) (r : Record) → i < length book → IsValid (with_answer book i r) → MayAnswer book i r.view

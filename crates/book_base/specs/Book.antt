@@ -95,3 +95,11 @@ with_operation book call op =
 -- a caller's first unanswered call, where it has one
 abbrev pub first_unanswered : List Page → ℕ → Call
 first_unanswered book i = record { caller = i; number = answers_of book i }
+
+-- An answer is recorded at its caller's first unanswered call; what was recorded before is recorded still, and nothing else is.
+pub record AnswersAreRecorded : Type 0 where
+  pub new : (book : List Page) (i : ℕ) (r : Record) → i < length book → record_of (with_answer book i r) (first_unanswered book i) ≡ Some r
+  pub old : (book : List Page) (i : ℕ) (r : Record) (call : Call) (s : Record) → i < length book → record_of book call ≡ Some s
+      → record_of (with_answer book i r) call ≡ Some s
+  pub only : (book : List Page) (i : ℕ) (r : Record) (call : Call) (s : Record) → i < length book → record_of (with_answer book i r) call ≡ Some s
+      → (record_of book call ≡ Some s) ⊎ ((call ≡ first_unanswered book i) × (s ≡ r))

@@ -1,12 +1,11 @@
 -- Legal orders, one call after another.
-use Rattle.std.specs.Prelude.{◌≡◌, ℕ, ◌+◌, ◌<◌, ◌≤◌, List, [], ◌∷◌, map, Some, slice_get, slice_index, slice_set}
+use Rattle.std.specs.Prelude.{◌≡◌, ℕ, ◌+◌, List, [], ◌∷◌, Some, slice_index, slice_set}
 use Rattle.book_base.specs.declared.call.Call.{Call}
 use Rattle.book_base.specs.declared.call.Record.{Record}
 use Rattle.book_base.specs.declared.call.Place.{Place}
 use Rattle.book_base.specs.Cut.{Holds}
 use Rattle.book_base.specs.Book.{Page, IsCall, IsAnswered, record_of, Precedes}
-use Rattle.book_base.specs.Sequential.{IsRunFrom}
-use Rattle.book_base.specs.Order.{call_at, StandsAt, step_at}
+use Rattle.book_base.specs.Order.{call_at, step_at}
 
 -- the cut that holds one more call of a caller
 abbrev pub raised : List ℕ → ℕ → List ℕ
@@ -44,16 +43,3 @@ abbrev pub Continues : List Page → (List ℕ → ℕ → List ℕ × ℕ) → 
 Continues book next cut list [] = HoldsAnswered book cut
 Continues book next cut list (place ∷ rest) =
     MayStandNext book next cut list place × Continues book next (raised cut place.caller) (list_after book next list place) rest
-
--- What follows the calls of a cut in a legal order, from a list of the object on: the parts of a legal order, on the calls that
--- the cut doesn't hold.
-pub record IsLegalRest (book : List Page) (next : List ℕ → ℕ → List ℕ × ℕ) (cut list : List ℕ) (rest : List Place) : Type 0 where
-  pub calls : (k : ℕ) (call : Call) → StandsAt rest k call → IsCall book call
-  pub outside : (k : ℕ) (call : Call) → StandsAt rest k call → slice_index cut call.caller ≤ call.number
-  pub once : (j k : ℕ) (call : Call) → StandsAt rest j call → StandsAt rest k call → j ≡ k
-  pub earlier : (k : ℕ) (call : Call) → StandsAt rest k call → (number : ℕ) → slice_index cut call.caller ≤ number → number < call.number
-      → (j : ℕ) × (j < k) × StandsAt rest j (record { caller = call.caller; number = number })
-  pub answered : (call : Call) (r : Record) → record_of book call ≡ Some r → slice_index cut call.caller ≤ call.number
-      → (k : ℕ) × (slice_get rest k ≡ Some (record { caller = call.caller; number = call.number; reply = r.reply }))
-  pub run : IsRunFrom next list (map (step_at book) rest)
-  pub precedence : (j k : ℕ) (a b : Call) → StandsAt rest j a → StandsAt rest k b → Precedes book a b → j < k

@@ -2,7 +2,7 @@
 
 ghost use Rattle.std.specs.Prelude.{◌≡◌, ℕ, ◌<◌, ◌↔◌, List, length};
 ghost use Rattle.book_base.specs.declared.call.Record.{Record};
-ghost use Rattle.book_base.specs.Book.{Page, IsValid, with_answer};
+ghost use Rattle.book_base.specs.Book.{Page, IsValid, AnswersAreRecorded, with_answer};
 ghost use Rattle.book_base.specs.OperationWord.{joined, WordsAreJoinedAndParted};
 ghost use Rattle.book_base.specs.Refusal.{MayAnswer};
 ghost use Rattle.book_base.specs.Rising.{ViewsRise, PrecedesByItsView};
@@ -14,8 +14,14 @@ pub fn valid_answers_are_taken()
         → (IsValid (with_answer book caller answer) ↔ MayAnswer book caller answer.view) }
 {}
 
-/// A caller's views rise, and an answered call's view already gives its precedence over its caller's
-/// later calls.
+/// An answer is recorded at its caller's first unanswered call, and no other record changes.
+#[tactic(auto, using(crate::proofs::GrowthLemmas::answers_are_recorded))]
+pub fn answers_are_recorded()
+    ensures { AnswersAreRecorded }
+{}
+
+/// A caller's views rise, and an answered call's view already gives its precedence over its
+/// caller's later calls.
 pub fn views_of_a_caller_rise()
     // The view of a caller's later call contains that of an earlier one, in a valid book.
     ensures rise { ViewsRise }

@@ -1,5 +1,5 @@
 -- Legal orders, one call after another: what a legal order has after the calls of a cut is what may stand one after another there.
-use Rattle.std.proofs.Common.{◌≡◌, ◌≢◌, ℕ, zero, suc, ◌+◌, ◌<◌, ◌≤◌, ◌⊎◌, ◌∙◌, List, [], ◌∷◌, length, get_or, set, Some, refl, sym, ap, subst, inl, inr, slice_get, arith}
+use Rattle.std.proofs.Common.{◌≡◌, ◌≢◌, ℕ, zero, suc, ◌+◌, ◌<◌, ◌≤◌, ◌⊎◌, ◌∙◌, List, [], ◌∷◌, length, map, get_or, set, Some, refl, sym, ap, subst, inl, inr, slice_get, slice_index, arith}
 use Rattle.std.proofs.lemmas.Bool.{cases_eq, cases_lt}
 use Rattle.std.proofs.lemmas.List.{get_or-set_same, get_or-set_other, length-set, set_comm}
 use Rattle.std.proofs.lemmas.Option.{same_Some, none-some, slice_get_within, slice_get_cases}
@@ -9,10 +9,24 @@ use Rattle.book_base.specs.declared.call.Record.{Record}
 use Rattle.book_base.specs.declared.call.Place.{Place}
 use Rattle.book_base.specs.Cut.{Holds}
 use Rattle.book_base.specs.Book.{Page, page_of, IsCall, IsAnswered, record_of, Precedes}
-use Rattle.book_base.specs.Order.{call_at, StandsAt, IsLegalOrder}
+use Rattle.book_base.specs.Sequential.{IsRunFrom}
+use Rattle.book_base.specs.Order.{call_at, StandsAt, step_at, IsLegalOrder}
 use Rattle.book_base.proofs.PageLemmas.{caller_from_call}
 pub use Rattle.book_base.proofs.ViewLemmas.{same_call, answer_stands}
-use Rattle.book_base.specs.Next.{raised, MayComeNext, MayStandNext, list_after, Continues, IsLegalRest}
+use Rattle.book_base.specs.Next.{raised, MayComeNext, MayStandNext, list_after, Continues}
+
+-- What follows the calls of a cut in a legal order, from a list of the object on: the parts of a legal order, on the calls that
+-- the cut doesn't hold.
+pub record IsLegalRest (book : List Page) (next : List ℕ → ℕ → List ℕ × ℕ) (cut list : List ℕ) (rest : List Place) : Type 0 where
+  pub calls : (k : ℕ) (call : Call) → StandsAt rest k call → IsCall book call
+  pub outside : (k : ℕ) (call : Call) → StandsAt rest k call → slice_index cut call.caller ≤ call.number
+  pub once : (j k : ℕ) (call : Call) → StandsAt rest j call → StandsAt rest k call → j ≡ k
+  pub earlier : (k : ℕ) (call : Call) → StandsAt rest k call → (number : ℕ) → slice_index cut call.caller ≤ number → number < call.number
+      → (j : ℕ) × (j < k) × StandsAt rest j (record { caller = call.caller; number = number })
+  pub answered : (call : Call) (r : Record) → record_of book call ≡ Some r → slice_index cut call.caller ≤ call.number
+      → (k : ℕ) × (slice_get rest k ≡ Some (record { caller = call.caller; number = call.number; reply = r.reply }))
+  pub run : IsRunFrom next list (map (step_at book) rest)
+  pub precedence : (j k : ℕ) (a b : Call) → StandsAt rest j a → StandsAt rest k b → Precedes book a b → j < k
 
 -- a raised cut counts one more for the caller
 pub raised_same : (cut : List ℕ) (i : ℕ) → i < length cut → get_or (raised cut i) i 0 ≡ get_or cut i 0 + 1

@@ -20,8 +20,12 @@ use Rattle.book_laws.proofs.LegalOrder.{same_call, raised_same, raised_other, ra
 use Rattle.order_check.specs.declared.fault.OrderFault.{OrderFault}
 use Rattle.order_check.specs.declared.fault.OrderFault.TheVariants.{Unknown, Twice, Skipped, Late, Record, Run, Missing}
 use Rattle.order_check.specs.Fault.{FailsTest, list_before, reply_at, place_of, turn_of, step_of, HasTurnBefore, IsTriedBefore, IsFirstFault}
-use Rattle.order_check.specs.Standing.{IsStanding, IsInPlace, IsGiven, IsFirstAt}
+use Rattle.order_check.specs.Standing.{IsStanding, IsInPlace, IsFirstAt}
 use Rattle.order_check.proofs.Faults.{no_place, run_from_replies, stands_here, same_stands}
+
+-- the reply at place p is the one that the object gives there
+abbrev pub IsGiven : List ℕ → (List ℕ → ℕ → List ℕ × ℕ) → List Page → List Place → ℕ → Type 0
+IsGiven init next book order p = (place : Place) → slice_get order p ≡ Some place → reply_at init next book order p place ≡ place.reply
 
 -- place p passes the test of this turn
 abbrev pub PassesTest : List ℕ → (List ℕ → ℕ → List ℕ × ℕ) → List Page → List Place → ℕ → ℕ → Type 0

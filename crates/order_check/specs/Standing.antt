@@ -7,7 +7,7 @@ use Rattle.book_base.specs.Cut.{Holds}
 use Rattle.book_base.specs.Book.{Page, IsCall, record_of, Precedes}
 use Rattle.book_base.specs.Order.{call_at, StandsAt}
 use Rattle.order_check.specs.declared.fault.OrderFault.{OrderFault}
-use Rattle.order_check.specs.Fault.{reply_at, FailsTest, place_of, HasTurnBefore}
+use Rattle.order_check.specs.Fault.{FailsTest, place_of, HasTurnBefore}
 
 -- Before place p stand calls of the book, exactly those that the cut holds.
 pub record IsStanding (book : List Page) (order : List Place) (p : ℕ) (standing : List ℕ) : Type 0 where
@@ -29,10 +29,6 @@ pub record IsInPlace (book : List Page) (order : List Place) (p : ℕ) : Type 0 
   pub in_time : (j : ℕ) (a b : Call) → StandsAt order p a → j < p → StandsAt order j b → Precedes book a b → ⊥
   -- and it has its recorded reply, where it is answered
   pub recorded : (place : Place) (r : Record) → slice_get order p ≡ Some place → record_of book (call_at place) ≡ Some r → r.reply ≡ place.reply
-
--- the reply at place p is the one that the object gives there
-abbrev pub IsGiven : List ℕ → (List ℕ → ℕ → List ℕ × ℕ) → List Page → List Place → ℕ → Type 0
-IsGiven init next book order p = (place : Place) → slice_get order p ≡ Some place → reply_at init next book order p place ≡ place.reply
 
 -- The fault names the first of the tests of place p that the list fails.
 pub record IsFirstAt (init : List ℕ) (next : List ℕ → ℕ → List ℕ × ℕ) (book : List Page) (order : List Place) (p : ℕ) (fault : OrderFault) : Type 0 where

@@ -6,3 +6,4 @@ pub mod HeadTexts
 pub mod Readings
 pub mod Leading
 pub mod Heads
+pub mod Spelled

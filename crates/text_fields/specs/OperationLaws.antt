@@ -8,14 +8,13 @@ use Rattle.book_base.specs.OperationWord.{IsOperationWord}
 use Rattle.seq_objects.specs.declared.kind.Kind.{Kind}
 use Rattle.seq_objects.specs.declared.entry.Arity.{Arity}
 use Rattle.seq_objects.specs.declared.entry.Arity.TheVariants.{Nullary, Unary, Binary}
-use Rattle.seq_objects.specs.Words.{entry_of, operation_words, argument_words, Spells}
+use Rattle.seq_objects.specs.Words.{entry_of, operation_words, argument_words}
 use Rattle.seq_objects.proofs.Spelling.{operation_words-known, operation_words-unknown, Spells-once}
 use Rattle.seq_objects.proofs.Texts.{operation_words-IsWord}
 use Rattle.text_fields.specs.declared.version.Version.{Version}
 use Rattle.text_fields.specs.declared.version.Version.TheVariants.{First, Second}
 use Rattle.text_fields.specs.Version.{word_limit}
 use Rattle.text_fields.specs.Lines.{IsSolid, AreSolid}
-use Rattle.text_fields.specs.Operations.{IsSpelled, kind_operations}
 
 -- the operations of both versions are operation words
 pub small_word : (version : Version) (op : ℕ) → IsTrue (nat_lt op (word_limit version)) → IsOperationWord op
@@ -58,10 +57,3 @@ solid_kind_words version kind op h = record {
 
 pub few_kind_words : (kind : Kind) (op : ℕ) → length (operation_words kind op) ≤ 3
 few_kind_words kind op = (few_operation_words kind op).few
-
--- what a kind spells is spelled in texts, and no more is
-pub spelled_operation : (version : Version) (kind : Kind) (words : List (List ℕ)) (op used : ℕ) → IsTrue (nat_lt op (word_limit version)) → Spells kind words op used → IsSpelled (kind_operations version kind) words op used
-spelled_operation version kind words op used h s = record { has = h; behind = s.behind; whole = s.whole; count = s.count }
-
-pub spells_operation : (version : Version) (kind : Kind) (words : List (List ℕ)) (op used : ℕ) → IsSpelled (kind_operations version kind) words op used → Spells kind words op used
-spells_operation version kind words op used s = record { behind = s.behind; whole = s.whole; count = s.count }

@@ -9,9 +9,9 @@ use Rattle.book_base.proofs.PageLemmas.{caller_from_call}
 use Rattle.book_base.specs.Next.{raised}
 use Rattle.order_check.specs.declared.fault.OrderFault.TheVariants.{Run, Missing}
 use Rattle.order_check.specs.Fault.{IsFirstFault, reply_at}
-use Rattle.order_check.specs.Standing.{IsStanding, IsInPlace, IsGiven}
+use Rattle.order_check.specs.Standing.{IsStanding, IsInPlace}
 use Rattle.order_check.proofs.Faults.{no_place, stands_here, legal_orders_fail_no_test}
-use Rattle.order_check.proofs.Placing.{first_fault, run_first, number_in_line, standing_more, made_more, sum-raised, few_stand, list_more, reply_more, given_here, missing_first, legal}
+use Rattle.order_check.proofs.Placing.{IsGiven, first_fault, run_first, number_in_line, standing_more, made_more, sum-raised, few_stand, list_more, reply_more, given_here, missing_first, legal}
 use Rattle.order_check.proofs.order.check_order.Goals as goal
 
 pub returns-in-Some-clause-fault : goal.returns-in-Some-clause-fault

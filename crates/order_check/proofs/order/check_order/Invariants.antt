@@ -2,7 +2,8 @@ use Rattle.std.proofs.Common.{◌≡◌, ℕ, ◌+◌, ◌<◌, ◌≤◌, lengt
 use Rattle.book_base.specs.Book.{calls_of}
 use Rattle.order_check.specs.declared.order.TheConstants.{ROOM}
 use Rattle.order_check.specs.Fault.{list_before}
-use Rattle.order_check.specs.Standing.{IsStanding, IsInPlace, IsGiven}
+use Rattle.order_check.specs.Standing.{IsStanding, IsInPlace}
+use Rattle.order_check.proofs.Placing.{IsGiven}
 use Rattle.order_check.proofs.order.check_order.Given as goal
 
 abbrev pub invariant-loop-p : goal.invariant-loop-p

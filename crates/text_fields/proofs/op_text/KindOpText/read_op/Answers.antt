@@ -1,6 +1,7 @@
 use Rattle.list_laws.proofs.Options.{IfNone_then}
 use Rattle.text_fields.specs.declared.version.Version.TheVariants.{Second}
-use Rattle.text_fields.specs.OperationLaws.{small_word, spells_operation}
+use Rattle.text_fields.specs.OperationLaws.{small_word}
+use Rattle.text_fields.proofs.Spelled.{spells_operation}
 use Rattle.text_fields.proofs.op_text.KindOpText.read_op.Goals as goal
 
 pub returns-clause-none : goal.returns-clause-none

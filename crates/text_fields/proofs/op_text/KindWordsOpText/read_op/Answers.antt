@@ -2,7 +2,8 @@ use Rattle.std.proofs.Common.{◌≡◌, ℕ, false, sym, ap, ◌∙◌, arith}
 use Rattle.book_base.specs.OperationWord.{IsOperationWord}
 use Rattle.std.specs.Prelude.{nat_lt}
 use Rattle.text_fields.specs.Version.{word_limit}
-use Rattle.text_fields.specs.OperationLaws.{small_word, spells_operation}
+use Rattle.text_fields.specs.OperationLaws.{small_word}
+use Rattle.text_fields.proofs.Spelled.{spells_operation}
 use Rattle.seq_objects.proofs.Spelling.{Spells-once}
 use Rattle.text_fields.proofs.op_text.KindWordsOpText.read_op.Goals as goal
 
