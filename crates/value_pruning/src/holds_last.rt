@@ -10,9 +10,11 @@ use crate::values::value_put;
 use book_base::{Book, Call, Cut, Marks, Sight};
 use object_foresight::Reader;
 
-/// Which of the calls that may come next a search has to try, of a register that holds a value. One answered
-/// write alone, where no call outside the cut reads its value or the one held; and else no write over a value
-/// that is still read and no longer written, and no unanswered write of what isn't read.
+/// Which of the calls that may come next a search has to try, of a register that holds a value:
+/// some of those that are marked, and they suffice. Which ones, no clause says. One answered
+/// write alone, where no call outside the cut reads its value or the one held; and else no write
+/// over a value that is still read and no longer written, and no unanswered write of what isn't
+/// read.
 pub fn narrow_holds_last<R: Reader>(
     reader: &R,
     sight: &Sight,
@@ -47,8 +49,8 @@ pub fn narrow_holds_last<R: Reader>(
     }
 }
 
-// A marked caller whose next call is answered and writes what no call outside reads, where none reads the
-// value held either.
+// A marked caller whose next call is answered and writes what no call outside reads, where none
+// reads the value held either.
 fn unread_write<R: Reader>(
     reader: &R,
     sight: &Sight,
@@ -115,8 +117,8 @@ fn without_needless<R: Reader>(
     left
 }
 
-// Whether a caller's next call writes over a value that is irreplaceable, or is unanswered and writes what
-// no call outside reads.
+// Whether a caller's next call writes over a value that is irreplaceable, or is unanswered and
+// writes what no call outside reads.
 fn is_needless<R: Reader>(
     reader: &R,
     sight: &Sight,

@@ -9,9 +9,11 @@ use crate::values::{value_put, value_taken};
 use book_base::{Book, Call, Cut, Marks, Sight};
 use object_foresight::Reader;
 
-/// Which of the calls that may come next a search has to try, of a priority queue. Of the takes that show the
-/// least item one alone, where it has the least view of all that show it, also of those that may not come
-/// next yet; and else a put of a lesser value that is put in once, where its take may come next too.
+/// Which of the calls that may come next a search has to try, of a priority queue: some of those
+/// that are marked, and they suffice. Which ones, no clause says. Of the takes that show the
+/// least item one alone, where it has the least view of all that show it, also of those that may
+/// not come next yet; and else a put of a lesser value that is put in once, where its take may
+/// come next too; and else all.
 pub fn narrow_least_first<R: Reader>(
     reader: &R,
     sight: &Sight,
@@ -71,8 +73,8 @@ fn first_take<R: Reader>(
     }
 }
 
-/// A marked caller whose next call takes out a value, with the least view of all answered calls outside the
-/// cut that take it out. No clause says that one is found: that costs time alone.
+/// A marked caller whose next call takes out a value, with the least view of all answered calls
+/// outside the cut that take it out. No clause says that one is found: that costs time alone.
 pub fn next_take<R: Reader>(
     reader: &R,
     sight: &Sight,
@@ -104,8 +106,8 @@ pub fn next_take<R: Reader>(
     Some(take.caller)
 }
 
-// A marked caller whose next call alone puts in a value less than all items, where the value's take may come
-// next.
+// A marked caller whose next call alone puts in a value less than all items, where the value's
+// take may come next.
 fn least_put<R: Reader>(
     reader: &R,
     sight: &Sight,
@@ -129,8 +131,8 @@ fn least_put<R: Reader>(
     None
 }
 
-// Whether a marked caller's next call alone puts in a value less than all items, and the value's take may
-// come next.
+// Whether a marked caller's next call alone puts in a value less than all items, and the value's
+// take may come next.
 fn puts_least<R: Reader>(
     reader: &R,
     sight: &Sight,
