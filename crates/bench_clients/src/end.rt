@@ -64,23 +64,41 @@ pub fn end_all<'a, P: Program, T, E: Ending + Drop, A: Asks<Program = P, Pass = 
     lines: &mut Vec<Own>,
 ) -> bool
     ghost course: { Course }
+    // There is one worker for each caller of the script.
     requires all { vec_len workers ≡ length script.now.operations }
+    // The workers are those of the script's callers, from the last one on, and each has its client,
+    // at work on the course, which has made all phases of its allotment or was halted before.
     requires workers { AreDownFrom (length script.now.operations)
         (IsSpent P.meaning shared.now.rows.now E.says E.object (A.fits shared.now.asks.now) A.count course) workers.items }
+    // The bench is one of these rows.
     requires bench { IsBenchOf P.meaning shared.now.rows.now bench.old }
+    // The bench holds none of the script's callers.
     requires gone { (i : ℕ) → i < length script.now.operations → on_bench bench.old i ≡ None }
+    // No pass is in the list yet.
     requires no_passes { passes.old.items ≡ [] }
+    // The list of passes has room for one for each caller of the script.
     requires passes { length script.now.operations ≤ vec_capacity passes.old }
+    // No lines are in their list yet.
     requires no_lines { lines.old.items ≡ [] }
+    // The list of lines has room for those of each caller of the script.
     requires lines { length script.now.operations ≤ vec_capacity lines.old }
+    // The bench is still one of these rows.
     ensures bench { IsBenchOf P.meaning shared.now.rows.now bench.new }
+    // Each caller of the script is back on the bench with its pass and its lines, and has made a
+    // prefix of its phases; where no memory was wanted, its lines are those of its allotment and
+    // tell of just these phases, and where none of them is an error and it stopped between two
+    // calls, or made all of them, it is free for its next call.
     ensures back { AreBack P.meaning shared.now.rows.now E.says
         (A.fits shared.now.asks.now) A.count
         (length script.now.operations) (length script.now.operations) course bench.new
         passes.new.items (lines_in lines.new.items) result }
+    // The callers after those of the script are on the bench as before.
     ensures others { AreAlikeFrom (length script.now.operations) bench.old bench.new }
+    // There is one pass for each caller of the script.
     ensures all_passes { vec_len passes.new ≡ length script.now.operations }
+    // The list of passes has at least the capacity that it had.
     ensures capacity { vec_capacity passes.old ≤ vec_capacity passes.new }
+    // There is one list of lines for each caller of the script.
     ensures all_lines { vec_len lines.new ≡ length script.now.operations }
 {
     let mut wants_memory = false;

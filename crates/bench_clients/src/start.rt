@@ -18,9 +18,13 @@ use world_core::Program;
 /// How many phases a script gives a caller: those up to its stop, where it has one, and else all five of
 /// each call.
 pub fn allotment_of(script: &Script, who: u32) -> u64
+    // The script is one that texts of version 2 have.
     requires plan { IsPlan Second script.now }
+    // The caller is one of the script's.
     requires who { who < length script.now.operations }
+    // The answer is how many phases the caller may make by the script, where it goes on by itself.
     ensures allotment { result ≡ slice_index (run_allotments script.now) who }
+    // The answer is at most five phases for each of the caller's operations.
     ensures within { result ≤ 5 * length (operations_at script.now.operations who) }
 {
     match script.stop(who) {
@@ -88,21 +92,39 @@ pub fn start_all<'a, P: Program, T, E: Ending, A: Asks<Program = P, Pass = T>>(
     workers: &mut Vec<Worker<'a, P, T, E>>,
 )
     ghost object: { Sequential }
+    // The rows have room for the script's callers and their calls, and the bench is theirs and
+    // holds each of these callers, ready and idle, without a call.
     requires starts { MayStart P.meaning script.now shared.now.rows.now bench.old }
+    // There is a pass for each caller of the script, in order, which fits the caller; where it
+    // counts calls, none was made with it, and it has one for each operation.
     requires passes { AreFreshPasses shared.now.rows.now (A.fits shared.now.asks.now) A.count
         script.now.operations passes.old.items }
+    // There is one list of lines for each caller of the script.
     requires all_rooms { vec_len room ≡ length script.now.operations }
+    // Each list of lines is empty, and has room for a line for each operation of its caller.
     requires rooms { AreInOrder (IsRoomFor script.now.operations) room.items }
+    // There is one ending for each caller of the script.
     requires all_endings { vec_len endings ≡ length script.now.operations }
+    // All endings judge by the same sequential object.
     requires endings { All (λ e. E.object e ≡ object) endings.items }
+    // No worker is in the list yet.
     requires none_yet { workers.old.items ≡ [] }
+    // The list of workers has room for one for each caller of the script.
     requires capacity { length script.now.operations ≤ vec_capacity workers.old }
+    // The bench is still one of these rows.
     ensures bench { IsBenchOf P.meaning shared.now.rows.now bench.new }
+    // The bench holds none of the script's callers any more.
     ensures gone { (i : ℕ) → i < length script.now.operations → on_bench bench.new i ≡ None }
+    // The callers after those of the script are on the bench as before.
     ensures others { AreAlikeFrom (length script.now.operations) bench.old bench.new }
+    // No pass is left in the list.
     ensures no_passes { passes.new.items ≡ [] }
+    // The list of passes keeps its capacity.
     ensures capacity { vec_capacity passes.new ≡ vec_capacity passes.old }
+    // There is one worker for each caller of the script.
     ensures all { vec_len workers.new ≡ length script.now.operations }
+    // The workers are those of the script's callers, from the last one on, and each has its client,
+    // at work on the course that the script gives, before its first phase.
     ensures workers { AreDownFrom (length script.now.operations)
         (IsStart P.meaning shared.now.rows.now E.says E.object (A.fits shared.now.asks.now) A.count
         (course_of script.now (run_allotments script.now) object)) workers.new.items }

@@ -94,20 +94,38 @@ pub fn replay_all<'a, P: Program, T, E: Ending + Drop, A: Asks<Program = P, Pass
     endings: Vec<E>,
 ) -> Result<Vec<Own>, NoMemory>
     ghost object: { Sequential }
+    // The passes serve these rows.
     requires serves { A.serves shared.now.asks.now shared.now.rows.now }
+    // The rows have room for the script's callers and their calls, and the bench is theirs and
+    // holds each of these callers, ready and idle, without a call.
     requires starts { MayStart P.meaning script.now shared.now.rows.now bench.old }
+    // There is a pass for each caller of the script, in order, which fits the caller; where it
+    // counts calls, none was made with it, and it has one for each operation.
     requires passes { AreFreshPasses shared.now.rows.now (A.fits shared.now.asks.now) A.count
         script.now.operations passes.old.items }
+    // There is one ending for each caller of the script.
     requires all_endings { vec_len endings ≡ length script.now.operations }
+    // All endings judge by the same sequential object.
     requires endings { All (λ e. E.object e ≡ object) endings.items }
+    // The bench is still one of these rows.
     ensures bench { IsBenchOf P.meaning shared.now.rows.now bench.new }
+    // The callers after those of the script are on the bench as before.
     ensures others { AreAlikeFrom (length script.now.operations) bench.old bench.new }
+    // There is one pass for each caller of the script.
     ensures all_passes { vec_len passes.new ≡ length script.now.operations }
+    // The list of passes has at least the capacity that it had.
     ensures capacity { vec_capacity passes.old ≤ vec_capacity passes.new }
+    // Each caller of the script is back on the bench with its pass, which fits it, and has made a
+    // prefix of its phases: at most as many as the script's turns give it; where the pass counts
+    // calls, it counts those that were asked.
     ensures back { (i : ℕ) → i < length script.now.operations
         → IsBackOn P.meaning shared.now.rows.now (A.fits shared.now.asks.now) A.count
         script.now.operations (replay_allotments script.now) bench.new passes.new.items i }
+    // With lines there is one list of them for each caller of the script.
     ensures all_lines { IfOk result (λ lines. vec_len lines ≡ length script.now.operations) }
+    // With lines each caller's are those of its allotment and tell of just the phases that it has
+    // made; where none of them is an error and it stopped between two calls, or made all of them,
+    // it is free for its next call.
     ensures lines { IfOk result (λ lines. AreBack P.meaning shared.now.rows.now E.says
         (A.fits shared.now.asks.now) A.count (length script.now.operations) (length script.now.operations)
         (course_of script.now (replay_allotments script.now) object)

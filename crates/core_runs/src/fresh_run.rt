@@ -39,19 +39,31 @@ where
     O::S: Sync,
     O::P: Send + Sync,
     O::Pass: Send,
+    // Each caller may make at least one call.
     requires some_calls { 1 ≤ cap }
+    // The cap is at most `MAX_CALLS`.
     requires few_calls { cap ≤ MAX_CALLS }
+    // No caller of the script has more operations than the cap.
     requires calls { AreAtMost cap (sizes script.now.operations) }
+    // There is one pass for each caller of the script, in order, which fits the caller, the number
+    // of callers, the cap, and no object steps.
     requires passes { ArePassesFor (O.fits object.now) (length script.now.operations) cap passes.old.items }
+    // A report is of the script's kind, and its lines are those of the locals of some reachable
+    // world of the object's program; they are lawful, and each caller has made just the phases that
+    // its lines tell of.
     ensures report { IfOk result (λ report. (locals : List Local) × IsReportOf
         (O.S.init (O.sequential_of object.now)) (O.S.next (O.sequential_of object.now))
         (shape_with (O.P.meaning (O.program_of object.now)) (length script.now.operations) cap)
         locals script.now (run_allotments script.now) report) }
+    // A report is of the script's kind.
     ensures kind { IfOk result (λ report. report.kind ≡ script.now.kind) }
+    // A report's lines are lawful, by the object's sequential object, for a world of the object's
+    // program and the operations and the allotments of the script.
     ensures lawful { IfOk result (λ report. IsLawful (O.S.init (O.sequential_of object.now))
         (O.S.next (O.sequential_of object.now))
         (shape_with (O.P.meaning (O.program_of object.now)) (length script.now.operations) cap)
         script.now.operations (run_allotments script.now) report.lines) }
+    // No line of a report is an error.
     ensures no_error { IfOk result (λ report. list_any any_error report.lines ≡ false) }
 {
     let (rows, mut bench) = Rows::open(alloc, object.program(), script.callers(), cap)?;

@@ -10,6 +10,8 @@ pub fn reports_of_logs_are_logged()
 
 /// Each reply of a report over a tally has a tally's form, and over a cell a cell's.
 pub fn reports_of_words_are_formed()
+    // The reply of each answered call of a report over a tally has a tally's form.
     ensures tallies { ReportsOfTalliesAreFormed }
+    // The reply of each answered call of a report over a cell has a cell's form.
     ensures cells { ReportsOfCellsAreFormed }
 {}

@@ -41,21 +41,37 @@ where
     O::S: Sync,
     O::P: Send + Sync,
     O::Pass: Send,
+    // The rows were opened with the program of this object.
     requires program { AreOpenedWith O.P.meaning (O.program_of object.now) rows.now }
+    // The rows have just the script's callers and room for their calls, and the bench is theirs and
+    // holds each of these callers, ready and idle, without a call.
     requires begins { MayBegin O.P.meaning script.now 0 rows.now bench.old }
+    // There is one pass for each caller of the rows, in order, which fits the caller, the number of
+    // callers, the cap, and no object steps.
     requires passes { ArePassesFor (O.fits object.now) rows.now.callers rows.now.cap passes.old.items }
     // For every answer.
+    // The bench is still one of these rows, and holds all their callers.
     ensures bench { IsBenchOf O.P.meaning rows.now bench.new × HoldsAll bench.new }
+    // There is one pass for each caller of the script.
     ensures all_passes { vec_len passes.new ≡ length script.now.operations }
+    // Each caller of the script is back on the bench with its pass, which fits the object steps
+    // that it has made, and has made a prefix of its phases: at most as many as the script gives
+    // it.
     ensures back { (i : ℕ) → i < length script.now.operations → IsBackOn O.P.meaning rows.now
         (fits_inside (O.fits object.now)) (λ pass. None) script.now.operations (run_allotments script.now)
         bench.new passes.new.items i }
     // Where a report is answered.
+    // The report is of the script's kind, and its lines are those of the locals on the bench, which
+    // are of one reachable world; they are lawful, and each caller has made just the phases that
+    // its lines tell of.
     ensures report { IfOk result (λ report. IsReportOf (O.S.init (O.sequential_of object.now))
         (O.S.next (O.sequential_of object.now)) (shape_of O.P.meaning rows.now) (locals_on bench.new) script.now
         (run_allotments script.now) report) }
+    // By a report, each caller whose lines have no error and tell that it stopped between two
+    // calls, or made all of them, stands free for its next call.
     ensures free { IfOk result (λ report. (i : ℕ) → i < length script.now.operations
         → IsFreeAgain bench.new (run_allotments script.now) report i) }
+    // No line of a report is an error.
     ensures no_error { IfOk result (λ report. list_any any_error report.lines ≡ false) }
 {
     runs_of(object);

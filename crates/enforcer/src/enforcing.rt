@@ -161,38 +161,84 @@ pub fn enforce<S: SeqObject, B: BlackBox, L: Ledger>(
     guide: &mut Guide,
     steps: &mut Steps<L>,
 ) -> Result<(Caller, Outcome), Unjudged>
+    // The caller is one of these rows.
     requires rows { IsCallerOf ⟦<Outside as Program>⟧.meaning rows.now caller }
+    // The caller is idle.
     requires idle { IsIdle (local_with caller) }
+    // The caller has announced fewer calls than the cap.
     requires row { (local_with caller).announced < rows.now.cap }
+    // The caller makes calls, means to begin no scan, and keeps no reply.
     requires stands { stance_of caller ≡ ready }
+    // The pass is one of this object's.
     requires own { B.is_own object.now pass.old }
+    // The pass is this caller's.
     requires pass { B.Pass.caller pass.old ≡ who_of caller }
+    // The pass has made fewer calls than it may make.
     requires left { B.Pass.made pass.old < B.Pass.cap pass.old }
+    // The caller has peeked each word of the book that is kept, where there is one, and that book
+    // is one at its cut.
     requires gathered { IsGatheredBy (local_with caller) gathered.old }
+    // With an outcome the caller is still one of these rows, with the same number.
     ensures caller { IfOk result (λ r. IsStill ⟦<Outside as Program>⟧.meaning rows.now caller r.0) }
+    // With an outcome the caller is idle.
     ensures idle { IfOk result (λ r. IsIdle (local_with r.0)) }
+    // With `Delivered` the caller is ready for its next call, and with `Illegal` it is halted.
     ensures stands { IfOk result (λ r. stance_of r.0 ≡ stance_after r.1) }
+    // With an outcome the caller has made one call more than before, with this operation and the
+    // record and the seen cut of the outcome, and has published one record more.
     ensures progress { IfOk result (λ r. progress_of (local_with r.0) ≡ after_call op (record_in r.1) (cut_in r.1) (progress_of (local_with caller))) }
+    // The view and the seen cut of an outcome have one count for each caller.
     ensures wide { IfOk result (λ r. AreWide rows.now.callers (record_in r.1).view (cut_in r.1)) }
+    // The seen cut of an outcome holds each record that the caller has published, and no more of
+    // it.
     ensures own { IfOk result (λ r. HoldsOwn (cut_in r.1) r.0) }
+    // With an outcome the caller's local has each look, peek and cut that it had before.
     ensures grows { IfOk result (λ r. Grows (local_with caller) (local_with r.0)) }
+    // An outcome is right for a book at its seen cut each of whose words the caller has peeked: the
+    // order that it carries is a legal one of that book; or it carries the book, which has no legal
+    // order.
     ensures gathered { IfOk result (λ r. IsRightByPeeks (S.init sequential.now) (S.next sequential.now) rows.now.callers (local_with r.0) r.1) }
+    // In whichever reachable world has this local at the caller, the outcome is right for the book
+    // at the seen cut of all callers' calls: its order is a legal one of that book; or it carries
+    // that book, which has no legal order.
     ensures verdict { IfOk result (λ r. IsRightOf (S.init sequential.now) (S.next sequential.now) ⟦<Outside as Program>⟧.meaning rows.now r.0 r.1) }
+    // With an outcome the caller has peeked each word of the book that is now kept, where there is
+    // one, and that book is one at its cut.
     ensures kept { IfOk result (λ r. IsGatheredBy (local_with r.0) gathered.new) }
+    // After `Delivered` a book of as many callers as the rows have is kept, at the seen cut, and
+    // after `Illegal` none is.
     ensures kept_book { IfOk result (λ r. IsKeptBehind rows.now.callers r.1 gathered.new) }
+    // With an outcome the counter of steps has risen by at most four times the most words that a
+    // scan takes, and then once for each word of the call's book that the book kept before lacks,
+    // where that is of as many callers and its cut is within the seen one.
     ensures new_words { IfOk result (λ r.
         TicksForWholeCall rows.now.callers gathered.old r.1 gathered.new steps.old steps.new) }
+    // The caller of an unjudged call is still one of these rows, with the same number.
     ensures unjudged_caller { IfErr result (λ u. IsStill ⟦<Outside as Program>⟧.meaning rows.now caller u.caller) }
+    // The caller of an unjudged call is halted.
     ensures unjudged_stands { IfErr result (λ u. stance_of u.caller ≡ record ready { live = false }) }
+    // The caller of an unjudged call has made one call more than before, with this operation and
+    // the record and the seen cut of the answer, and has published one record more.
     ensures unjudged_progress { IfErr result (λ u. progress_of (local_with u.caller) ≡ after_call op (record_unjudged u) u.seen (progress_of (local_with caller))) }
+    // The view and the seen cut of an unjudged call have one count for each caller.
     ensures unjudged_wide { IfErr result (λ u. AreWide rows.now.callers u.view u.seen) }
+    // The seen cut of an unjudged call holds each record that its caller has published, and no more
+    // of it.
     ensures unjudged_own { IfErr result (λ u. HoldsOwn u.seen u.caller) }
+    // The local of the caller of an unjudged call has each look, peek and cut that it had before.
     ensures unjudged_grows { IfErr result (λ u. Grows (local_with caller) (local_with u.caller)) }
+    // After an unjudged call no book is kept.
     ensures unjudged_kept { IfErr result (λ u. gathered.new ≡ None) }
+    // The pass is still one of this object's.
     ensures pass { B.is_own object.now pass.new }
+    // The pass has made one call more.
     ensures made { B.Pass.made pass.new ≡ B.Pass.made pass.old + 1 }
+    // The pass keeps its caller and how many calls it may make.
     ensures same { (B.Pass.caller pass.new ≡ B.Pass.caller pass.old) × (B.Pass.cap pass.new ≡ B.Pass.cap pass.old) }
+    // A pass that tells its calls tells one more, with this operation and the reply of the call,
+    // judged or not; one that tells none still tells none.
     ensures told { B.Pass.told pass.new ≡ told_after op (reply_of result) (B.Pass.told pass.old) }
+    // The counter of steps has not fallen.
     ensures ticks { steps.old ≤ steps.new }
 {
     let viewed = apply(caller, rows, op, object, pass, steps);

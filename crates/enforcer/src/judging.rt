@@ -37,18 +37,32 @@ pub fn gather<P: Program, L: Ledger>(
     gathered: Option<Gathered>,
     steps: &mut Steps<L>,
 ) -> Result<Gathered, NoMemory>
+    // The caller of the seen call is one of these rows.
     requires rows { IsCallerOf P.meaning rows.now (caller_seen seen.old) }
+    // The caller has peeked each word of the book that it gathered before, where there is one, and
+    // that book is one at its cut.
     requires gathered { IsGatheredBy (local_with (caller_seen seen.old)) gathered }
+    // The caller is still one of these rows, with the same number.
     ensures caller { IsStill P.meaning rows.now (caller_seen seen.old) (caller_seen seen.new) }
+    // The seen call keeps its reply and its view.
     ensures record { (reply_seen seen.new ≡ reply_seen seen.old) × (view_seen seen.new ≡ view_seen seen.old) }
+    // The seen call keeps its cut.
     ensures cut { cut_seen seen.new ≡ cut_seen seen.old }
+    // The caller has made peeks alone, and the counter of steps has risen by 1 for each of them.
     ensures peeks { OnlyPeeks (caller_seen seen.old) (caller_seen seen.new) steps.old steps.new }
+    // What was gathered is at the seen cut.
     ensures at { IfOk result (λ g. g.cut ≡ cut_seen seen.new) }
+    // The caller has peeked each word of the book, which is one at the seen cut.
     ensures gathered { IfOk result (λ g.
         IsGathered rows.now.callers (local_with (caller_seen seen.new)) (cut_seen seen.new) g.book) }
+    // In whichever reachable world has this local at the caller, the book is the one at the seen
+    // cut of all callers' calls.
     ensures exact { IfOk result (λ g.
         IsTheBookAt P.meaning rows.now (caller_seen seen.new) (cut_seen seen.new) g.book) }
+    // The counter of steps has risen once for each word of the book that what was gathered before
+    // lacks, where that is of as many callers and its cut is within this one.
     ensures ticks { IfOk result (λ g. TicksForNew rows.now.callers gathered g steps.old steps.new) }
+    // The counter of steps has risen by at most the number of row words that the book has.
     ensures most { IfOk result (λ g. steps.new ≤ steps.old + words_of_book g.book) }
 {
     grow_at(alloc, rows, &mut seen.caller, gathered, &seen.cut, steps)
@@ -112,27 +126,60 @@ pub fn judge<P: Program, S: SeqObject, L: Ledger>(
     guide: &mut Guide,
     steps: &mut Steps<L>,
 ) -> Result<(Caller<P>, Outcome), Unjudged<P>>
+    // The caller of the seen call is one of these rows.
     requires rows { IsCallerOf P.meaning rows.now (caller_seen seen) }
+    // The caller has peeked each word of the book that is kept, where there is one, and that book
+    // is one at its cut.
     requires gathered { IsGatheredBy (local_with (caller_seen seen)) gathered.old }
+    // With an outcome the caller is still one of these rows, with the same number.
     ensures caller { IfOk result (λ r. IsStill P.meaning rows.now (caller_seen seen) r.0) }
+    // With an outcome the caller has made peeks alone, and the counter of steps has risen by 1 for
+    // each of them.
     ensures peeks { IfOk result (λ r. OnlyPeeks (caller_seen seen) r.0 steps.old steps.new) }
+    // With an outcome the caller is idle.
     ensures idle { IfOk result (λ r. IsIdle (local_with r.0)) }
+    // With `Delivered` the caller is ready for its next call, and with `Illegal` it is halted.
     ensures stands { IfOk result (λ r. stance_of r.0 ≡ stance_after r.1) }
+    // The reply and the view of an outcome are those of the seen call.
     ensures record { IfOk result (λ r. record_in r.1 ≡ record { reply = reply_seen seen; view = view_seen seen }) }
+    // The seen cut of an outcome is that of the seen call.
     ensures cut { IfOk result (λ r. cut_in r.1 ≡ cut_seen seen) }
+    // The seen cut of an outcome holds each record that the caller has published, and no more of
+    // it.
     ensures own { IfOk result (λ r. HoldsOwn (cut_in r.1) r.0) }
+    // An outcome is right for a book at its seen cut each of whose words the caller has peeked: the
+    // order that it carries is a legal one of that book; or it carries the book, which has no legal
+    // order.
     ensures gathered { IfOk result (λ r. IsRightByPeeks (S.init object.now) (S.next object.now) rows.now.callers (local_with r.0) r.1) }
+    // In whichever reachable world has this local at the caller, the outcome is right for the book
+    // at the seen cut of all callers' calls: its order is a legal one of that book; or it carries
+    // that book, which has no legal order.
     ensures verdict { IfOk result (λ r. IsRightOf (S.init object.now) (S.next object.now) P.meaning rows.now r.0 r.1) }
+    // With an outcome the caller has peeked each word of the book that is now kept, where there is
+    // one, and that book is one at its cut.
     ensures kept { IfOk result (λ r. IsGatheredBy (local_with r.0) gathered.new) }
+    // After `Delivered` a book of as many callers as the rows have is kept, at the seen cut, and
+    // after `Illegal` none is.
     ensures kept_book { IfOk result (λ r. IsKeptBehind rows.now.callers r.1 gathered.new) }
+    // With an outcome the counter of steps has risen once for each word of the call's book that the
+    // book kept before lacks, where that is of as many callers and its cut is within the seen one.
     ensures new_words { IfOk result (λ r.
         TicksForNewBehind rows.now.callers gathered.old r.1 gathered.new steps.old steps.new) }
+    // The caller of an unjudged call is still one of these rows, with the same number.
     ensures unjudged_caller { IfErr result (λ u. IsStill P.meaning rows.now (caller_seen seen) u.caller) }
+    // The caller of an unjudged call has made peeks alone, and the counter of steps has risen by 1
+    // for each of them.
     ensures unjudged_peeks { IfErr result (λ u. OnlyPeeks (caller_seen seen) u.caller steps.old steps.new) }
+    // The caller of an unjudged call is halted.
     ensures unjudged_stands { IfErr result (λ u. stance_of u.caller ≡ record ready { live = false }) }
+    // The reply, the view and the cut of an unjudged call are those of the seen call.
     ensures unjudged_record { IfErr result (λ u. (u.reply ≡ reply_seen seen) × (u.view ≡ view_seen seen) × (u.seen ≡ cut_seen seen)) }
+    // The seen cut of an unjudged call holds each record that its caller has published, and no more
+    // of it.
     ensures unjudged_own { IfErr result (λ u. HoldsOwn u.seen u.caller) }
+    // After an unjudged call no book is kept.
     ensures unjudged_kept { IfErr result (λ u. gathered.new ≡ None) }
+    // The counter of steps has not fallen.
     ensures ticks { steps.old ≤ steps.new }
 {
     let decided = decide(

@@ -33,7 +33,10 @@ pub fn standing_in(
     standing: Option<Standing>,
     cut: &Cut,
 ) -> Option<Standing>
+    // What is answered, where anything is, is what was handed in.
     ensures same { IfSome result (λ s. standing ≡ Some s) }
+    // Where anything is answered, a book is kept, it is of `n` callers, and its cut is within this
+    // one.
     ensures held { IfSome result (λ _. IsHeldIn n gathered.now cut.now) }
 {
     let Some(kept) = gathered else {
@@ -105,28 +108,60 @@ pub fn judge_line<P: Program, S: SeqObject, L: Ledger>(
     standing: &mut Option<Standing>,
     steps: &mut Steps<L>,
 ) -> Result<(Caller<P>, LineEnd), Unjudged<P>>
+    // The caller of the seen call is one of these rows.
     requires rows { IsCallerOf P.meaning rows.now (caller_seen seen) }
+    // The caller has peeked each word of the book that is kept, where there is one, and that book
+    // is one at its cut.
     requires gathered { IsGatheredBy (local_with (caller_seen seen)) gathered.old }
+    // Where a book is kept, what is kept of an order stands, for this object, in that book or in
+    // one from which it has grown.
     requires stands { StandsIn (S.init object.now) (S.next object.now) gathered.old standing.old }
+    // With an end of the line the caller is still one of these rows, with the same number.
     ensures caller { IfOk result (λ r. IsStill P.meaning rows.now (caller_seen seen) r.0) }
+    // With an end of the line the caller has made peeks alone, and the counter of steps has risen
+    // by 1 for each of them.
     ensures peeks { IfOk result (λ r. OnlyPeeks (caller_seen seen) r.0 steps.old steps.new) }
+    // With an end of the line the caller is idle.
     ensures idle { IfOk result (λ r. IsIdle (local_with r.0)) }
+    // With `Error` the caller is halted, and with any other end it is ready for its next call.
     ensures stance { IfOk result (λ r. stance_of r.0 ≡ stance_behind r.1) }
+    // The line ends with `Delivered` or with `Error`, with the record and the cut of the seen call.
     ensures end { IfOk result (λ r. IsVerdictOn (record { reply = reply_seen seen; view = view_seen seen }) (cut_seen seen) r.1) }
+    // With an end of the line the seen cut holds each record that the caller has published, and no
+    // more of it.
     ensures own { IfOk result (λ r. HoldsOwn (cut_seen seen) r.0) }
+    // The end of the line is right for a book at its cut each of whose words the caller has peeked:
+    // after `Delivered` that book has a legal order, and after `Error` it has none.
     ensures verdict { IfOk result (λ r.
         IsJudgedBy (S.init object.now) (S.next object.now) rows.now.callers (local_with r.0) r.1) }
+    // With an end of the line the caller has peeked each word of the book that is now kept, where
+    // there is one, and that book is one at its cut.
     ensures kept { IfOk result (λ r. IsGatheredBy (local_with r.0) gathered.new) }
+    // After `Delivered` a book of as many callers as the rows have is kept, at the seen cut, and
+    // after any other end none is.
     ensures kept_book { IfOk result (λ r. IsKeptBehindLine rows.now.callers r.1 gathered.new) }
+    // Where a book is now kept, what is kept of an order stands, for this object, in that book or
+    // in one from which it has grown.
     ensures stands { StandsIn (S.init object.now) (S.next object.now) gathered.new standing.new }
+    // Where a book is now kept, the counter of steps has risen once for each of its words that the
+    // book kept before lacks, where that is of as many callers and its cut is within the new one.
     ensures new_words { IfOk result (λ r. IfSome gathered.new (λ g.
         TicksForNew rows.now.callers gathered.old g steps.old steps.new)) }
+    // The caller of an unjudged call is still one of these rows, with the same number.
     ensures unjudged_caller { IfErr result (λ u. IsStill P.meaning rows.now (caller_seen seen) u.caller) }
+    // The caller of an unjudged call has made peeks alone, and the counter of steps has risen by 1
+    // for each of them.
     ensures unjudged_peeks { IfErr result (λ u. OnlyPeeks (caller_seen seen) u.caller steps.old steps.new) }
+    // The caller of an unjudged call is halted.
     ensures unjudged_stands { IfErr result (λ u. stance_of u.caller ≡ record ready { live = false }) }
+    // The reply, the view and the cut of an unjudged call are those of the seen call.
     ensures unjudged_record { IfErr result (λ u. (u.reply ≡ reply_seen seen) × (u.view ≡ view_seen seen) × (u.seen ≡ cut_seen seen)) }
+    // The seen cut of an unjudged call holds each record that its caller has published, and no more
+    // of it.
     ensures unjudged_own { IfErr result (λ u. HoldsOwn u.seen u.caller) }
+    // After an unjudged call no book is kept.
     ensures unjudged_kept { IfErr result (λ u. gathered.new ≡ None) }
+    // The counter of steps has not fallen.
     ensures ticks { steps.old ≤ steps.new }
 {
     let decided = decide_after(

@@ -26,13 +26,23 @@ pub fn publish<P: Program, L: Ledger>(
     rows: &Rows<P>,
     steps: &mut Steps<L>,
 ) -> Published<P>
+    // The caller of the viewed call is one of these rows.
     requires rows { IsCallerOf P.meaning rows.now (caller_viewed viewed) }
+    // The view has one count for each caller.
     requires wide { length (view_viewed viewed) ≡ rows.now.callers }
+    // The caller is still one of these rows, with the same number.
     ensures caller { IsStill P.meaning rows.now (caller_viewed viewed) (caller_published result) }
+    // The published call has the reply and the view of the viewed one.
     ensures record { (reply_published result ≡ reply_viewed viewed) × (view_published result ≡ view_viewed viewed) }
+    // The caller's local is the one before after a scan of M and the publication of the row that
+    // was staged, with no other event but stages; the row embeds the cut of that scan, which
+    // contains each count of M that the caller had looked at before.
     ensures published { IsPublication rows.now.callers (local_with (caller_viewed viewed)) (local_with (caller_published result)) }
+    // The caller has published one record more, and its progress is as before besides.
     ensures progress { progress_of (local_with (caller_published result)) ≡ after_publishing (progress_of (local_with (caller_viewed viewed))) }
+    // The caller's local has each look, peek and cut that it had before.
     ensures grows { Grows (local_with (caller_viewed viewed)) (local_with (caller_published result)) }
+    // The counter of steps has risen by at most the most words that a scan takes.
     ensures ticks { (steps.old ≤ steps.new) × (steps.new ≤ steps.old + most_words rows.now.callers) }
 {
     let reply = viewed.reply();

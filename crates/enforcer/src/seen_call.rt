@@ -47,7 +47,10 @@ impl<P> Seen<P> {
 
     /// The live caller, with its local as it is: the call isn't judged.
     pub fn defer(self) -> Caller<P>
+        // The caller that comes back is that of the seen call: it has the same number and the same
+        // local, and is of the same rows.
         ensures caller { IsSame (caller_seen self) result }
+        // The caller keeps its stance.
         ensures stance { stance_of result ≡ stance_of (caller_seen self) }
     {
         let Seen {
