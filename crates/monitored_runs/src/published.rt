@@ -15,7 +15,9 @@ pub fn judge_at<S: SeqObject>(
     book: &Book,
     cut: &Cut,
 ) -> Result<Option<Witness>, NoMemory>
+    // The cut has one count for each caller of the book.
     requires wide { length cut.now ≡ length book.now }
+    // Each record that the cut holds is in the book.
     requires within { IsWithin cut.now (answered book.now) }
     ensures { IfOk result (IsJudgedAt (S.init object.now) (S.next object.now) book.now cut.now) }
 {

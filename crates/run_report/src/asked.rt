@@ -40,22 +40,39 @@ pub fn run_asked<
     passes: &mut Vec<T>,
     script: &Script,
 ) -> Result<Report, NoMemory>
+    // The passes serve these rows.
     requires serves { A.serves shared.now.asks.now shared.now.rows.now }
+    // The rows have just the script's callers and room for their calls, and the bench is theirs and
+    // holds each of these callers, ready and idle, without a call.
     requires begins { MayBegin P.meaning script.now 0 shared.now.rows.now bench.old }
+    // There is a pass for each caller of the script, in order, which fits the caller; where it
+    // counts calls, none was made with it, and it has one for each operation.
     requires passes { AreFreshPasses shared.now.rows.now (A.fits shared.now.asks.now) A.count
         script.now.operations passes.old.items }
     // For every answer.
+    // The bench is still one of these rows, and holds all their callers.
     ensures bench { IsBenchOf P.meaning shared.now.rows.now bench.new × HoldsAll bench.new }
+    // There is one pass for each caller of the script.
     ensures all_passes { vec_len passes.new ≡ length script.now.operations }
+    // Each caller of the script is back on the bench with its pass, which fits it, and has made a
+    // prefix of its phases: at most as many as the script gives it; where the pass counts calls, it
+    // counts those that were asked.
     ensures back { (i : ℕ) → i < length script.now.operations → IsBackOn P.meaning shared.now.rows.now
         (A.fits shared.now.asks.now) A.count script.now.operations (run_allotments script.now)
         bench.new passes.new.items i }
     // Where a report is answered.
+    // The report is of the script's kind, and its lines are those of the locals on the bench, which
+    // are of one reachable world; they are lawful, and each caller has made just the phases that
+    // its lines tell of.
     ensures report { IfOk result (λ report. IsReportOf (S.init sequential.now) (S.next sequential.now)
         (shape_of P.meaning shared.now.rows.now) (locals_on bench.new) script.now
         (run_allotments script.now) report) }
+    // By a report, each caller whose lines have no error and tell that it stopped between two
+    // calls, or made all of them, stands free for its next call.
     ensures free { IfOk result (λ report. (i : ℕ) → i < length script.now.operations
         → IsFreeAgain bench.new (run_allotments script.now) report i) }
+    // By a report, each pass that counts calls counts exactly those that its caller's lines tell of
+    // as asked, and tells, where it tells anything, an operation and a reply for each of them.
     ensures counted { IfOk result (λ report. AreInOrder
         (IsCountedIn A.count (run_allotments script.now) report) passes.new.items) }
 {

@@ -8,8 +8,16 @@ ghost use Rattle.run_report.specs.Cases.{IsStoppedReport};
 /// phase has its record, and one that stops after its fourth has published it too: their lines are
 /// the same, and neither's report is the other's.
 pub fn stops_are_kept_to_the_phase()
+    // The worked report is that of a caller that stops after its third phase, where its record
+    // isn't published.
     ensures recorded { IsStoppedReport 3 (take 24 two_calls) }
+    // The worked report is that of a caller that stops after its fourth phase, where its record is
+    // published.
     ensures published { IsStoppedReport 4 (announced_both ++ published_one) }
+    // The worked report isn't that of a caller that stops after its fourth phase, where its record
+    // isn't published.
     ensures unpublished { ¬ IsStoppedReport 4 (take 24 two_calls) }
+    // The worked report isn't that of a caller that stops after its third phase, where its record
+    // is published.
     ensures published_too_soon { ¬ IsStoppedReport 3 (announced_both ++ published_one) }
 {}

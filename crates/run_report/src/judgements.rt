@@ -35,6 +35,8 @@ pub fn passes_are_fresh<B: BlackBox>(
     _passes: &Vec<B::Pass>,
     _script: &Script,
 )
+    // There is a pass of the object's own for each caller of the script, in order, with which no
+    // call was made, and which has a call for each operation of its caller.
     requires { AreUnusedPasses (B.is_own _object.now) B.Pass.caller B.Pass.made B.Pass.cap
         _script.now.operations _passes.now.items }
     ensures { AreFreshPasses _rows.now (fits_own (B.is_own _object.now) B.Pass.caller)

@@ -37,23 +37,40 @@ pub fn replay_over<S: SeqObject, B: BlackBox>(
     passes: &mut Vec<B::Pass>,
     script: &Script,
 ) -> Result<Report, NoMemory>
+    // The rows have just the script's callers and room for their calls, and the bench is theirs and
+    // holds each of these callers, ready and idle, without a call.
     requires begins { MayBegin ⟦<Outside as Program>⟧.meaning script.now 0 rows.now bench.old }
+    // There is a pass of the object's own for each caller of the script, in order, with which no
+    // call was made, and which has a call for each operation of its caller.
     requires passes { AreUnusedPasses (B.is_own object.now) B.Pass.caller B.Pass.made B.Pass.cap
         script.now.operations passes.old.items }
     // For every answer.
+    // The bench is still one of these rows, and holds all their callers.
     ensures bench { IsBenchOf ⟦<Outside as Program>⟧.meaning rows.now bench.new × HoldsAll bench.new }
+    // There is one pass for each caller of the script.
     ensures all_passes { vec_len passes.new ≡ length script.now.operations }
+    // Each caller of the script is back on the bench with its pass, and has made a prefix of its
+    // phases: at most as many as the script's turns give it; its pass counts those of its calls
+    // that were asked.
     ensures back { (i : ℕ) → i < length script.now.operations → IsBackOn
         ⟦<Outside as Program>⟧.meaning rows.now (fits_own (B.is_own object.now) B.Pass.caller)
         (own_count B.Pass.made B.Pass.cap B.Pass.told) script.now.operations (replay_allotments script.now)
         bench.new passes.new.items i }
+    // Each pass is one of this object's, and that of its caller, in order.
     ensures passes { AreInOrder (IsOwnPass (B.is_own object.now) B.Pass.caller) passes.new.items }
     // Where a report is answered.
+    // The report is of the script's kind, and its lines are those of the locals on the bench, which
+    // are of one reachable world; they are lawful, and each caller has made just the phases that
+    // its lines tell of.
     ensures report { IfOk result (λ report. IsReportOf (S.init sequential.now) (S.next sequential.now)
         (shape_of ⟦<Outside as Program>⟧.meaning rows.now) (locals_on bench.new) script.now
         (replay_allotments script.now) report) }
+    // By a report, each caller whose lines have no error and tell that it stopped between two
+    // calls, or made all of them, stands free for its next call.
     ensures free { IfOk result (λ report. (i : ℕ) → i < length script.now.operations
         → IsFreeAgain bench.new (replay_allotments script.now) report i) }
+    // By a report, each pass has made exactly the calls that its caller's lines tell of as asked,
+    // and tells, where it tells anything, an operation and a reply for each of them.
     ensures told { IfOk result (λ report. AreInOrder (IsToldIn B.Pass.made B.Pass.told
         (replay_allotments script.now) report) passes.new.items) }
 {

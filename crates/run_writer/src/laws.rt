@@ -17,8 +17,13 @@ pub fn a_report_and_its_counts_have_one_text()
 /// legal for the object by which it was judged: the object of the kind that it names, where that is
 /// the one. Two certificates of a report may differ in their orders alone.
 pub fn certificates_are_legal_and_tell_one_book()
+    // Whoever reads a certificate of a report reads the report's kind, and an order of its book
+    // that is legal for the object that the report was judged by.
     ensures legal { CertificatesAreLegal }
+    // Where that is the object of the report's kind, the order is legal for the kind that the
+    // certificate names.
     ensures of_their_kind { CertificatesAreOfTheirKind }
+    // Whoever reads two certificates of a report reads one kind and one book.
     ensures one_book { CertificatesTellOneBook }
 {}
 

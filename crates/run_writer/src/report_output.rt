@@ -26,6 +26,7 @@ pub fn write_report<S: SeqObject, K: Sink>(
     report: &Report,
     sink: &mut K,
 ) -> Status
+    // For a certificate, what was delivered by the report has a legal order.
     requires form { HasForm (object_by S.init S.next sequential.now) form report.now }
 
     // What was written, by the status.
@@ -35,6 +36,8 @@ pub fn write_report<S: SeqObject, K: Sink>(
     // Whether a line is an error decides the status, failed writes and want of memory aside.
     ensures found { list_any any_error report.now.lines ≡ true →
         (result ≡ Status.Found) ⊎ (result ≡ Status.WriteFault) ⊎ (result ≡ Status.NoMemory) }
+    // Where no line of the report is an error, the status is `Fine`, failed writes and want of
+    // memory aside.
     ensures fine { list_any any_error report.now.lines ≡ false →
         (result ≡ Status.Fine) ⊎ (result ≡ Status.WriteFault) ⊎ (result ≡ Status.NoMemory) }
 

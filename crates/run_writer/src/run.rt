@@ -50,14 +50,24 @@ pub fn run_and_write<R: Threads + Sync, B: BlackBox + Sync, K: Sink>(
 ) -> Status
 where
     B::Pass: Send,
+    // The rows have just the script's callers and room for their calls, and the bench is theirs and
+    // holds each of these callers, ready and idle, without a call.
     requires begins { MayBegin ⟦<Outside as Program>⟧.meaning script.now 0 rows.now bench.old }
+    // There is a pass of the object's own for each caller of the script, in order, with which no
+    // call was made, and which has a call for each operation of its caller.
     requires passes { AreUnusedPasses (B.is_own object.now) B.Pass.caller B.Pass.made B.Pass.cap
         script.now.operations passes.old.items }
 
     // What stands afterwards, whatever the answer.
+    // The bench is still one of these rows, and holds all their callers.
     ensures bench { IsBenchOf ⟦<Outside as Program>⟧.meaning rows.now bench.new × HoldsAll bench.new }
+    // There is one pass for each caller of the script.
     ensures all_passes { vec_len passes.new ≡ length script.now.operations }
+    // Each pass is one of this object's, and that of its caller, in order.
     ensures passes { AreInOrder (IsOwnPass (B.is_own object.now) B.Pass.caller) passes.new.items }
+    // Each caller of the script is back on the bench with its pass, and has made a prefix of its
+    // phases: at most as many as the script gives it; its pass counts those of its calls that were
+    // asked.
     ensures back { (i : ℕ) → i < length script.now.operations → IsBackOn
         ⟦<Outside as Program>⟧.meaning rows.now (fits_own (B.is_own object.now) B.Pass.caller)
         (own_count B.Pass.made B.Pass.cap B.Pass.told) script.now.operations (run_allotments script.now)
@@ -100,14 +110,24 @@ pub fn replay_and_write<B: BlackBox, K: Sink>(
     form: Form,
     sink: &mut K,
 ) -> Status
+    // The rows have just the script's callers and room for their calls, and the bench is theirs and
+    // holds each of these callers, ready and idle, without a call.
     requires begins { MayBegin ⟦<Outside as Program>⟧.meaning script.now 0 rows.now bench.old }
+    // There is a pass of the object's own for each caller of the script, in order, with which no
+    // call was made, and which has a call for each operation of its caller.
     requires passes { AreUnusedPasses (B.is_own object.now) B.Pass.caller B.Pass.made B.Pass.cap
         script.now.operations passes.old.items }
 
     // What stands afterwards, whatever the answer.
+    // The bench is still one of these rows, and holds all their callers.
     ensures bench { IsBenchOf ⟦<Outside as Program>⟧.meaning rows.now bench.new × HoldsAll bench.new }
+    // There is one pass for each caller of the script.
     ensures all_passes { vec_len passes.new ≡ length script.now.operations }
+    // Each pass is one of this object's, and that of its caller, in order.
     ensures passes { AreInOrder (IsOwnPass (B.is_own object.now) B.Pass.caller) passes.new.items }
+    // Each caller of the script is back on the bench with its pass, and has made a prefix of its
+    // phases: at most as many as the script's turns give it; its pass counts those of its calls
+    // that were asked.
     ensures back { (i : ℕ) → i < length script.now.operations → IsBackOn
         ⟦<Outside as Program>⟧.meaning rows.now (fits_own (B.is_own object.now) B.Pass.caller)
         (own_count B.Pass.made B.Pass.cap B.Pass.told) script.now.operations (replay_allotments script.now)
@@ -157,13 +177,23 @@ where
     O::S: Sync,
     O::P: Send + Sync,
     O::Pass: Send,
+    // The rows were opened with the program of this object.
     requires program { AreOpenedWith O.P.meaning (O.program_of object.now) rows.now }
+    // The rows have just the script's callers and room for their calls, and the bench is theirs and
+    // holds each of these callers, ready and idle, without a call.
     requires begins { MayBegin O.P.meaning script.now 0 rows.now bench.old }
+    // There is one pass for each caller of the rows, in order, which fits the caller, the number of
+    // callers, the cap, and no object steps.
     requires passes { ArePassesFor (O.fits object.now) rows.now.callers rows.now.cap passes.old.items }
 
     // What stands afterwards, whatever the answer.
+    // The bench is still one of these rows, and holds all their callers.
     ensures bench { IsBenchOf O.P.meaning rows.now bench.new × HoldsAll bench.new }
+    // There is one pass for each caller of the script.
     ensures all_passes { vec_len passes.new ≡ length script.now.operations }
+    // Each caller of the script is back on the bench with its pass, which fits the object steps
+    // that it has made, and has made a prefix of its phases: at most as many as the script gives
+    // it.
     ensures back { (i : ℕ) → i < length script.now.operations
         → IsBackOn O.P.meaning rows.now (fits_inside (O.fits object.now)) (λ pass. None)
         script.now.operations (run_allotments script.now) bench.new passes.new.items i }
@@ -177,6 +207,7 @@ where
 
     // So no error is found, and all is fine, failed writes and want of memory aside.
     ensures right { ¬ (result ≡ Status.Found) }
+    // The status is `Fine`, `WriteFault` or `NoMemory`.
     ensures fine { (result ≡ Status.Fine) ⊎ (result ≡ Status.WriteFault) ⊎ (result ≡ Status.NoMemory) }
 
     // By that report, each caller that stopped between two calls, or made all of its calls, stands
