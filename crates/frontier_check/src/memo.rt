@@ -27,8 +27,11 @@ impl Memo {
 
     /// A memo of no pairs, for cuts of this many callers.
     pub fn new(alloc: Global, callers: usize) -> Memo
+        // The pair of each entry lies in the memo's lists.
         ensures memo { IsMemo result }
+        // The memo is for cuts of this many callers.
         ensures callers { result.callers ≡ callers }
+        // The memo has no entry.
         ensures empty { result.entries.items ≡ [] }
     {
         Memo {
@@ -42,6 +45,7 @@ impl Memo {
 
     /// Whether a pair is found. No clause says that each remembered one is: that costs time alone.
     pub fn remembers(&self, counts: &[u16], words: &[u64]) -> bool
+        // The pair of each entry lies in the memo's lists.
         requires { IsMemo self.now }
         ensures { IsTrue result → Remembers self.now counts.now words.now }
     {
@@ -96,10 +100,16 @@ impl Memo {
 
     /// Remembers a pair, where it finds room in 32 bits for its place.
     pub fn remember(&mut self, alloc: Global, counts: &[u16], words: &[u64]) -> Result<(), NoMemory>
+        // The pair of each entry lies in the memo's lists.
         requires memo { IsMemo self.old }
+        // The cut has one count for each of the memo's callers.
         requires wide { length counts.now ≡ self.old.callers }
+        // Want of memory aside, the pair of each entry still lies in the memo's lists.
         ensures memo { OnOk result (IsMemo self.new) }
+        // The memo is for cuts of as many callers as before.
         ensures callers { self.new.callers ≡ self.old.callers }
+        // Want of memory aside, the memo remembers no pair but this one and those that it
+        // remembered before.
         ensures only { OnOk result ((cut list : List ℕ) → Remembers self.new cut list → Remembers self.old cut list ⊎ ((cut ≡ counts.now) × (list ≡ words.now))) }
     {
         let index = self.entries.len();

@@ -31,6 +31,7 @@ pub enum Verdict {
 /// The search goes depth first through the pairs of a cut and a state, and remembers those that it has
 /// left (after Wing and Gong 1993, and Lowe 2017).
 pub fn check<S: SeqObject>(alloc: Global, object: &S, book: &Book) -> Result<Verdict, NoMemory>
+    // A verdict `Legal` carries a legal order of the book, and with `Illegal` the book has none.
     ensures verdict { IfOk result (λ verdict. IsRight (S.init object.now) (S.next object.now) book.now verdict) }
 {
     match order_anywhere(alloc, object, book, &[])? {
@@ -51,7 +52,10 @@ pub fn check_from<S: SeqObject>(
     book: &Book,
     guide: &mut Guide,
 ) -> Result<Verdict, NoMemory>
+    // A verdict `Legal` carries a legal order of the book, and with `Illegal` the book has none.
     ensures verdict { IfOk result (λ verdict. IsRight (S.init object.now) (S.next object.now) book.now verdict) }
+    // With `Legal` the guide keeps the order that was found, and with `Illegal` the one that it
+    // had.
     ensures guide { IfOk result (IsKept guide.old guide.new) }
 {
     let order = match order_near(alloc, object, book, guide.places())? {
@@ -79,11 +83,16 @@ pub fn check_after<S: SeqObject>(
     book: &Book,
     standing: Option<Standing>,
 ) -> Result<Option<Standing>, NoMemory>
+    // What stands, where anything does, is for this object of this book, or of one from which it
+    // has grown.
     requires standing { IfSome standing (IsStandingFor (S.init object.now) (S.next object.now) book.now) }
+    // The order of what is found, where anything is, is a legal one of the book.
     ensures legal { IfOk result (λ found. IfSome found
         (λ s. IsLegalOrder (S.init object.now) (S.next object.now) book.now s.order.items)) }
+    // What is found, where anything is, stands for this object in the book.
     ensures stands { IfOk result (λ found. IfSome found
         (IsStandingFor (S.init object.now) (S.next object.now) book.now)) }
+    // Where nothing is found, and no memory was wanted, the book has no legal order.
     ensures illegal { IfOk result (λ found. IfNone found
         (HasLegalOrder (S.init object.now) (S.next object.now) book.now → ⊥)) }
 {

@@ -57,6 +57,7 @@ pub fn places(alloc: Global, levels: &[Level]) -> Result<Vec<Place>, NoMemory>
 
 /// Makes the list of a state these words. The room stays.
 pub fn load(state: &mut State, words: &[u64])
+    // The state has room for these words.
     requires { length words.now ≤ state.old.room }
     ensures { state.new ≡ record state.old { words = words.now } }
 {

@@ -38,6 +38,8 @@ pub fn hunt_and_write<R: Threads + Sync, B: BlackBox + Sync + Drop, M: Maker<B>,
 ) -> Status
 where
     B::Pass: Send + Drop,
+    // The settings' workload is one that texts of scripts have room for, with a value and an
+    // operation to draw.
     requires { IsWorkload settings.now.workload }
 
     // What was written, by the status: what is shown of the catch of the last run that was made, of

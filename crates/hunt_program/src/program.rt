@@ -45,6 +45,8 @@ pub fn run_hunt<
 >(rt: &R, maker: &M, settings: &Settings) -> ExitCode
 where
     B::Pass: Send + Drop,
+    // The settings' workload is one that texts of scripts have room for, with a value and an
+    // operation to draw.
     requires { IsWorkload settings.now.workload }
 {
     ExitCode::from(match command_words(rt) {

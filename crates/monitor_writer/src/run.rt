@@ -45,27 +45,48 @@ pub fn monitor_and_write<R: Threads + Sync, B: BlackBox + Sync, K: Sink>(
 ) -> Status
 where
     B::Pass: Send,
+    // The rows have just the script's callers and two more, and room for the calls of the script;
+    // the bench is theirs and holds each of these callers, ready and idle, without a call.
     requires begins { MayBegin ⟦<Outside as Program>⟧.meaning script.now 2 rows.now bench.old }
+    // There is a pass of the object's own for each caller of the script, in order, with which no
+    // call was made, and which has a call for each operation of its caller.
     requires passes { AreUnusedPasses (B.is_own object.now) B.Pass.caller B.Pass.made B.Pass.cap
         script.now.operations passes.old.items }
 
     // What stands afterwards, whatever the answer.
+    // The bench is still one of these rows, and holds all their callers.
     ensures bench { IsBenchOf ⟦<Outside as Program>⟧.meaning rows.now bench.new × HoldsAll bench.new }
+    // There is one pass for each caller of the script.
     ensures all_passes { vec_len passes.new ≡ length script.now.operations }
+    // The list of passes has at least the capacity that it had.
     ensures capacity { vec_capacity passes.old ≤ vec_capacity passes.new }
+    // Each pass is one of this object's, and that of its caller, in order.
     ensures passes { AreInOrder (IsOwnPass (B.is_own object.now) B.Pass.caller) passes.new.items }
+    // Each caller of the script is back on the bench with its pass, and has made a prefix of its
+    // phases: at most as many as the script gives it; its pass counts those of its calls that were
+    // asked.
     ensures back { (i : ℕ) → i < length script.now.operations → IsBackOn
         ⟦<Outside as Program>⟧.meaning rows.now (fits_own (B.is_own object.now) B.Pass.caller)
         (own_count B.Pass.made B.Pass.cap B.Pass.told) script.now.operations (run_allotments script.now)
         bench.new passes.new.items i }
+    // Both monitors are back on the bench, ready and idle, without a call.
     ensures monitors { (i : ℕ) → IsMonitor script.now i → IsUnused bench.new i }
 
     // Each caller made its phases up to its stop, or all of them, and each monitor its rounds, want of memory aside; where
     // a caller stopped between two calls, or made all of them, it stands free for its next call.
     ensures made { ¬ (result ≡ Status.NoMemory) → HaveMadeAll script.now (locals_on bench.new) }
+    // Want of memory aside, each caller of the script whose allotment ends between two calls, or
+    // after all of them, stands free for its next call.
     ensures free { ¬ (result ≡ Status.NoMemory) → AreFreeAgain script.now bench.new }
+    // Want of memory aside, each pass has made exactly the calls that the script lets its caller
+    // ask; what it tells, where it tells anything, begins with the operations and the replies of
+    // the caller's records, and is at most one pair longer.
     ensures told { ¬ (result ≡ Status.NoMemory)
         → AreInOrder (IsToldAll B.Pass.made B.Pass.told script.now (locals_on bench.new)) passes.new.items }
+    // Want of memory aside, the cuts that each monitor was given in this run are those of its
+    // rounds over the calls of all callers: at most one more than the script has calls; at each but
+    // the last the book has a legal order; and either there are as many as that, or the book at the
+    // last has none.
     ensures rounds { ¬ (result ≡ Status.NoMemory)
         → (i : ℕ) (l : Local) → IsMonitor script.now i → on_bench bench.old i ≡ Some l
         → HasMonitored (kind_init script.now.kind) (kind_next script.now.kind) script.now (locals_on bench.new) i l }
@@ -78,6 +99,8 @@ where
     // memory aside.
     ensures found { ¬ IsLegalRun script.now.kind (locals_on bench.new)
         → (result ≡ Status.Found) ⊎ (result ≡ Status.WriteFault) ⊎ (result ≡ Status.NoMemory) }
+    // Where the book of all published records has a legal order, the status is `Fine`, failed
+    // writes and want of memory aside.
     ensures fine { IsLegalRun script.now.kind (locals_on bench.new)
         → (result ≡ Status.Fine) ⊎ (result ≡ Status.WriteFault) ⊎ (result ≡ Status.NoMemory) }
 

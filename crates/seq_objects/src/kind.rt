@@ -49,7 +49,9 @@ const KINDS: &[Kind] = &[
 impl Kind {
     /// The kind with this name in texts.
     pub fn from_name(name: &[u8]) -> Option<Kind>
+        // A kind that is answered has this name.
         ensures found { IfSome result (λ kind. kind_name kind ≡ name.now) }
+        // Where none is answered, no kind has this name.
         ensures none { IfNone result ((kind : Kind) → kind_name kind ≢ name.now) }
     {
         KINDS
@@ -101,9 +103,12 @@ impl Kind {
         second: Option<&[u8]>,
         third: Option<&[u8]>,
     ) -> Option<(OpWord, u32)>
+        // The words begin with those of the operation that is answered: the first one, and as many
+        // further ones as is answered.
         ensures found { IfSome result (λ (op, used).
             let others = further (option_copied second.entry) (option_copied third.entry) in
             Spells self (first.now ∷ others) op used) }
+        // Where nothing is answered, the words begin with those of no operation.
         ensures none { IfNone result ((op used : ℕ) → IsOperationWord op →
             let others = further (option_copied second.entry) (option_copied third.entry) in
             ¬ (Spells self (first.now ∷ others) op used)) }
@@ -116,7 +121,9 @@ impl Kind {
 
     /// Appends the text of an operation word.
     pub fn put_op(self, out: &mut Vec<u8>, op: OpWord) -> Result<(), NoMemory>
+        // Without want of memory the list has the text of the operation word after what it held.
         ensures ok { OnOk result (out.new.items ≡ out.old.items ++ operation_text self op) }
+        // After want of memory the list has a prefix of that text after what it held.
         ensures err { OnErr result
             (AppendsFront out.old.items out.new.items (operation_text self op)) }
     {

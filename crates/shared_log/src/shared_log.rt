@@ -99,9 +99,14 @@ impl SharedLog {
     /// It makes at most one try for each place that the caller doesn't know to be filled, and loads the
     /// entries before its own that the caller doesn't know.
     pub fn append(&self, seat: &mut LogSeat, op: OpWord)
+        // The seat is one of this log.
         requires seat { IsSeatOf self.now seat.old }
+        // The seat's caller has made fewer calls than it may make.
         requires call { made_by seat.old < cap_of self.now }
+        // The seat is still one of this log, of the same caller.
         ensures seat { IsSeatOf self.now seat.new × (caller_of seat.new ≡ caller_of seat.old) }
+        // The seat's log begins with the one before and ends with this call, and has no other new
+        // entry of this caller.
         ensures log { HasCalled op seat.old seat.new }
     {
         let number = number(self.cap, seat.seat.who, seat.made);
@@ -153,12 +158,19 @@ impl SharedLog {
 
     /// An empty log for `n` callers with `cap` calls each, and a seat for each caller, in order.
     pub fn open(alloc: Global, n: u32, cap: u64) -> Result<(SharedLog, Vec<LogSeat>), NoMemory>
+        // The log is for at least one caller.
         requires some_callers { 1 ≤ n }
+        // The log is for at most `MAX_CALLERS` callers.
         requires few_callers { n ≤ MAX_CALLERS }
+        // Each caller may make at least one call.
         requires some_calls { 1 ≤ cap }
+        // Each caller may make at most `MAX_CALLS` calls.
         requires few_calls { cap ≤ MAX_CALLS }
+        // The log is for `n` callers, each of which may make `cap` calls.
         ensures log { IfOk result (λ r. (callers_of r.0 ≡ n) × (cap_of r.0 ≡ cap)) }
+        // The seats are those of all callers of the log, in order.
         ensures seats { IfOk result (λ r. AreSeatsOf r.0 r.1.items) }
+        // The log of each seat is empty.
         ensures empty { IfOk result (λ r. All (λ s. log_of s ≡ []) r.1.items) }
     {
         let places = place_count(n, cap);
@@ -204,8 +216,13 @@ impl SharedLog {
     /// The one log, which each seat's log is a front of. The seats of all callers come back, in order, each
     /// with whatever has it.
     pub fn close<P: Seated>(self, mut seats: Vec<P>) -> Vec<Entry>
+        // The seats are those of all callers of this log, in order.
         requires seats { AreSeatsOf self (map P.seat seats.items) }
+        // Each entry is of one of the log's callers, and no caller has more entries than it may
+        // make calls.
         ensures within { IsWithin (callers_of self) (cap_of self) result.items }
+        // The log that is answered begins with the log of each seat, and its entries of each caller
+        // are those that the caller's seat has.
         ensures log { IsOneLog result.items (map P.seat seats.items) }
     {
         let Some(last) = seats.pop() else {

@@ -303,7 +303,9 @@ pub fn queue_calls<K: Ledger + Send, L: Ledger + Send, R: Threads>(
     second: Blank,
     turns: Turns,
 ) -> Result<Calls, NoMemory>
+    // The first blank has the name and all parts of the ledger `K`, at least one.
     requires first { (first.name ≡ K.name) × (first.parts ≡ K.parts) × (0 < first.parts) }
+    // The second blank has the name and all parts of the ledger `L`, at least one.
     requires second { (second.name ≡ L.name) × (second.parts ≡ L.parts) × (0 < second.parts) }
 {
     calls_on::<K, L, R>(rt, alloc, Kind::Queue, first, second, turns)
