@@ -25,7 +25,7 @@ use std::thread::Threads;
 /// run of the object's program is linearizable (Herlihy and Wing 1990).
 ///
 /// Whatever the answer, the bench holds all callers again, the passes are in their order and fit the object steps
-/// that their callers have made, and each caller has made some first part of its phases: all of them where a
+/// that their callers have made, and each caller has made a prefix of its phases: all of them where a
 /// report is answered, and there each caller that stopped between two calls, or made all of them, stands free for
 /// its next call. Want of memory is answered before the first call, or where a judgement wanted it.
 pub fn run_core<R: Threads + Sync, O: CoreObject + Sync>(

@@ -123,7 +123,7 @@ use world_core::{Outside, Program};
 ///   gathered before. After `Delivered` it is the book that was judged: hand it to the same caller's next call. After
 ///   `Illegal`, which takes its book along, and after `Unjudged` it is `None`. Like the guide it never changes a
 ///   verdict, so `None` is always good; but then the words of all calls before are peeked again.
-/// - `guide`: the last order that was found, behind whose places the search for the next one begins. It costs or
+/// - `guide`: the last order that was found, after whose places the search for the next one begins. It costs or
 ///   saves time alone, and never changes a verdict, so a new one is always good.
 /// - `steps`: the counter that ticks with each word of the table that is looked at or peeked: those of four scans, and
 ///   those of the book that are new.

@@ -40,7 +40,7 @@ impl Front {
     }
 
     /// A front of the first of these places, as far as they follow one another and leave each answered
-    /// call of the book that isn't at them a place behind them.
+    /// call of the book that isn't at them a place after them.
     ///
     /// There is none where the object gives another reply than a place has, or where such a call is left no
     /// place. No clause says how far the places are taken: that costs time alone.
@@ -179,7 +179,7 @@ impl Front {
         record.reply == reply && self.cut.within(&record.view)
     }
 
-    /// Puts a place behind the others. Whether the object gave its reply.
+    /// Puts a place after the others. Whether the object gave its reply.
     pub fn put<S: SeqObject>(
         &mut self,
         object: &S,

@@ -51,7 +51,7 @@ impl<S> Drop for Search<'_, S> {
 }
 
 impl<S: SeqObject> Search<'_, S> {
-    /// Finds the places that make a legal order behind those of the front, if there are any.
+    /// Finds the places that make a legal order after those of the front, if there are any.
     pub fn run(&self) -> Result<Option<Vec<Place>>, NoMemory>
         requires foresight { IsForesight (S.init self.now.object.now) (S.next self.now.object.now) self.now.book.now self.now.known.now }
         requires open { IsTrue self.now.one_open → HasOneOpen self.now.book.now }
@@ -67,7 +67,7 @@ impl<S: SeqObject> Search<'_, S> {
         }
     }
 
-    /// The places that make a legal order behind those of the front, if they are found within so many steps.
+    /// The places that make a legal order after those of the front, if they are found within so many steps.
     /// `None` says nothing: there may be some, and no clause says that it looks so far.
     pub fn run_few(&self, steps: u64) -> Result<Option<Vec<Place>>, NoMemory>
         requires foresight { IsForesight (S.init self.now.object.now) (S.next self.now.object.now) self.now.book.now self.now.known.now }

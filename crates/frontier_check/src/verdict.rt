@@ -40,11 +40,11 @@ pub fn check<S: SeqObject>(alloc: Global, object: &S, book: &Book) -> Result<Ver
     }
 }
 
-/// Looks for a legal order as `check` does, and first behind the guide's places.
+/// Looks for a legal order as `check` does, and first after the guide's places.
 ///
 /// The guide keeps the order that is found, for the next book: a book with a few more calls than the
 /// last one mostly has an order that begins like the last one's. Those places are stepped through, and
-/// the search looks among the calls behind them alone; only where that finds none soon it looks
+/// the search looks among the calls after them alone; only where that finds none soon it looks
 /// everywhere.
 pub fn check_from<S: SeqObject>(
     alloc: Global,

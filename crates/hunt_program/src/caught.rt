@@ -34,7 +34,7 @@ pub(crate) fn caught_text(
     }
 }
 
-/// The text of a catch's report, and behind it that of its witness.
+/// The text of a catch's report, and after it that of its witness.
 fn report_and_witness(alloc: Global, kind: Kind, catch: &Catch) -> Result<Vec<u8>, NoMemory>
     ensures { IfOk result (λ text. IsReportShown kind catch.now text.items) }
 {

@@ -35,7 +35,7 @@ impl Watch for Tally {
 }
 
 /// Hunts over the objects that a maker makes, and writes the catch to standard output: its witness
-/// made small, or by the command word `report` the report of its run with the whole witness behind
+/// made small, or by the command word `report` the report of its run with the whole witness after
 /// it, or by `picture` the picture of the small one. How many runs that took goes to standard
 /// error.
 pub fn run_hunt<

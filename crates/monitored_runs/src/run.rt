@@ -82,7 +82,7 @@ fn judge_lines<S: SeqObject>(
 /// over what is published, each until one is illegal, and at most one more than the script has calls.
 ///
 /// The answer is a witness exactly where the book of all published records has no legal order, whoever found it, and
-/// each caller whose allotment ends between two calls, or behind all of them, then stands free for its next call.
+/// each caller whose allotment ends between two calls, or after all of them, then stands free for its next call.
 /// Whatever the answer, the bench holds all callers again, and the passes are in their order. Want of memory is
 /// answered before the first call, or where a judgement wanted it.
 pub fn monitor_asked<

@@ -24,8 +24,8 @@ use world_core::{Outside, Program};
 /// report, which is lawful.
 ///
 /// Whatever the answer, the bench holds all callers again, the passes are in their order, and each
-/// caller has made some first part of its phases: all of them where a report is answered, but for
-/// those behind an error. There each caller without an error that stopped between two calls, or
+/// caller has made a prefix of its phases: all of them where a report is answered, but for
+/// those after an error. There each caller without an error that stopped between two calls, or
 /// made all of them, stands free for its next call. Want of memory is answered before the first
 /// call, or where a judgement wanted it.
 pub fn run_over<R: Threads + Sync, S: SeqObject + Sync, B: BlackBox + Sync>(

@@ -213,7 +213,7 @@ impl SharedLog {
         longer(longest, log)
     }
 
-    /// The one log, which each seat's log is a front of. The seats of all callers come back, in order, each
+    /// The one log, which each seat's log is a prefix of. The seats of all callers come back, in order, each
     /// with whatever has it.
     pub fn close<P: Seated>(self, mut seats: Vec<P>) -> Vec<Entry>
         // The seats are those of all callers of this log, in order.
