@@ -182,8 +182,8 @@ fn next_place<S: SeqObject>(
     best
 }
 
-// How many calls a cut doesn't hold.
-fn calls_after(book: &Book, cut: &Cut) -> u64
+/// How many calls of a book a cut doesn't hold. No clause says so: it costs or saves time alone.
+pub fn calls_after(book: &Book, cut: &Cut) -> u64
     requires { length cut.now ≡ length book.now }
 {
     let mut left: u64 = 0;

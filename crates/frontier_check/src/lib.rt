@@ -9,6 +9,7 @@ mod mark;
 mod memo;
 mod one_open;
 mod plan;
+mod remaining;
 mod resume;
 mod search;
 mod twins;

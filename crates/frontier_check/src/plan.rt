@@ -4,13 +4,14 @@ use crate::front::Front;
 use book_base::{Book, Call, Cut, NoMemory, Place};
 use std::alloc::Global;
 
-/// The turn of each call among those that may come next: the least is tried first.
+/// The turn of each call after a front among those that may come next: the least is tried first.
 ///
 /// The turns are a guess. A search comes to the same verdict with any, so that no clause says what they
 /// are.
 #[derive(Drop)]
 pub struct Plan {
     turns: Vec<u32>,
+    first: Cut,
     most: u64,
     guided: u32,
 }
@@ -21,10 +22,11 @@ impl Plan {
     pub fn new(alloc: Global, book: &Book, later: &[Place], front: &Front) -> Result<Plan, NoMemory>
         requires { length front.now.cut ≡ length book.now }
     {
-        let most = most_calls(book);
+        let most = most_calls(book, &front.cut);
         let size = (book.callers() as usize).saturating_mul(most as usize);
         let mut plan = Plan {
             turns: vec![in alloc; u32::MAX; size]?,
+            first: front.cut,
             most,
             guided: u32::try_from(later.len()).unwrap_or(u32::MAX),
         };
@@ -60,12 +62,15 @@ impl Plan {
 
     // Where the turn of a call lies.
     fn place_of(&self, caller: u32, number: u64) -> Option<usize> {
-        if number < self.most {
-            let before = (caller as usize).saturating_mul(self.most as usize);
-            Some(before.saturating_add(number as usize))
-        } else {
-            None
+        if caller >= self.first.n() || number < self.first.get(caller) {
+            return None;
         }
+        let number = number - self.first.get(caller);
+        if number >= self.most {
+            return None;
+        }
+        let before = (caller as usize).saturating_mul(self.most as usize);
+        Some(before.saturating_add(number as usize))
     }
 
     /// The turn of a call. Beside those of the guide a call that leaves the object's list comes first: it
@@ -86,11 +91,13 @@ impl Plan {
 // What is added to the turn of a call that changes the object's list: more than any turn.
 const LATER: u64 = 1 << 32;
 
-// The most calls that a caller of a book made.
-fn most_calls(book: &Book) -> u64 {
+// The most calls that a caller of a book made after a cut.
+fn most_calls(book: &Book, cut: &Cut) -> u64
+    requires { length cut.now ≡ length book.now }
+{
     let mut most = 0;
     for caller in 0..book.callers() {
-        most = book.calls(caller).max(most);
+        most = book.calls(caller).saturating_sub(cut.get(caller)).max(most);
     }
     most
 }

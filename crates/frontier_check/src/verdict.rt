@@ -1,17 +1,19 @@
-ghost use Rattle.std.specs.Prelude.{◌≡◌, ◌++◌, IfOk, IfSome, IfNone, IsTrue, OnOk};
+ghost use Rattle.std.specs.Prelude.{◌≡◌, ◌++◌, IfOk, IfSome, IfNone, IsTrue};
 ghost use Rattle.book_base.specs.Foresight.{IsForesight};
 ghost use Rattle.book_base.specs.Order.{IsLegalOrder, HasLegalOrder};
 ghost use Rattle.book_base.specs.Pruning.{HasOneOpen};
 ghost use Rattle.frontier_check.specs.Front.{IsPut, IsFront};
 ghost use Rattle.frontier_check.specs.Standing.{AreMarks, IsStandingFor};
 ghost use Rattle.frontier_check.specs.Verdict.{IsRight, IsKept};
+ghost use Rattle.frontier_check.specs.declared.walk.TheConstants.{ROOM};
 
-use crate::fresh::{holds_answered, put_fresh};
+use crate::fresh::{calls_after, holds_answered, put_fresh};
 use crate::front::{Front, leaves_open, limit_of};
 use crate::guide::Guide;
 use crate::mark::{Mark, Standing};
 use crate::one_open::has_one_open;
 use crate::plan::Plan;
+use crate::remaining::decided_after;
 use crate::resume::resume;
 use crate::search::Search;
 use book_base::{Book, Call, Decision, Foresight, NoMemory, Place, SeqObject, Sight};
@@ -134,7 +136,7 @@ fn check_on<S: SeqObject>(
     if !put_fresh(alloc, object, book, later, &mut front, &mut marks)? {
         return check_anew(alloc, object, book, &front.places);
     }
-    match rest_after(alloc, object, book, later, &front)? {
+    match rest_after(alloc, object, book, later, &front, FIRST_STEPS)? {
         None => {
             let Front {
                 places,
@@ -185,17 +187,16 @@ fn check_before<S: SeqObject>(
             return check_anew(alloc, object, book, &order);
         }
         marks.truncate(left);
-        let found = order_after_mark(alloc, object, book, &order, &mut marks)?;
-        if let Some(order) = found {
-            return Ok(Some(Standing { order, marks }));
+        match order_after_mark(alloc, object, book, &order, &mut marks)? {
+            Some(order) => return Ok(Some(Standing { order, marks })),
+            None => fewer = fewer.saturating_mul(2).saturating_add(1),
         }
-        fewer = fewer.saturating_mul(2).saturating_add(1);
     }
     check_anew(alloc, object, book, &order)
 }
 
-// A legal order that begins as this one does up to the last of its marks that still stands, if one
-// is found soon. The marks after that one are gone.
+// A legal order that begins as this one does up to the last of its marks that still stands, if the
+// object decides what is left after it, or one is found soon. The marks after that one are gone.
 fn order_after_mark<S: SeqObject>(
     alloc: Global,
     object: &S,
@@ -208,11 +209,68 @@ fn order_after_mark<S: SeqObject>(
         (λ order. IsLegalOrder (S.init object.now) (S.next object.now) book.now order.items)) }
     ensures marks { IfOk result (λ found. IfSome found
         (λ order. AreMarks (S.init object.now) (S.next object.now) book.now order.items 0 marks.new.items)) }
-    ensures kept { OnOk result (AreMarks (S.init object.now) (S.next object.now) book.now order.now 0 marks.new.items) }
+    ensures kept { IfOk result (λ found. IfNone found
+        (AreMarks (S.init object.now) (S.next object.now) book.now order.now 0 marks.new.items)) }
 {
     let all = Vec::from_slice(alloc, order)?;
     let (front, later) = resume(alloc, object, book, all, marks)?;
-    let Some(rest) = rest_after(alloc, object, book, &later, &front)? else {
+    if let Some(places) = decided_after(alloc, object, book, &front)? {
+        let Some(order) = order_by(alloc, object, book, &places, front, marks)? else {
+            // Some of them may be marks of the places that are given up.
+            marks.clear();
+            return Ok(None);
+        };
+        return Ok(Some(order));
+    }
+    let Some(order) = order_on(alloc, object, book, &later, front, marks)? else {
+        return Ok(None);
+    };
+    Ok(Some(order))
+}
+
+// A legal order that begins with the places of a front and with those of these that follow them, if
+// what is left then is found soon.
+fn order_by<S: SeqObject>(
+    alloc: Global,
+    object: &S,
+    book: &Book,
+    places: &[Place],
+    mut front: Front,
+    marks: &mut Vec<Mark>,
+) -> Result<Option<Vec<Place>>, NoMemory>
+    requires put { IsPut (S.init object.now) (S.next object.now) book.now front }
+    requires room { front.here.room ≡ ROOM }
+    requires marks { AreMarks (S.init object.now) (S.next object.now) book.now front.places.items 0 marks.old.items }
+    ensures legal { IfOk result (λ found. IfSome found
+        (λ order. IsLegalOrder (S.init object.now) (S.next object.now) book.now order.items)) }
+    ensures marks { IfOk result (λ found. IfSome found
+        (λ order. AreMarks (S.init object.now) (S.next object.now) book.now order.items 0 marks.new.items)) }
+{
+    let limit = limit_of(book, &front.cut, places);
+    if !front.put_marked(alloc, object, book, &limit, places, marks)? {
+        return Ok(None);
+    }
+    order_on(alloc, object, book, &[], front, marks)
+}
+
+// A legal order that begins with the places of a front, if one is found soon: the later places are
+// tried first. The marks of those places are marks of it.
+fn order_on<S: SeqObject>(
+    alloc: Global,
+    object: &S,
+    book: &Book,
+    later: &[Place],
+    front: Front,
+    _marks: &[Mark],
+) -> Result<Option<Vec<Place>>, NoMemory>
+    requires put { IsPut (S.init object.now) (S.next object.now) book.now front }
+    requires marks { AreMarks (S.init object.now) (S.next object.now) book.now front.places.items 0 _marks.now }
+    ensures legal { IfOk result (λ found. IfSome found
+        (λ order. IsLegalOrder (S.init object.now) (S.next object.now) book.now order.items)) }
+    ensures marks { IfOk result (λ found. IfSome found
+        (λ order. AreMarks (S.init object.now) (S.next object.now) book.now order.items 0 _marks.now)) }
+{
+    let Some(rest) = rest_after(alloc, object, book, later, &front, STEPS)? else {
         return Ok(None);
     };
     let Front {
@@ -247,14 +305,15 @@ fn check_anew<S: SeqObject>(
     }
 }
 
-// The places that make a legal order after those of a front, if there are some that are found soon. The later places
-// are tried first.
+// The places that make a legal order after those of a front, if some are found in so many more
+// steps than calls are left. The later places are tried first.
 fn rest_after<S: SeqObject>(
     alloc: Global,
     object: &S,
     book: &Book,
     later: &[Place],
     front: &Front,
+    more: u64,
 ) -> Result<Option<Vec<Place>>, NoMemory>
     requires { IsPut (S.init object.now) (S.next object.now) book.now front.now }
     ensures { IfOk result (λ found. IfSome found (λ rest. IsLegalOrder (S.init object.now)
@@ -267,16 +326,19 @@ fn rest_after<S: SeqObject>(
         return Ok(Some(Vec::new(alloc)));
     }
     let known = Foresight::none(alloc);
-    places_behind(alloc, object, book, &known, later, front)
+    places_behind(alloc, object, book, &known, later, front, more)
 }
 
 // How often a search begins behind fewer of a guide's places: each time it leaves out twice as many as
 // before, so that it has left out nearly all after as many times as this.
 const ATTEMPTS: u32 = 9;
 
-// How many steps a search behind places has. It mostly needs one a call that is left; this many are a part
-// of what looking everywhere costs in a book of thousands of calls.
+// How many steps a search after places has beside one for each call that is left.
 const STEPS: u64 = 1000;
+
+// The same where it begins after all places of the last order: mostly it needs few, and else begins
+// at a mark.
+const FIRST_STEPS: u64 = 100;
 
 // A legal order that begins as a guide does, if one is found soon: first behind all the places of the
 // guide that still follow one another, and then behind ever fewer of them.
@@ -321,7 +383,7 @@ fn order_behind<S: SeqObject>(
 {
     let known = Foresight::none(alloc);
     let later = later_of(guide, front.places.len());
-    let Some(rest) = places_behind(alloc, object, book, &known, later, &front)? else {
+    let Some(rest) = places_behind(alloc, object, book, &known, later, &front, STEPS)? else {
         return Ok(None);
     };
     let Front {
@@ -342,7 +404,8 @@ fn later_of(guide: &[Place], taken: usize) -> &[Place] {
     }
 }
 
-// The places that make a legal order behind those of a front, if they are found soon.
+// The places that make a legal order after those of a front, if they are found in so many more steps
+// than calls are left.
 fn places_behind<S: SeqObject>(
     alloc: Global,
     object: &S,
@@ -350,6 +413,7 @@ fn places_behind<S: SeqObject>(
     known: &Foresight,
     later: &[Place],
     front: &Front,
+    more: u64,
 ) -> Result<Option<Vec<Place>>, NoMemory>
     requires foresight { IsForesight (S.init object.now) (S.next object.now) book.now known.now }
     requires front { IsFront (S.init object.now) (S.next object.now) book.now front.now }
@@ -369,7 +433,7 @@ fn places_behind<S: SeqObject>(
         plan: &plan,
         front,
     };
-    search.run_few(STEPS)
+    search.run_few(calls_after(book, &front.cut).saturating_add(more))
 }
 
 // A legal order, if there is one: where the object doesn't say, the search looks for it everywhere.

@@ -1,0 +1,14 @@
+use Rattle.std.proofs.Common.{List, sym, subst}
+use Rattle.book_base.specs.declared.call.Place.{Place}
+use Rattle.frontier_check.specs.Standing.{AreMarks}
+use Rattle.frontier_check.proofs.Resuming.{marks_longer}
+use Rattle.frontier_check.proofs.verdict.order_on.Goals as goal
+
+pub returns-clause-marks : goal.returns-clause-marks
+returns-clause-marks g c =
+    let init = g.S.SeqObject.init c.args.object.now in
+    let next = g.S.SeqObject.next c.args.object.now in
+    let book = c.args.book.now in
+    let marks = c.args._marks.now in
+    subst (λ (ps : List Place). AreMarks init next book ps 0 marks) (sym c.in_ok-extend_from_slice.ensures.items)
+    (marks_longer init next book c.args.front.places.items c.deref.result.now 0 marks c.requires.marks)
