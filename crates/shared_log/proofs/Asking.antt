@@ -52,9 +52,9 @@ module _ (n cap who key_callers key_cap callers jc jw : ℕ) (key_n : key_caller
 
   pub place_asks : (word op ticket : ℕ) → length (calls_by who h.log) < cap → h.staged ≡ low_of op ∷ high_of op ∷ [] → length h.log < n * cap
       → word ≡ ticket_index n cap (length h.log) → ticket ≡ next_number cap who h + 1
-      → Allows (Ruled key_callers key_cap) slots id me word (λ x. either (x == 0) ticket x) (λ found after. Turns jw me after (Places callers jc jw found))
+      → Allows (Ruled key_callers key_cap) slots id me word (λ x. either (x == 0) ticket x) (λ found after. Turns jw me after (Places callers jc jw word found))
   place_asks word op ticket left staged room is own =
-      subst (λ (y : Numbers). Allows (Ruled y.0 y.1) slots id me word (λ x. either (x == 0) ticket x) (λ found after. Turns y.4 me after (Places y.2 y.3 y.4 found))) told
+      subst (λ (y : Numbers). Allows (Ruled y.0 y.1) slots id me word (λ x. either (x == 0) ticket x) (λ found after. Turns y.4 me after (Places y.2 y.3 y.4 word found))) told
       (steps.places n cap slots id who me h (alone_here me who h alone) word op ticket left staged room is own)
 
   pub read_asks : (word : ℕ) → Allows (Ruled key_callers key_cap) slots id me word (λ x. x) (λ found after. Turns jw me after (Reads jc word found))

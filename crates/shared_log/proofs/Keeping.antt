@@ -68,7 +68,7 @@ module _ (n cap who : ℕ) (words : List ℕ) (log : List Entry) (h : Hand) (wor
         ∙ sym (ap (slice_index (h.staged ++ x ∷ [])) (last ∙ sym zero_more) ∙ get_or-append-add h.staged (x ∷ []) 0 0)
   ]
 
-  pub stage_fits : Fits n cap staged_words log who (hand h.log (h.staged ++ x ∷ []))
+  pub stage_fits : Fits n cap staged_words log who (hand h.log (h.staged ++ x ∷ []) h.tried)
   stage_fits =
       record {
         caller = fits.caller;
@@ -112,9 +112,9 @@ module _ (n cap who : ℕ) (words : List ℕ) (log : List Entry) (h : Hand)
     | (e ∷ rest) ↦ λ is. (e, rest, is)
   ] fits.front.1
 
-  module _ (e : Entry) (rest : List Entry) (is : log ≡ h.log ++ e ∷ rest) where
+  module _ (e : Entry) (rest : List Entry) (is : log ≡ h.log ++ e ∷ rest) (tried : List ℕ) where
     abbrev pub learnt : Hand
-    learnt = hand (h.log ++ e ∷ []) h.staged
+    learnt = hand (h.log ++ e ∷ []) h.staged tried
 
     front_is : log ≡ (h.log ++ e ∷ []) ++ rest
     front_is = is ∙ sym (append_assoc h.log (e ∷ []) rest)
@@ -143,7 +143,7 @@ module _ (n cap who : ℕ) (words : List ℕ) (log : List Entry) (h : Hand)
           staged = λ half low. ap (λ (k : ℕ). slice_index words (operation_index (number_of cap who k) + half)) count ∙ fits.staged half low;
         }
 
-    pub learn_tells : Learns n cap who ticket_there h learnt
+    pub learn_tells : Learns n cap who ticket_there tried h learnt
     learn_tells =
         record {
           entry = e;
@@ -246,8 +246,8 @@ module _ (n cap who : ℕ) (words : List ℕ) (log : List Entry) (h : Hand)
     pub placed_is : placed_log ≡ h.log ++ mine ∷ []
     placed_is = ap (λ (l : List Entry). l ++ mine ∷ []) whole
 
-    pub place_fits : Fits n cap placed_words placed_log who (hand (h.log ++ mine ∷ []) [])
-    place_fits =
+    pub place_fits : (tried : List ℕ) → Fits n cap placed_words placed_log who (hand (h.log ++ mine ∷ []) [] tried)
+    place_fits tried =
         record {
           caller = fits.caller;
           front = ([], placed_is ∙ sym (append-nil (h.log ++ mine ∷ [])));

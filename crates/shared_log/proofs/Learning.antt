@@ -4,13 +4,13 @@ use Rattle.std.proofs.lemmas.Nat.{div-mul-add}
 use Rattle.std.specs.Prelude.{Some}
 use Rattle.shared_log.specs.declared.entry.Entry.{Entry}
 use Rattle.shared_log.specs.Entries.{calls_by, IsWithin}
-use Rattle.shared_log.specs.Words.{number_behind}
+use Rattle.shared_log.specs.Words.{number_behind, MayHaveTried}
 use Rattle.shared_log.specs.Hands.{Hand}
 use Rattle.shared_log.specs.Rule.{Learns, Finds}
 use Rattle.shared_log.proofs.Logs.{within_at}
 use Rattle.shared_log.proofs.Numbers.{number_low}
 
-module _ (n cap who found : ℕ) (h next : Hand) (l : Learns n cap who found h next) where
+module _ (n cap who found : ℕ) (tried : List ℕ) (h next : Hand) (l : Learns n cap who found tried h next) where
   standing : (l.entry.caller < n) × (length (calls_by l.entry.caller h.log) < cap)
   standing = within_at n cap h.log [] l.entry (subst (λ (g : Hand). IsWithin n cap g.log) l.log l.within)
 
@@ -26,13 +26,15 @@ module _ (n cap who found : ℕ) (h next : Hand) (l : Learns n cap who found h n
   pub caller_low : (found - 1) / cap < n
   caller_low = subst (λ (k : ℕ). k < n) (sym learnt_caller) standing.0
 
-  pub finds_entry : (own : ℕ) (after : Hand) (op : ℕ) → after ≡ next
+  pub finds_entry : (word own : ℕ) (after : Hand) (op : ℕ) → MayHaveTried word h.tried tried → after ≡ next
       → ((before rest : List Entry) (e : Entry) → next.log ≡ before ++ e ∷ rest → found - 1 ≡ number_behind cap before e → op ≡ e.op)
-      → Finds n cap who own h after (Some (record { caller = (found - 1) / cap; op = op }))
-  finds_entry own after op is reads =
+      → Finds n cap who word own h after (Some (record { caller = (found - 1) / cap; op = op }))
+  finds_entry word own after op may is reads =
       let op_is : op ≡ l.entry.op = reads h.log [] l.entry (ap (λ (g : Hand). g.log) l.log) number_is in
       let entry_is : l.entry ≡ record { caller = (found - 1) / cap; op = op } = (λ i. record { caller = sym learnt_caller i; op = sym op_is i }) in (
-        is ∙ l.log ∙ (λ i. record { log = h.log ++ entry_is i ∷ []; staged = h.staged }),
+        tried,
+        may,
+        is ∙ l.log ∙ (λ i. record { log = h.log ++ entry_is i ∷ []; staged = h.staged; tried = tried }),
         ap (λ (g : Hand). calls_by who g.log) is ∙ l.other,
         subst (λ (g : Hand). IsWithin n cap g.log) (sym is) l.within,
       )

@@ -5,7 +5,9 @@ pub mod Numbers
 pub mod Keeping
 pub mod Stepping
 pub mod Asking
+pub mod Trying
 pub mod Learning
 pub mod Parting
 pub mod Dealing
+pub mod Coming
 pub mod Closing

@@ -32,7 +32,7 @@ module _ (n cap slots id who : ℕ) (me : Me (Unit {0}) View) (h : Hand) (here :
       → Allows (Ruled n cap) slots id me word (λ _. x) (λ _ after. Turns who me after (Stages x))
   stages word x left few is t r long at low =
       let fits = (r.hands.held who id me.0 h at here).1 in
-      let next = hand h.log (h.staged ++ x ∷ []) in (
+      let next = hand h.log (h.staged ++ x ∷ []) h.tried in (
         slice_set me.0 who (Some next),
         keeps,
         tt,
@@ -44,27 +44,27 @@ module _ (n cap slots id who : ℕ) (me : Me (Unit {0}) View) (h : Hand) (here :
               (stage_fits n cap who t.words r.log h word x r.stand fits left few is)
               (stage_others n cap who t.words r.log h word x r.stand fits left few is);
         },
-        record { next = next; moved = refl; told = ap (λ (g : Hand). hand g.log (g.staged ++ x ∷ [])) (sym same_hand) },
+        record { next = next; moved = refl; told = ap (λ (g : Hand). hand g.log (g.staged ++ x ∷ []) g.tried) (sym same_hand) },
       )
 
   -- an entry is learnt
   learns : (t : State (Unit {0}) View) (r : HaveOneLog n cap t.words t.views) → get_elem? t.views id ≡ some me.0 → length h.log < n * cap
-      → slice_index t.words (ticket_index n cap (length h.log)) ≢ 0
-      → (next : Hand) × HaveOneLog n cap t.words (slice_set t.views id (slice_set me.0 who (Some next))) × Learns n cap who (slice_index t.words (ticket_index n cap (length h.log))) h next
-  learns t r at low filled =
+      → slice_index t.words (ticket_index n cap (length h.log)) ≢ 0 → (tried : List ℕ)
+      → (next : Hand) × HaveOneLog n cap t.words (slice_set t.views id (slice_set me.0 who (Some next))) × Learns n cap who (slice_index t.words (ticket_index n cap (length h.log))) tried h next
+  learns t r at low filled tried =
       let fits = (r.hands.held who id me.0 h at here).1 in
       let there = next_entry n cap who t.words r.log h r.stand fits low filled in
-      let next = learnt n cap who t.words r.log h r.stand fits low there.0 there.1 there.2 in (
+      let next = learnt n cap who t.words r.log h r.stand fits low there.0 there.1 there.2 tried in (
         next,
         record {
           log = r.log;
           stand = r.stand;
           hands =
               held_changed (Fits n cap t.words r.log) (Fits n cap t.words r.log) t.views id me.0 who h next r.hands at here
-              (learn_fits n cap who t.words r.log h r.stand fits low there.0 there.1 there.2)
+              (learn_fits n cap who t.words r.log h r.stand fits low there.0 there.1 there.2 tried)
               (λ i m ne was. was);
         },
-        learn_tells n cap who t.words r.log h r.stand fits low there.0 there.1 there.2,
+        learn_tells n cap who t.words r.log h r.stand fits low there.0 there.1 there.2 tried,
       )
 
   -- nothing is learnt
@@ -93,7 +93,7 @@ module _ (n cap slots id who : ℕ) (me : Me (Unit {0}) View) (h : Hand) (here :
           record { next = h; moved = refl; told = record { free = λ _. sym same_hand; filled = λ ne. absurd (ne free) } },
         )
         | inr filled ↦
-            let learnt = learns t r at room (λ e. filled (sym x_is ∙ e)) in (
+            let learnt = learns t r at room (λ e. filled (sym x_is ∙ e)) h.tried in (
               slice_set me.0 who (Some learnt.0),
               keeps,
               tt,
@@ -104,7 +104,7 @@ module _ (n cap slots id who : ℕ) (me : Me (Unit {0}) View) (h : Hand) (here :
                 told =
                     record {
                       free = λ e. absurd (filled e);
-                      filled = λ _. subst (λ (y : ℕ × Hand). Learns n cap who y.0 y.1 learnt.0) (λ i. (x_is i, sym same_hand i)) learnt.2;
+                      filled = λ _. subst (λ (y : ℕ × Hand). Learns n cap who y.0 y.1.tried y.1 learnt.0) (λ i. (x_is i, sym same_hand i)) learnt.2;
                     };
               },
             )
@@ -112,7 +112,7 @@ module _ (n cap slots id who : ℕ) (me : Me (Unit {0}) View) (h : Hand) (here :
 
   pub places : (word op ticket : ℕ) → length (calls_by who h.log) < cap → h.staged ≡ low_of op ∷ high_of op ∷ [] → length h.log < n * cap
       → word ≡ ticket_index n cap (length h.log) → ticket ≡ next_number cap who h + 1
-      → Allows (Ruled n cap) slots id me word (λ x. either (x == 0) ticket x) (λ found after. Turns who me after (Places n cap who found))
+      → Allows (Ruled n cap) slots id me word (λ x. either (x == 0) ticket x) (λ found after. Turns who me after (Places n cap who word found))
   places word op ticket left staged room is own t r long at low =
       let x : ℕ = slice_index t.words word in
       let x_is : slice_index t.words (ticket_index n cap (length h.log)) ≡ x = ap (slice_index t.words) (sym is) in
@@ -120,7 +120,7 @@ module _ (n cap slots id who : ℕ) (me : Me (Unit {0}) View) (h : Hand) (here :
         | inl free ↦
             let fits = (r.hands.held who id me.0 h at here).1 in
             let zero : slice_index t.words (ticket_index n cap (length h.log)) ≡ 0 = x_is ∙ free in
-            let next = hand (h.log ++ entry who op ∷ []) [] in
+            let next = hand (h.log ++ entry who op ∷ []) [] (h.tried ++ word ∷ []) in
             let written : slice_set t.words (ticket_index n cap (length h.log)) ticket ≡ slice_set t.words word (either (x == 0) ticket x) =
             (λ i. slice_set t.words (sym is i) (sym (ap (λ b. either b ticket x) (eq-eqb x 0 free)) i)) in (
               slice_set me.0 who (Some next),
@@ -132,7 +132,7 @@ module _ (n cap slots id who : ℕ) (me : Me (Unit {0}) View) (h : Hand) (here :
                     stand = place_stands n cap who t.words r.log h r.stand fits room op left staged zero ticket own;
                     hands =
                         held_changed (Fits n cap t.words r.log) _ t.views id me.0 who h next r.hands at here
-                        (place_fits n cap who t.words r.log h r.stand fits room op left staged zero ticket own)
+                        (place_fits n cap who t.words r.log h r.stand fits room op left staged zero ticket own (h.tried ++ word ∷ []))
                         (place_others n cap who t.words r.log h r.stand fits room op left staged zero ticket own);
                   }),
               record {
@@ -145,7 +145,7 @@ module _ (n cap slots id who : ℕ) (me : Me (Unit {0}) View) (h : Hand) (here :
                           let lows : low_of o ≡ low_of op = ap (λ (l : List ℕ). slice_index l 0) all in
                           let highs : high_of o ≡ high_of op = ap (λ (l : List ℕ). slice_index l 1) all in
                           let same : o ≡ op = sym (mod-add-div' o (2 ^ 64)) ∙ (λ i. lows i + highs i * 2 ^ 64) ∙ mod-add-div' op (2 ^ 64) in (
-                            (λ i. hand ((sym same_hand i).log ++ entry who (sym same i) ∷ []) []),
+                            (λ i. hand ((sym same_hand i).log ++ entry who (sym same i) ∷ []) [] ((sym same_hand i).tried ++ word ∷ [])),
                             subst (λ (l : List Entry). IsWithin n cap l)
                                 (placed_is n cap who t.words r.log h r.stand fits room op left staged zero ticket own)
                                 (place_within n cap who t.words r.log h r.stand fits room op left staged zero ticket own),
@@ -155,7 +155,7 @@ module _ (n cap slots id who : ℕ) (me : Me (Unit {0}) View) (h : Hand) (here :
               },
             )
         | inr filled ↦
-            let learnt = learns t r at room (λ e. filled (sym x_is ∙ e)) in
+            let learnt = learns t r at room (λ e. filled (sym x_is ∙ e)) (h.tried ++ word ∷ []) in
             let unwritten : slice_set t.words word x ≡ slice_set t.words word (either (x == 0) ticket x) =
             ap (slice_set t.words word) (sym (ap (λ b. either b ticket x) (ne_eqb x 0 filled))) in (
               slice_set me.0 who (Some learnt.0),
@@ -168,7 +168,7 @@ module _ (n cap slots id who : ℕ) (me : Me (Unit {0}) View) (h : Hand) (here :
                 told =
                     record {
                       placed = λ e. absurd (filled e);
-                      filled = λ _. subst (λ (y : ℕ × Hand). Learns n cap who y.0 y.1 learnt.0) (λ i. (x_is i, sym same_hand i)) learnt.2;
+                      filled = λ _. subst (λ (y : ℕ × Hand). Learns n cap who y.0 (y.1.tried ++ word ∷ []) y.1 learnt.0) (λ i. (x_is i, sym same_hand i)) learnt.2;
                     };
               },
             )

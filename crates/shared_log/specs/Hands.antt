@@ -4,21 +4,23 @@ use Rattle.shared_log.specs.declared.entry.Entry.{Entry}
 use Rattle.shared_log.specs.Entries.{calls_by, BeginsWith}
 use Rattle.shared_log.specs.Words.{number_of, operation_index}
 
--- The log as far as a caller knows it, and the words of its next operation that it has stored.
+-- The log as far as a caller knows it, the words of its next operation that it has stored, and the words of the table at which it
+-- made an exchange, in order.
 pub record Hand : Type 0 where
   pub log : List Entry
   pub staged : List ℕ
+  pub tried : List ℕ
 
 -- What a seat knows: the hands that are with it, by caller.
 abbrev pub View : Type 0
 View = List (Option Hand)
 
-abbrev pub hand : List Entry → List ℕ → Hand
-hand log staged = record { log = log; staged = staged }
+abbrev pub hand : List Entry → List ℕ → List ℕ → Hand
+hand log staged tried = record { log = log; staged = staged; tried = tried }
 
 -- The hand of a caller that knows nothing yet; it stands for a hand that isn't there, too.
 abbrev pub empty : Hand
-empty = hand [] []
+empty = hand [] [] []
 
 abbrev pub the : Option Hand → Hand
 the None = empty

@@ -4,7 +4,7 @@ use Rattle.atomic_table.specs.Table.{State, Me}
 use Rattle.book_base.specs.OperationWord.{low_of, high_of}
 use Rattle.shared_log.specs.declared.entry.Entry.{Entry}
 use Rattle.shared_log.specs.Entries.{calls_by, entry, IsWithin}
-use Rattle.shared_log.specs.Words.{number_behind, operation_index, AreWordsOf}
+use Rattle.shared_log.specs.Words.{number_behind, operation_index, AreWordsOf, MayHaveTried}
 use Rattle.shared_log.specs.Holders.{has, AreHeld}
 use Rattle.shared_log.specs.Hands.{Hand, View, hand, the, Fits}
 
@@ -26,12 +26,13 @@ pub record Turns (who : ℕ) (me after : Me (Unit {0}) View) (tells : Hand → H
 
 -- A store stages one word more.
 abbrev pub Stages : ℕ → Hand → Hand → Type 0
-Stages word h next = next ≡ hand h.log (h.staged ++ word ∷ [])
+Stages word h next = next ≡ hand h.log (h.staged ++ word ∷ []) h.tried
 
--- A filled ticket at the first place that a caller doesn't know: it learns the entry there, which is another's.
-pub record Learns (n cap who found : ℕ) (h next : Hand) : Type 0 where
+-- A filled ticket at the first place that a caller doesn't know: it learns the entry there, which is another's; and these are the
+-- words at which it made an exchange.
+pub record Learns (n cap who found : ℕ) (tried : List ℕ) (h next : Hand) : Type 0 where
   pub entry : Entry
-  pub log : next ≡ hand (h.log ++ entry ∷ []) h.staged
+  pub log : next ≡ hand (h.log ++ entry ∷ []) h.staged tried
   pub ticket : found ≡ number_behind cap h.log entry + 1
   pub other : calls_by who next.log ≡ calls_by who h.log
   pub within : IsWithin n cap next.log
@@ -39,12 +40,20 @@ pub record Learns (n cap who found : ℕ) (h next : Hand) : Type 0 where
 -- A load of the ticket at that place: it is free, or an entry is learnt.
 pub record Looks (n cap who found : ℕ) (h next : Hand) : Type 0 where
   pub free : found ≡ 0 → next ≡ h
-  pub filled : found ≢ 0 → Learns n cap who found h next
+  pub filled : found ≢ 0 → Learns n cap who found h.tried h next
 
--- An exchange of a free ticket at that place for the caller's own: it is placed, or an entry is learnt.
-pub record Places (n cap who found : ℕ) (h next : Hand) : Type 0 where
-  pub placed : found ≡ 0 → (op : ℕ) → h.staged ≡ low_of op ∷ high_of op ∷ [] → (next ≡ hand (h.log ++ entry who op ∷ []) []) × IsWithin n cap next.log
-  pub filled : found ≢ 0 → Learns n cap who found h next
+-- An exchange of a free ticket at that place for the caller's own: it is placed, or an entry is learnt. The word of the exchange is
+-- told.
+pub record Places (n cap who word found : ℕ) (h next : Hand) : Type 0 where
+  pub placed : found ≡ 0 → (op : ℕ) → h.staged ≡ low_of op ∷ high_of op ∷ []
+      → (next ≡ hand (h.log ++ entry who op ∷ []) [] (h.tried ++ word ∷ [])) × IsWithin n cap next.log
+  pub filled : found ≢ 0 → Learns n cap who found (h.tried ++ word ∷ []) h next
+
+-- A load of that ticket, and an exchange where the load found it free.
+pub record Tries (n cap who word found : ℕ) (h next : Hand) : Type 0 where
+  pub placed : found ≡ 0 → (op : ℕ) → h.staged ≡ low_of op ∷ high_of op ∷ []
+      → (next ≡ hand (h.log ++ entry who op ∷ []) [] (h.tried ++ word ∷ [])) × IsWithin n cap next.log
+  pub filled : found ≢ 0 → (tried : List ℕ) × MayHaveTried word h.tried tried × Learns n cap who found tried h next
 
 -- A load of a word of an operation of which the caller knows the entry.
 pub record Reads (cap word found : ℕ) (h next : Hand) : Type 0 where
@@ -53,7 +62,8 @@ pub record Reads (cap word found : ℕ) (h next : Hand) : Type 0 where
   pub high : (before rest : List Entry) (e : Entry) → h.log ≡ before ++ e ∷ rest → word ≡ operation_index (number_behind cap before e) + 1 → found ≡ high_of e.op
 
 -- What a caller that means to append an operation finds at the first place that it doesn't know: its own ticket, now, or the entry
--- of another's call.
-abbrev pub Finds : ℕ → ℕ → ℕ → ℕ → Hand → Hand → Option Entry → Type 0
-Finds n cap who op h next None = (next ≡ hand (h.log ++ entry who op ∷ []) []) × IsWithin n cap next.log
-Finds n cap who op h next (Some e) = (next ≡ hand (h.log ++ e ∷ []) h.staged) × (calls_by who next.log ≡ calls_by who h.log) × IsWithin n cap next.log
+-- of another's call; with at most one exchange, at this word.
+abbrev pub Finds : ℕ → ℕ → ℕ → ℕ → ℕ → Hand → Hand → Option Entry → Type 0
+Finds n cap who word op h next None = (next ≡ hand (h.log ++ entry who op ∷ []) [] (h.tried ++ word ∷ [])) × IsWithin n cap next.log
+Finds n cap who word op h next (Some e) =
+    (tried : List ℕ) × MayHaveTried word h.tried tried × (next ≡ hand (h.log ++ e ∷ []) h.staged tried) × (calls_by who next.log ≡ calls_by who h.log) × IsWithin n cap next.log

@@ -6,6 +6,7 @@ use Rattle.shared_log.specs.declared.seat.OneSeat.{OneSeat}
 use Rattle.shared_log.specs.declared.seat.LogSeat.{LogSeat}
 use Rattle.shared_log.specs.declared.shared_log.SharedLog.{SharedLog}
 use Rattle.shared_log.specs.Entries.{calls_by, BeginsWith, IsWithin, IsAfterCall}
+use Rattle.shared_log.specs.Words.{HasTried}
 use Rattle.shared_log.specs.Holders.{has}
 use Rattle.shared_log.specs.Hands.{Hand, the}
 
@@ -25,6 +26,13 @@ log_of s = s.log.items
 
 abbrev pub made_by : LogSeat → ℕ
 made_by s = length (calls_by (caller_of s) (log_of s))
+
+-- The hand that is with the seat, and the words at which its caller made an exchange.
+abbrev pub hand_of : LogSeat → Hand
+hand_of s = hand_with s.seat
+
+abbrev pub tried_by : LogSeat → List ℕ
+tried_by s = (hand_of s).tried
 
 -- How many callers a log has, and how many calls each may make.
 abbrev pub callers_of : SharedLog → ℕ
@@ -53,6 +61,11 @@ pub record AreSeatsOf (l : SharedLog) (seats : List LogSeat) : Type 0 where
 -- The seat after a call of its caller.
 abbrev pub HasCalled : ℕ → LogSeat → LogSeat → Type 0
 HasCalled op before after = IsAfterCall (caller_of before) op (log_of before) (log_of after)
+
+-- The exchanges of the seat's caller after a call: those before it, and at most one at the ticket of each place that the caller
+-- didn't know before the call and knows after it, in order.
+abbrev pub HasExchanged : SharedLog → LogSeat → LogSeat → Type 0
+HasExchanged l before after = HasTried (callers_of l) (cap_of l) (length (log_of before)) (length (log_of after)) (tried_by before) (tried_by after)
 
 -- The one log of some seats: it begins with what each knows, and its entries of each caller are those that this caller knows.
 pub record IsOneLog (log : List Entry) (seats : List LogSeat) : Type 0 where

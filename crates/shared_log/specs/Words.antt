@@ -1,5 +1,5 @@
 -- Where the words of a log of n callers with cap calls each lie, and what they say of its entries.
-use Rattle.std.specs.Prelude.{◌≡◌, ℕ, ◌+◌, ◌*◌, ◌<◌, ◌≤◌, List, ◌∷◌, ◌++◌, length, slice_index}
+use Rattle.std.specs.Prelude.{◌≡◌, ◌⊎◌, ℕ, ◌+◌, ◌*◌, ◌<◌, ◌≤◌, List, [], ◌∷◌, ◌++◌, length, slice_index}
 use Rattle.book_base.specs.OperationWord.{low_of, high_of}
 use Rattle.shared_log.specs.declared.entry.Entry.{Entry}
 use Rattle.shared_log.specs.Entries.{calls_by, IsWithin}
@@ -36,3 +36,16 @@ pub record AreWordsOf (n cap : ℕ) (words : List ℕ) (log : List Entry) : Type
   pub within : IsWithin n cap log
   pub stored : (before rest : List Entry) (e : Entry) → log ≡ before ++ e ∷ rest → IsStored n cap words before e
   pub free : (place : ℕ) → length log ≤ place → place < n * cap → slice_index words (ticket_index n cap place) ≡ 0
+
+-- These words are tickets of the log, in order and each at most once: those of places from one on, and before another.
+abbrev pub AreTickets : ℕ → ℕ → ℕ → ℕ → List ℕ → Type 0
+AreTickets n cap from past [] = Unit {0}
+AreTickets n cap from past (word ∷ words) = (place : ℕ) × (from ≤ place) × (place < past) × (word ≡ ticket_index n cap place) × AreTickets n cap (place + 1) past words
+
+-- The words at which a caller made an exchange are those before, and then at most each ticket of the places from one on, and before another.
+abbrev pub HasTried : ℕ → ℕ → ℕ → ℕ → List ℕ → List ℕ → Type 0
+HasTried n cap from past before after = (more : List ℕ) × (after ≡ before ++ more) × AreTickets n cap from past more
+
+-- There was one exchange at a word, or none.
+abbrev pub MayHaveTried : ℕ → List ℕ → List ℕ → Type 0
+MayHaveTried word before after = (after ≡ before) ⊎ (after ≡ before ++ word ∷ [])

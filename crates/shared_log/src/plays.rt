@@ -76,7 +76,7 @@ pub struct Place<J> {
 }
 
 impl<J: Part> Play<(), Holding> for Place<J> {
-    ghost then = { λ st me found after. Turns J.who me after (Places J.callers J.cap J.who found) };
+    ghost then = { λ st me found after. Turns J.who me after (Places J.callers J.cap J.who st.word found) };
 }
 
 /// A load of a word of an operation.

@@ -1,7 +1,7 @@
 ghost use Rattle.std.specs.Prelude.{◌≡◌, ℕ, ◌<◌, [], length};
 ghost use Rattle.shared_log.specs.Entries.{calls_by};
 ghost use Rattle.shared_log.specs.Holders.{has, only};
-ghost use Rattle.shared_log.specs.Hands.{hand, the};
+ghost use Rattle.shared_log.specs.Hands.{the};
 
 use crate::entry::Entry;
 use crate::plays::Holding;
@@ -22,7 +22,8 @@ pub struct LogSeat {
     pub(crate) made: u64,
     pub(crate) log: Vec<Entry>,
     pub(crate) seat: OneSeat,
-    ghost tied: { the (has seat.seat.me.0 seat.who) ≡ hand log.items [] },
+    ghost knows: { (the (has seat.seat.me.0 seat.who)).log ≡ log.items },
+    ghost idle: { (the (has seat.seat.me.0 seat.who)).staged ≡ [] },
     ghost counted: { made ≡ length (calls_by seat.who log.items) },
 }
 

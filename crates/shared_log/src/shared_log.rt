@@ -18,9 +18,9 @@ use std::marker::Brand;
 
 /// A log of the calls of some callers, on atomic words that they share.
 ///
-/// A call stores both words of its operation, and puts its ticket into the first free place of the log. So
-/// the log is one order of all calls, whatever the threads do. Nothing locks, waits or takes memory but
-/// the call that opens it.
+/// A call stores both words of its operation, and puts its ticket into the first free place of
+/// the log. So the log is one order of all calls, whatever the threads do. Nothing locks, waits
+/// or takes memory but the call that opens it.
 pub struct SharedLog {
     pub(crate) table: Table<(), Holding, Key, OneLog, Global>,
     pub(crate) callers: u32,
@@ -49,7 +49,7 @@ fn longer(one: Vec<Entry>, other: Vec<Entry>) -> Vec<Entry>
 }
 
 impl SharedLog {
-    ghost use Rattle.shared_log.specs.Seats.{hand_with, callers_of, cap_of, caller_of, log_of, made_by, IsPlaced, IsSeatOf, AreSeatsOf, HasCalled, IsOneLog};
+    ghost use Rattle.shared_log.specs.Seats.{hand_with, hand_of, callers_of, cap_of, caller_of, log_of, made_by, IsPlaced, IsSeatOf, AreSeatsOf, HasCalled, HasExchanged, IsOneLog};
 
     /// How many callers the log has.
     pub fn callers(&self) -> u32
@@ -65,18 +65,22 @@ impl SharedLog {
         self.cap
     }
 
-    // The ticket of the call goes into the first free place. The entries before it that the caller didn't
-    // know come into its log, and then its own.
+    // The ticket of the call goes into the first free place. The entries before it that the
+    // caller didn't know come into its log, and then its own.
     fn place(&self, seat: &mut OneSeat, log: &mut Vec<Entry>, ticket: u64, op: OpWord)
         requires seat { IsPlaced self.now seat.old }
-        requires tied { hand_with seat.old ≡ hands.hand log.old.items (low_of op ∷ high_of op ∷ []) }
+        requires known { (hand_with seat.old).log ≡ log.old.items }
+        requires staged { (hand_with seat.old).staged ≡ low_of op ∷ high_of op ∷ [] }
         requires call { length (calls_by seat.old.who log.old.items) < self.now.cap }
         requires ticket { ticket ≡ words.number_of self.now.cap seat.old.who (length (calls_by seat.old.who log.old.items)) + 1 }
         requires room { self.now.callers * self.now.cap ≤ vec_capacity log.old }
         requires within { IsWithin self.now.callers self.now.cap log.old.items }
         ensures seat { IsPlaced self.now seat.new × (seat.new.who ≡ seat.old.who) }
-        ensures tied { hand_with seat.new ≡ hands.hand log.new.items [] }
+        ensures known { (hand_with seat.new).log ≡ log.new.items }
+        ensures idle { (hand_with seat.new).staged ≡ [] }
         ensures log { IsAfterCall seat.old.who op log.old.items log.new.items }
+        ensures tries { words.HasTried self.now.callers self.now.cap (length log.old.items)
+            (length log.new.items) (hand_with seat.old).tried (hand_with seat.new).tried }
         ensures room { vec_capacity log.old ≤ vec_capacity log.new }
         ensures within { IsWithin self.now.callers self.now.cap log.new.items }
     {
@@ -96,8 +100,8 @@ impl SharedLog {
 
     /// Appends a call of the seat's caller that asks for an operation.
     ///
-    /// It makes at most one try for each place that the caller doesn't know to be filled, and loads the
-    /// entries before its own that the caller doesn't know.
+    /// It makes at most one exchange at each log word, none at those of places that the caller
+    /// knew before, and loads the entries before its own that the caller doesn't know.
     pub fn append(&self, seat: &mut LogSeat, op: OpWord)
         // The seat is one of this log.
         requires seat { IsSeatOf self.now seat.old }
@@ -108,6 +112,9 @@ impl SharedLog {
         // The seat's log begins with the one before and ends with this call, and has no other new
         // entry of this caller.
         ensures log { HasCalled op seat.old seat.new }
+        // The call's exchanges at words of the log are at most one at each word, and none at the
+        // words of places that the caller knew before.
+        ensures tries { HasExchanged self.now seat.old seat.new }
     {
         let number = number(self.cap, seat.seat.who, seat.made);
         self.stage(&mut seat.seat, number, op);
@@ -199,7 +206,7 @@ impl SharedLog {
         requires seat { IsSeatOf self.now seat }
         requires gone { has keeper.old.me.0 (caller_of seat) ≡ None }
         requires wide { caller_of seat < length keeper.old.me.0 }
-        ensures keeper { (keeper.new.table_id ≡ keeper.old.table_id) × (keeper.new.me.0 ≡ slice_set keeper.old.me.0 (caller_of seat) (Some (hands.hand (log_of seat) []))) }
+        ensures keeper { (keeper.new.table_id ≡ keeper.old.table_id) × (keeper.new.me.0 ≡ slice_set keeper.old.me.0 (caller_of seat) (Some (hand_of seat))) }
         ensures longest { IsLonger longest.items (log_of seat) result.items }
     {
         let LogSeat {
@@ -213,8 +220,8 @@ impl SharedLog {
         longer(longest, log)
     }
 
-    /// The one log, which each seat's log is a prefix of. The seats of all callers come back, in order, each
-    /// with whatever has it.
+    /// The one log, which each seat's log is a prefix of. The seats of all callers come back, in
+    /// order, each with whatever has it.
     pub fn close<P: Seated>(self, mut seats: Vec<P>) -> Vec<Entry>
         // The seats are those of all callers of this log, in order.
         requires seats { AreSeatsOf self (map P.seat seats.items) }

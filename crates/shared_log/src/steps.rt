@@ -5,7 +5,7 @@ ghost use Rattle.book_base.specs.OperationWord.{low_of, high_of};
 ghost use Rattle.shared_log.specs.Entries.{calls_by};
 ghost use Rattle.shared_log.specs.Words as words;
 ghost use Rattle.shared_log.specs.Hands as hands;
-ghost use Rattle.shared_log.specs.Rule.{Stages, Looks, Places, Reads, Finds};
+ghost use Rattle.shared_log.specs.Rule.{Stages, Looks, Places, Tries, Reads, Finds};
 
 use crate::entry::Entry;
 use crate::layout::place_count;
@@ -55,7 +55,7 @@ impl SharedLog {
         requires index { index ≡ words.ticket_index self.now.callers self.now.cap (length (hand_with seat.old).log) }
         requires ticket { ticket ≡ hands.next_number self.now.cap seat.old.who (hand_with seat.old) + 1 }
         ensures seat { IsPlaced self.now seat.new × (seat.new.who ≡ seat.old.who) }
-        ensures hand { Places self.now.callers self.now.cap seat.old.who result (hand_with seat.old) (hand_with seat.new) }
+        ensures hand { Places self.now.callers self.now.cap seat.old.who index result (hand_with seat.old) (hand_with seat.new) }
     {
         self.table
             .shared
@@ -80,15 +80,17 @@ impl SharedLog {
         requires call { length (calls_by seat.old.who (hand_with seat.old).log) < self.now.cap }
         requires none { (hand_with seat.old).staged ≡ [] }
         ensures seat { IsPlaced self.now seat.new × (seat.new.who ≡ seat.old.who) }
-        ensures hand { hand_with seat.new ≡ hands.hand (hand_with seat.old).log (low_of op ∷ high_of op ∷ []) }
+        ensures hand { hand_with seat.new ≡ hands.hand (hand_with seat.old).log
+            (low_of op ∷ high_of op ∷ []) (hand_with seat.old).tried }
     {
         let index = 2 * number as usize;
         self.stage_as::<Brand>(seat, index, low(op));
         self.stage_as::<Brand>(seat, index + 1, high(op));
     }
 
-    // The ticket at the first place that the caller doesn't know: it is loaded, and where it is free, it is
-    // exchanged for the caller's own. A 0 says that the own one is placed.
+    // The ticket at the first place that the caller doesn't know: it is loaded, and where it is
+    // free, it is exchanged for the caller's own. A 0 says that the own one is placed.
+    #[tactic(auto, using(crate::proofs::Trying::looked, crate::proofs::Trying::exchanged))]
     fn ticket_at(&self, seat: &mut OneSeat, place: usize, ticket: u64, op: OpWord) -> u64
         requires seat { IsPlaced self.now seat.old }
         requires call { length (calls_by seat.old.who (hand_with seat.old).log) < self.now.cap }
@@ -97,7 +99,8 @@ impl SharedLog {
         requires room { place < self.now.callers * self.now.cap }
         requires ticket { ticket ≡ hands.next_number self.now.cap seat.old.who (hand_with seat.old) + 1 }
         ensures seat { IsPlaced self.now seat.new × (seat.new.who ≡ seat.old.who) }
-        ensures hand { Places self.now.callers self.now.cap seat.old.who result (hand_with seat.old) (hand_with seat.new) }
+        ensures hand { Tries self.now.callers self.now.cap seat.old.who
+            (words.ticket_index self.now.callers self.now.cap place) result (hand_with seat.old) (hand_with seat.new) }
     {
         let index = 2 * place_count(self.callers, self.cap) + place;
         let found = self.look_as::<Brand>(seat, index);
@@ -121,8 +124,8 @@ impl SharedLog {
         join(low, high)
     }
 
-    // What stands at the first place that the caller doesn't know: none where it is the caller's own ticket
-    // now, or the entry of another's call.
+    // What stands at the first place that the caller doesn't know: none where it is the caller's
+    // own ticket now, or the entry of another's call.
     pub(crate) fn next_entry(
         &self,
         seat: &mut OneSeat,
@@ -137,7 +140,8 @@ impl SharedLog {
         requires room { place < self.now.callers * self.now.cap }
         requires ticket { ticket ≡ hands.next_number self.now.cap seat.old.who (hand_with seat.old) + 1 }
         ensures seat { IsPlaced self.now seat.new × (seat.new.who ≡ seat.old.who) }
-        ensures hand { Finds self.now.callers self.now.cap seat.old.who op (hand_with seat.old) (hand_with seat.new) result }
+        ensures hand { Finds self.now.callers self.now.cap seat.old.who
+            (words.ticket_index self.now.callers self.now.cap place) op (hand_with seat.old) (hand_with seat.new) result }
     {
         let found = self.ticket_at(seat, place, ticket, op);
         if found == 0 {

@@ -1,7 +1,7 @@
 use Rattle.std.proofs.Common.{◌≡◌, ◌≤◌, [], ◌∷◌, length, vec_capacity}
 use Rattle.book_base.specs.OperationWord.{low_of, high_of}
 use Rattle.shared_log.specs.Entries.{calls_by, IsWithin, BeginsWith}
-use Rattle.shared_log.specs.Hands.{hand}
+use Rattle.shared_log.specs.Words.{HasTried}
 use Rattle.shared_log.specs.Seats.{hand_with, IsPlaced}
 use Rattle.shared_log.proofs.shared_log.SharedLog.place.Given as goal
 
@@ -10,10 +10,12 @@ invariant-loop-place l =
     record {
       placed : IsPlaced l.self l.seat;
       who : l.seat.who ≡ l.fn.seat.who;
-      tied : hand_with l.seat ≡ hand l.log.items (low_of l.op ∷ high_of l.op ∷ []);
+      known : (hand_with l.seat).log ≡ l.log.items;
+      staged : (hand_with l.seat).staged ≡ low_of l.op ∷ high_of l.op ∷ [];
       place : l.place ≡ length l.log.items;
       begins : BeginsWith l.log.items l.fn.log.items;
       own : calls_by l.fn.seat.who l.log.items ≡ calls_by l.fn.seat.who l.fn.log.items;
       room : vec_capacity l.fn.log ≤ vec_capacity l.log;
       within : IsWithin l.self.callers l.self.cap l.log.items;
+      tries : HasTried l.self.callers l.self.cap (length l.fn.log.items) (length l.log.items) (hand_with l.fn.seat).tried (hand_with l.seat).tried;
     }
