@@ -1,5 +1,6 @@
 -- Whose a seat and a pass are, and what they tell.
-use Rattle.std.specs.Prelude.{◌≡◌, ℕ, ◌<◌, ◌≤◌, List, [], length, vec_capacity}
+use Rattle.std.specs.Prelude.{◌≡◌, ℕ, ◌<◌, ◌≤◌, List, [], length, All, vec_capacity}
+use mathlib.Core.List.{IsPrefix}
 use Rattle.shared_log.specs.Holders.{has}
 use Rattle.shared_words.specs.declared.shared_words.SharedWords.{SharedWords}
 use Rattle.shared_words.specs.declared.word_seat.WordSeat.{WordSeat}
@@ -46,6 +47,21 @@ pub record IsFreshPass (calls : ℕ) (p : WordsPass) : Type 0 where
   pub made : made_with p ≡ 0
   pub cap : cap_of_pass p ≡ calls
   pub pairs : pairs_in p ≡ []
+
+-- One history of all accesses of n callers, of which each pass knows a part: it is lawful, begins with what the pass knows, and has
+-- of the pass's caller just the deeds that the pass knows.
+pub record IsOneHistory (may : ℕ → Deed → Type 0) (n : ℕ) (history : List Access) (passes : List WordsPass) : Type 0 where
+  pub callers : All (λ a. a.caller < n) history
+  pub lawful : IsLawful may history
+  pub fronts : All (λ p. IsPrefix (history_in p) history) passes
+  pub deeds : All (λ p. deeds_by (caller_of_pass p) history ≡ deeds_of p.seat) passes
+
+-- The calls that some passes tell are of one history of all accesses of n callers: it is lawful, and the pairs of each pass are calls of
+-- which each is as given, made of just the deeds that its caller has there.
+pub record AreOfOneHistory (may : ℕ → Deed → Type 0) (call : ℕ → ℕ → ℕ → List Deed → List Deed → Type 0) (n : ℕ) (history : List Access) (passes : List WordsPass) : Type 0 where
+  pub callers : All (λ a. a.caller < n) history
+  pub lawful : IsLawful may history
+  pub calls : All (λ p. AreCalls (call (caller_of_pass p)) (pairs_in p) [] (deeds_by (caller_of_pass p) history)) passes
 
 module _ {U : Type 0} where
   -- How many callers some words have, how many calls each may make, and how many words there are.

@@ -2,8 +2,8 @@
 
 ghost use Rattle.shared_words.specs.Histories.{AccessesAct, AccessesLeaveOthers};
 
-/// An addition adds modulo 2^64, a store sets its word, a load leaves it, and a swap sets it; the other words
-/// stay.
+/// An addition adds modulo 2^64, a store sets its word, a load leaves it, and a swap sets it; the
+/// other words stay.
 #[tactic(auto, using(crate::proofs::Words::accesses_act, crate::proofs::Words::accesses_leave_others))]
 pub fn accesses_act()
     ensures act { AccessesAct }

@@ -1,15 +1,16 @@
 //! The rule of the table, and what its steps tell. These types are for the proofs alone.
 ghost use Rattle.std.specs.Prelude.{ℕ, [], None, slice_set};
-ghost use Rattle.shared_log.specs.Holders.{has, only, whole};
+ghost use Rattle.shared_log.specs.Holders.{has, only, whole, joined};
 ghost use Rattle.shared_words.specs.Deeds as deeds;
 ghost use Rattle.shared_words.specs.Histories.{known};
 ghost use Rattle.shared_words.specs.Rule.{Ruled, Accesses};
 
 use crate::usage::Usage;
-use atomic_table::{Play, Split, TableRule};
+use atomic_table::{Join, Play, Split, TableRule};
 use std::marker::{Brand, Model, PhantomData};
 
-/// What a seat knows: the history up to the last access of each caller that is with it. No value of it is made.
+/// What a seat knows: the history up to the last access of each caller that is with it. No value
+/// of it is made.
 pub struct Knowing;
 
 impl Model for Knowing {
@@ -45,7 +46,8 @@ pub struct Adds<U> {
 }
 
 impl<U: Usage> Play<(), Knowing> for Adds<U> {
-    ghost then = { λ st me found after. Accesses U.may me after (deeds.Added st.word st.first found) };
+    ghost then = { λ st me found after.
+        Accesses U.may me after (deeds.Added st.word st.first found) };
 }
 
 /// A store.
@@ -72,7 +74,8 @@ pub struct Swaps<U> {
 }
 
 impl<U: Usage> Play<(), Knowing> for Swaps<U> {
-    ghost then = { λ st me found after. Accesses U.may me after (deeds.Swapped st.word st.first found) };
+    ghost then = { λ st me found after.
+        Accesses U.may me after (deeds.Swapped st.word st.first found) };
 }
 
 /// Which caller gets a seat of its own. A call at `Brand` picks it.
@@ -93,4 +96,13 @@ impl<J: Part> Split<Knowing> for Leaves<J> {
     ghost left = { λ v. slice_set v J.who None };
 
     ghost right = { λ v. only J.who (known (has v J.who)) };
+}
+
+/// The callers of another seat come to this one, and its view is spent.
+pub struct Returns;
+
+impl Join<Knowing> for Returns {
+    ghost both = { joined };
+
+    ghost spent = { [] };
 }

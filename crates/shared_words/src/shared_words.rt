@@ -1,12 +1,13 @@
-//! Atomic words that callers share: each access is told to the seat that makes it, with the history before it.
-ghost use Rattle.std.specs.Prelude.{◌≡◌, ℕ, ◌<◌, ◌≤◌, [], ◌∷◌, ◌++◌, None, Some, IfOk, All, map, vec_len, vec_capacity, slice_set};
+//! Atomic words that callers share: each access is told to the seat that makes it, with the
+//! history before it.
+ghost use Rattle.std.specs.Prelude.{◌≡◌, ℕ, ◌<◌, ◌≤◌, [], ◌∷◌, ◌++◌, List, None, Some, IfOk, All, map, length, vec_len, vec_capacity, slice_set};
 ghost use Rattle.std.specs.List.{range_with_len};
 ghost use Rattle.book_base.specs.declared.TheConstants.{MAX_CALLERS, MAX_CALLS};
 ghost use Rattle.shared_log.specs.Holders.{has, whole};
 ghost use Rattle.shared_words.specs.Deeds as deeds;
-ghost use Rattle.shared_words.specs.Histories.{IsAfterAccess};
+ghost use Rattle.shared_words.specs.Histories.{Access, IsAfterAccess};
 
-use crate::plays::{Adds, Key, Knowing, Leaves, Loads, OneHistory, Part, Stores, Swaps};
+use crate::plays::{Adds, Key, Knowing, Leaves, Loads, OneHistory, Part, Returns, Stores, Swaps};
 use crate::usage::Usage;
 use crate::word_seat::WordSeat;
 use crate::words_pass::WordsPass;
@@ -17,14 +18,16 @@ use std::marker::Brand;
 
 /// The words of some callers. Each is 0 at first.
 ///
-/// There is one history of all accesses, in the order in which they were made, whatever the threads do: each
-/// access found what those before it leave.
+/// There is one history of all accesses, in the order in which they were made, whatever the
+/// threads do: each access found what those before it leave.
 #[derive(Drop)]
 pub struct SharedWords<U: Usage> {
     pub(crate) table: Table<(), Knowing, Key, OneHistory<U>, Global>,
     pub(crate) callers: u32,
     pub(crate) cap: u64,
-    ghost sized: { (0 < table.shared.table_id.words) × (table.shared.table_id.slots ≡ 0) × (table.shared.key.callers ≡ callers) × (table.shared.key.count ≡ table.shared.table_id.words) },
+    ghost sized: { (0 < table.shared.table_id.words) × (table.shared.table_id.slots ≡ 0)
+        × (table.shared.key.callers ≡ callers)
+        × (table.shared.key.count ≡ table.shared.table_id.words) },
     ghost few: { (callers ≤ MAX_CALLERS) × (cap ≤ MAX_CALLS) },
 }
 
@@ -32,7 +35,8 @@ pub struct SharedWords<U: Usage> {
 fn empty_pairs(alloc: Global, n: u32, cap: u64) -> Result<Vec<Vec<(OpWord, u64)>>, AllocError>
     requires { cap ≤ MAX_CALLS }
     ensures count { IfOk result (λ all. vec_len all ≡ n) }
-    ensures empty { IfOk result (λ all. All (λ pairs. (pairs.items ≡ []) × (cap ≤ vec_capacity pairs)) all.items) }
+    ensures empty { IfOk result (λ all. All
+        (λ pairs. (pairs.items ≡ []) × (cap ≤ vec_capacity pairs)) all.items) }
 {
     let mut all = Vec::with_capacity(alloc, n as usize)?;
     for _caller in 0..n {
@@ -42,7 +46,7 @@ fn empty_pairs(alloc: Global, n: u32, cap: u64) -> Result<Vec<Vec<(OpWord, u64)>
 }
 
 impl<U: Usage> SharedWords<U> {
-    ghost use Rattle.shared_words.specs.Passes.{caller_of_seat, history_of, deeds_of, callers_of, cap_of, count_of, caller_of_pass, IsSeatOf, IsNewPass};
+    ghost use Rattle.shared_words.specs.Passes.{caller_of_seat, history_of, deeds_of, callers_of, cap_of, count_of, caller_of_pass, history_in, seat_in, IsSeatOf, IsNewPass, IsOneHistory};
 
     /// How many callers the words have.
     pub fn callers(&self) -> u32
@@ -64,10 +68,12 @@ impl<U: Usage> SharedWords<U> {
     pub fn add(&self, seat: &mut WordSeat, place: usize, amount: u64) -> u64
         requires seat { IsSeatOf U.may self.now seat.old }
         requires place { place < count_of self.now }
-        requires may { (found : ℕ) → U.may (caller_of_seat seat.old) (deeds.Added place amount found) }
+        requires may { (found : ℕ)
+            → U.may (caller_of_seat seat.old) (deeds.Added place amount found) }
         ensures seat { IsSeatOf U.may self.now seat.new }
         ensures caller { caller_of_seat seat.new ≡ caller_of_seat seat.old }
-        ensures step { deeds_of seat.new ≡ deeds_of seat.old ++ deeds.Added place amount result ∷ [] }
+        ensures step { deeds_of seat.new
+            ≡ deeds_of seat.old ++ deeds.Added place amount result ∷ [] }
         ensures history { IsAfterAccess (caller_of_seat seat.old) (deeds.Added place amount result)
             (history_of seat.old) (history_of seat.new) }
     {
@@ -110,10 +116,12 @@ impl<U: Usage> SharedWords<U> {
     pub fn swap(&self, seat: &mut WordSeat, place: usize, word: u64) -> u64
         requires seat { IsSeatOf U.may self.now seat.old }
         requires place { place < count_of self.now }
-        requires may { (found : ℕ) → U.may (caller_of_seat seat.old) (deeds.Swapped place word found) }
+        requires may { (found : ℕ)
+            → U.may (caller_of_seat seat.old) (deeds.Swapped place word found) }
         ensures seat { IsSeatOf U.may self.now seat.new }
         ensures caller { caller_of_seat seat.new ≡ caller_of_seat seat.old }
-        ensures step { deeds_of seat.new ≡ deeds_of seat.old ++ deeds.Swapped place word result ∷ [] }
+        ensures step { deeds_of seat.new
+            ≡ deeds_of seat.old ++ deeds.Swapped place word result ∷ [] }
         ensures history { IsAfterAccess (caller_of_seat seat.old) (deeds.Swapped place word result)
             (history_of seat.old) (history_of seat.new) }
     {
@@ -127,8 +135,10 @@ impl<U: Usage> SharedWords<U> {
         requires who { J.who ≡ who }
         requires seat { seat.old.table_id ≡ self.now.table.shared.table_id }
         requires here { has seat.old.me.0 who ≡ Some [] }
-        ensures seat { (seat.new.table_id ≡ seat.old.table_id) × (seat.new.me.0 ≡ slice_set seat.old.me.0 who None) }
-        ensures caller { (result.who ≡ who) × (result.seat.table_id ≡ seat.old.table_id) × (history_of result ≡ []) }
+        ensures seat { (seat.new.table_id ≡ seat.old.table_id)
+            × (seat.new.me.0 ≡ slice_set seat.old.me.0 who None) }
+        ensures caller { (result.who ≡ who) × (result.seat.table_id ≡ seat.old.table_id)
+            × (history_of result ≡ []) }
     {
         let seat = self.table.shared.split_seat::<Leaves<J>>(seat);
         WordSeat { who, seat }
@@ -141,8 +151,10 @@ impl<U: Usage> SharedWords<U> {
         mut rooms: Vec<Vec<(OpWord, u64)>>,
         mut passes: Vec<WordsPass>,
     ) -> Vec<WordsPass>
-        requires seat { (seat.table_id ≡ self.now.table.shared.table_id) × (seat.me.0 ≡ whole self.now.callers []) }
-        requires rooms { (vec_len rooms ≡ self.now.callers) × All (λ pairs. (pairs.items ≡ []) × (self.now.cap ≤ vec_capacity pairs)) rooms.items }
+        requires seat { (seat.table_id ≡ self.now.table.shared.table_id)
+            × (seat.me.0 ≡ whole self.now.callers []) }
+        requires rooms { (vec_len rooms ≡ self.now.callers) × All
+            (λ pairs. (pairs.items ≡ []) × (self.now.cap ≤ vec_capacity pairs)) rooms.items }
         requires passes { (passes.items ≡ []) × (self.now.callers ≤ vec_capacity passes) }
         ensures callers { map caller_of_pass result.items ≡ range_with_len 0 self.now.callers }
         ensures new { All (IsNewPass self.now) result.items }
@@ -172,7 +184,8 @@ impl<U: Usage> SharedWords<U> {
         requires few_callers { n ≤ MAX_CALLERS }
         requires few_calls { cap ≤ MAX_CALLS }
         requires some_words { 0 < count }
-        ensures words { IfOk result (λ r. (callers_of r.0 ≡ n) × (cap_of r.0 ≡ cap) × (count_of r.0 ≡ count)) }
+        ensures words { IfOk result (λ r.
+            (callers_of r.0 ≡ n) × (cap_of r.0 ≡ cap) × (count_of r.0 ≡ count)) }
         ensures callers { IfOk result (λ r. map caller_of_pass r.1.items ≡ range_with_len 0 n) }
         ensures new { IfOk result (λ r. All (IsNewPass r.0) r.1.items) }
     {
@@ -188,5 +201,55 @@ impl<U: Usage> SharedWords<U> {
         };
         let passes = words.deal(seat, rooms, passes);
         Ok((words, passes))
+    }
+
+    // A caller's seat is spent, and what it knew is with the keeper.
+    fn take_in(&self, keeper: &mut Seat<(), Knowing>, pass: WordsPass)
+        requires keeper { keeper.old.table_id ≡ self.now.table.shared.table_id }
+        requires seat { IsSeatOf U.may self.now (seat_in pass) }
+        requires gone { has keeper.old.me.0 (caller_of_pass pass) ≡ None }
+        requires wide { caller_of_pass pass < length keeper.old.me.0 }
+        ensures table { keeper.new.table_id ≡ keeper.old.table_id }
+        ensures keeper { keeper.new.me.0
+            ≡ slice_set keeper.old.me.0 (caller_of_pass pass) (Some (history_in pass)) }
+    {
+        let WordsPass {
+            cap: _,
+            pairs: _,
+            seat,
+        } = pass;
+        let WordSeat { who: _, seat } = seat;
+        self.table.shared.join_seat::<Returns>(keeper, seat);
+    }
+
+    /// Takes the passes of all callers back, in order, and lets the words go. All accesses are
+    /// one history, of which each pass knows a prefix, with all deeds of its caller.
+    pub fn close(self, mut passes: Vec<WordsPass>)
+        requires callers { map caller_of_pass passes.items ≡ range_with_len 0 (callers_of self) }
+        requires seats { All (λ p. IsSeatOf U.may self (seat_in p)) passes.items }
+        ensures history { (history : List Access)
+            × IsOneHistory U.may (callers_of self) history passes.items }
+    {
+        let Some(last) = passes.pop() else {
+            return;
+        };
+        let WordsPass {
+            cap: _,
+            pairs: _,
+            seat,
+        } = last;
+        let WordSeat {
+            who: _,
+            seat: mut keeper,
+        } = seat;
+        while let Some(pass) = passes.pop() {
+            self.take_in(&mut keeper, pass);
+        }
+        let SharedWords {
+            table,
+            callers: _,
+            cap: _,
+        } = self;
+        table.close_with(keeper).free();
     }
 }

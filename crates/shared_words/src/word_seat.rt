@@ -5,8 +5,8 @@ ghost use Rattle.shared_words.specs.Histories.{known};
 use crate::plays::Knowing;
 use atomic_table::Seat;
 
-/// The seat of one caller of some words, whose history alone is with it. It has the history up to the last
-/// access of this caller.
+/// The seat of one caller of some words, whose history alone is with it. It has the history up to
+/// the last access of this caller.
 #[derive(Drop)]
 pub struct WordSeat {
     pub(crate) who: u32,

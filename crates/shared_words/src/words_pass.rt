@@ -27,7 +27,8 @@ impl WordsPass {
         requires { made_with self.old < room_of_pass self.old }
         ensures pairs { pairs_in self.new ≡ pairs_in self.old ++ (op, reply) ∷ [] }
         ensures seat { seat_in self.new ≡ seat_in self.old }
-        ensures same { (cap_of_pass self.new ≡ cap_of_pass self.old) × (room_of_pass self.old ≤ room_of_pass self.new) }
+        ensures same { (cap_of_pass self.new ≡ cap_of_pass self.old)
+            × (room_of_pass self.old ≤ room_of_pass self.new) }
     {
         self.pairs.push((op, reply)).unwrap();
     }
