@@ -14,6 +14,7 @@ use Rattle.row_table.specs.declared.bench.Bench.{Bench}
 use Rattle.row_table.specs.Callers.{shape_of, locals_on, IsBenchOf, HoldsAll}
 use Rattle.row_table.proofs.Parting.{whole_is_together}
 use Rattle.bench_clients.specs.Places.{AreInOrder}
+use Rattle.run_report.specs.Passes.{IsUnusedPass}
 use Rattle.bench_clients.proofs.Places.{one_less_in_order, last_in_order}
 use Rattle.bench_clients.specs.Starts.{run_allotments}
 use Rattle.byte_streams.specs.declared.status.Status.{Status}
@@ -110,13 +111,14 @@ module _ (plan : Plan) where
       (ap (λ (p : Progress). p.calls) (made.none i one))
 
   -- so the passes of all callers tell of their calls
-  pub told_aside : {T : Type 0} (told : T → Option (List (ℕ × ℕ))) (passes whole : List T) (a b : T) → whole ≡ (passes ++ a ∷ []) ++ b ∷ [] → length passes ≡ length plan.operations
-      → ((pairs : List (ℕ × ℕ)) → told a ≡ Some pairs → length pairs ≡ 0) → ((pairs : List (ℕ × ℕ)) → told b ≡ Some pairs → length pairs ≡ 0)
+  pub told_aside : {T : Type 0} (is_own : T → Type 0) (caller made cap : T → ℕ) (told : T → Option (List (ℕ × ℕ))) → ((pass : T) (pairs : List (ℕ × ℕ)) → is_own pass → told pass ≡ Some pairs → length pairs ≡ made pass)
+      → (passes whole : List T) (a b : T) → whole ≡ (passes ++ a ∷ []) ++ b ∷ [] → length passes ≡ length plan.operations
+      → IsUnusedPass is_own caller made cap plan.operations (length plan.operations) a → IsUnusedPass is_own caller made cap plan.operations (length plan.operations + 1) b
       → (locals : List Local) → AreToldMonitored told passes plan locals → AreToldMonitored told whole plan locals
-  told_aside told passes whole a b is long no_a no_b locals of = record {
+  told_aside is_own caller made cap told as_many passes whole a b is long one other locals of = record {
     monitored = of.monitored;
     told_in =
         two_more passes whole a b is (length plan.operations) (λ i pass. IfSome (told pass) (IsTold (phases_in plan i) (calls_at locals i))) long of.told_in
-        (monitor_told locals of.monitored.made (length plan.operations) (told a) (record { after = omega arith; before = omega arith }) no_a)
-        (monitor_told locals of.monitored.made (length plan.operations + 1) (told b) (record { after = omega arith; before = omega arith }) no_b);
+        (monitor_told locals of.monitored.made (length plan.operations) (told a) (record { after = omega arith; before = omega arith }) (λ pairs tells. as_many a pairs one.own tells ∙ one.none))
+        (monitor_told locals of.monitored.made (length plan.operations + 1) (told b) (record { after = omega arith; before = omega arith }) (λ pairs tells. as_many b pairs other.own tells ∙ other.none));
   }

@@ -93,11 +93,10 @@ fn put_back<T>(passes: &mut Vec<T>, first: T, second: T)
     passes.push(second).unwrap();
 }
 
-// A pass with which no call was made tells of none.
-fn tells_nothing<B: BlackBox>(_object: &B, _pass: &B::Pass)
-    requires own { B.is_own _object.now _pass.now }
-    requires unused { B.Pass.made _pass.now ≡ 0 }
-    ensures { (pairs : List (ℕ × ℕ)) → B.Pass.told _pass.now ≡ Some pairs → length pairs ≡ 0 }
+// The list that a pass of an object tells has as many pairs as calls were made with it.
+fn as_many_are_told<B: BlackBox>(_object: &B)
+    ensures { (pass : B.Pass) (pairs : List (ℕ × ℕ)) → B.is_own _object.now pass
+        → B.Pass.told pass ≡ Some pairs → length pairs ≡ B.Pass.made pass }
 {}
 
 // Runs a script over an object by the passes of its callers, while those of the monitors lie aside.
@@ -121,9 +120,8 @@ where
         script.now.kind) result (K.taken sink.old) (K.taken sink.new) }
     ensures faults { LeavesSink K.faults result sink.old sink.new }
 {
+    as_many_are_told(object);
     let (first, second) = set_aside(passes);
-    tells_nothing(object, &first);
-    tells_nothing(object, &second);
     let status = monitor_fresh(rt, alloc, script, object, passes, sink);
     put_back(passes, first, second);
     status

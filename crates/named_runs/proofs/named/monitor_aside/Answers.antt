@@ -6,18 +6,6 @@ use Rattle.named_runs.proofs.named.monitor_aside.Goals as goal
 pub set_aside-first-requires : goal.set_aside-first-requires
 set_aside-first-requires g c = omega (arith, c.requires.all_passes, c.args.passes.now.ok.0)
 
-pub tells_nothing-requires-clause-own : goal.tells_nothing-requires-clause-own
-tells_nothing-requires-clause-own g c = (two_aside _ _ _ _ c.set_aside-first.ensures.items _ _ c.requires.all_passes c.requires.passes).1.own
-
-pub tells_nothing-requires-clause-unused : goal.tells_nothing-requires-clause-unused
-tells_nothing-requires-clause-unused g c = (two_aside _ _ _ _ c.set_aside-first.ensures.items _ _ c.requires.all_passes c.requires.passes).1.none
-
-pub tells_nothing-requires-2-clause-own : goal.tells_nothing-requires-2-clause-own
-tells_nothing-requires-2-clause-own g c = (two_aside _ _ _ _ c.set_aside-first.ensures.items _ _ c.requires.all_passes c.requires.passes).2.own
-
-pub tells_nothing-requires-2-clause-unused : goal.tells_nothing-requires-2-clause-unused
-tells_nothing-requires-2-clause-unused g c = (two_aside _ _ _ _ c.set_aside-first.ensures.items _ _ c.requires.all_passes c.requires.passes).2.none
-
 pub monitor_fresh-status-requires-clause-passes : goal.monitor_fresh-status-requires-clause-passes
 monitor_fresh-status-requires-clause-passes g c κs within = record {
   as_many = omega (arith, c.requires.all_passes, two_longer _ _ _ _ c.set_aside-first.ensures.items);
@@ -40,5 +28,6 @@ returns-clause-passes g c =
 pub returns-clause-ends : goal.returns-clause-ends
 returns-clause-ends g c =
     let after = c.monitor_fresh-status in
+    let aside = two_aside _ _ _ _ c.set_aside-first.ensures.items _ _ c.requires.all_passes c.requires.passes in
     monitored-weaker _ _ _ _ _ _
-    (told_aside c.args.script.now _ _ _ _ _ c.put_back.ensures (omega (arith, after.ensures.all_passes, after.new.passes.ok.0)) c.tells_nothing.ensures c.tells_nothing-2.ensures) after.ensures.ends
+    (told_aside c.args.script.now _ _ _ _ _ c.as_many_are_told.ensures _ _ _ _ c.put_back.ensures (omega (arith, after.ensures.all_passes, after.new.passes.ok.0)) aside.1 aside.2) after.ensures.ends
