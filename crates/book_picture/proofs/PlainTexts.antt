@@ -1,5 +1,5 @@
 -- Texts that have no group, whatever follows them.
-use Rattle.std.proofs.Common.{◌≡◌, ◌≢◌, ℕ, suc, ◌<◌, ◌^◌, Bool, true, false, not, ◌&&◌, ◌||◌, ◌==◌, List, [], ◌∷◌, ◌++◌, length, get_or, codes, decimal, Result, Ok, Err, refl, sym, ap, ◌∙◌, append_assoc, inl, inr, arith}
+use Rattle.std.proofs.Common.{◌≡◌, ◌≢◌, ℕ, suc, ◌<◌, ◌^◌, Bool, true, false, not, ◌&&◌, ◌||◌, ◌==◌, List, [], ◌∷◌, ◌++◌, length, get_or, codes, decimal, Option, Some, None, Result, Ok, Err, refl, sym, ap, ◌∙◌, append_assoc, inl, inr, arith}
 use Rattle.std.specs.Prelude.{OnOk}
 use Rattle.std.specs.Char.{encode_utf8}
 use Rattle.std.proofs.lemmas.Bool.{cases_Bool, and_parts, and_from, cond_both, eqb-false, ne_eqb, both_ways}
@@ -9,10 +9,13 @@ use Rattle.list_laws.proofs.FirstMarks.{decimal-Lacks}
 use Rattle.seq_objects.specs.declared.kind.Kind.{Kind}
 use Rattle.seq_objects.specs.declared.kind.Kind.TheVariants as kinds
 use Rattle.seq_objects.specs.Words.{kind_name}
+use Rattle.book_base.specs.declared.call.Call.{Call}
+use Rattle.book_picture.specs.declared.marks.Marks.{Marks}
+use Rattle.book_picture.specs.Elements.{GrowsByBar}
 use Rattle.book_picture.specs.Escape.{escape_of, escaped}
 use Rattle.book_picture.specs.Groups.{HasNoGroup, is_of_no_group, is_plain, GrowsPlain}
 use Rattle.book_picture.specs.declared.sheet.TheConstants.{STYLE}
-use Rattle.book_picture.specs.Titles.{line_text, title, opening, IsOpening, GrowsByTitle, SaysVerdict}
+use Rattle.book_picture.specs.Titles.{line_text, title, error_text, error_line, first_lines, opening, IsOpening, GrowsByLines, SaysFirst}
 
 -- what is of no group is so whatever follows
 still_of_none : (a b : List ℕ) → is_of_no_group a ≡ true → is_of_no_group (a ++ b) ≡ true
@@ -133,8 +136,15 @@ plain_opening width height across down =
     (plain-append (codes "\">\n") ground refl
     (plain-append STYLE.now (codes "<rect width=\"100%\" height=\"100%\" fill=\"#ffffff\"/>\n") refl refl)))))
 
-pub plain_title : (legal : Bool) → is_plain (line_text (codes "title") 12 24 (title legal)) ≡ true
-plain_title legal = plain_line (codes "title") 12 24 (title legal) refl (omega arith) (omega arith)
+plain_error : (error : Option Call) → is_plain (error_line error) ≡ true
+plain_error None = refl
+plain_error (Some call) = plain_line (codes "note") 12 80 (error_text call) refl (omega arith) (omega arith)
+
+pub plain_first_lines : (legal : Bool) (marks : Marks) (error : Option Call) → is_plain (first_lines legal marks error) ≡ true
+plain_first_lines legal marks error =
+    plain-append (line_text (codes "title") 12 24 (title legal marks)) (error_line error)
+    (plain_line (codes "title") 12 24 (title legal marks) refl (omega arith) (omega arith))
+    (plain_error error)
 
 pub plain_from : (a b : List ℕ) → a ≡ [] → GrowsPlain a b → is_plain b ≡ true
 plain_from a b e h = ap is_plain (h.2 ∙ ap (λ (t : List ℕ). t ++ h.0) e) ∙ h.1
@@ -144,40 +154,54 @@ pub on_ok : {T E : Type 0} (r : Result T E) (P Q : Type 0) → OnOk r P → (P �
 on_ok (Ok x) P Q h f = f h
 on_ok (Err e) P Q h f = h
 
+-- a bar, and what has no group behind it
+pub bar_then : (a b d : List ℕ) → GrowsByBar a b → GrowsPlain b d → GrowsByBar a d
+bar_then a b d h k = (
+  h.0 ++ k.0,
+  (
+    plain-append h.0 k.0 h.1.0 k.1,
+    (h.1.1.0 ++ k.0, ap (λ (t : List ℕ). t ++ k.0) h.1.1.1 ∙ append_assoc (codes "<path class=\"bar") h.1.1.0 k.0),
+  ),
+  k.2 ∙ ap (λ (t : List ℕ). t ++ k.0) h.2 ∙ append_assoc a h.0 k.0,
+)
+
 -- ---- the head
 
-pub head_says : (legal : Bool) (a b d : List ℕ) → IsOpening a → GrowsByTitle legal a b → GrowsPlain b d → SaysVerdict legal d
-head_says legal a b d start h k = record {
+pub head_says : (lines a b d : List ℕ) → IsOpening a → GrowsByLines lines a b → GrowsPlain b d → SaysFirst lines d
+head_says lines a b d start h k = record {
   width = start.0;
   height = start.1;
   rest = h.0 ++ k.0;
   text_is = k.2 ∙ ap (λ (t : List ℕ). t ++ k.0) h.2
-      ∙ append_assoc a (line_text (codes "title") 12 24 (title legal) ++ h.0) k.0
-      ∙ ap (λ (t : List ℕ). a ++ t) (append_assoc (line_text (codes "title") 12 24 (title legal)) h.0 k.0)
-      ∙ ap (λ (t : List ℕ). t ++ (line_text (codes "title") 12 24 (title legal) ++ (h.0 ++ k.0))) start.4;
+      ∙ append_assoc a (lines ++ h.0) k.0
+      ∙ ap (λ (t : List ℕ). a ++ t) (append_assoc lines h.0 k.0)
+      ∙ ap (λ (t : List ℕ). t ++ (lines ++ (h.0 ++ k.0))) start.4;
 }
 
-pub head_plain : (legal : Bool) (a b d : List ℕ) → IsOpening a → GrowsByTitle legal a b → GrowsPlain b d → is_plain d ≡ true
-head_plain legal a b d start h k =
-    let line : List ℕ = line_text (codes "title") 12 24 (title legal) in
+pub head_plain : (lines a b d : List ℕ) → is_plain lines ≡ true → IsOpening a → GrowsByLines lines a b → GrowsPlain b d → is_plain d ≡ true
+head_plain lines a b d plain start h k =
     let first : is_plain a ≡ true = ap is_plain start.4 ∙ plain_opening start.0 start.1 start.2 start.3 in
-    let legend : is_plain (line ++ h.0) ≡ true = plain-append line h.0 (plain_title legal) h.1 in
-    let before : is_plain b ≡ true = ap is_plain h.2 ∙ plain-append a (line ++ h.0) first legend in
+    let legend : is_plain (lines ++ h.0) ≡ true = plain-append lines h.0 plain h.1 in
+    let before : is_plain b ≡ true = ap is_plain h.2 ∙ plain-append a (lines ++ h.0) first legend in
     ap is_plain k.2 ∙ plain-append b k.0 before k.1
 
-pub by_title : (legal : Bool) (a b d : List ℕ) → b ≡ a ++ line_text (codes "title") 12 24 (title legal) → GrowsPlain b d → GrowsByTitle legal a d
-by_title legal a b d e k = (k.0, k.1, k.2 ∙ ap (λ (t : List ℕ). t ++ k.0) e ∙ append_assoc a (line_text (codes "title") 12 24 (title legal)) k.0)
+pub by_lines : (first second a b d f : List ℕ) → b ≡ a ++ first → d ≡ b ++ second → GrowsPlain d f → GrowsByLines (first ++ second) a f
+by_lines first second a b d f e is k = (
+  k.0,
+  k.1,
+  k.2 ∙ ap (λ (t : List ℕ). t ++ k.0) (is ∙ ap (λ (t : List ℕ). t ++ second) e ∙ append_assoc a first second) ∙ append_assoc a (first ++ second) k.0,
+)
 
 -- what follows leaves what a text says first
-pub says_more : (legal other : Bool) (head more text : List ℕ) → legal ≡ other → SaysVerdict legal head → text ≡ head ++ more → SaysVerdict other text
-says_more legal other head more text same h e =
+pub says_more : (lines other head more text : List ℕ) → lines ≡ other → SaysFirst lines head → text ≡ head ++ more → SaysFirst other text
+says_more lines other head more text same h e =
     let start : List ℕ = opening h.width h.height in
     record {
       width = h.width;
       height = h.height;
       rest = h.rest ++ more;
       text_is = e ∙ ap (λ (t : List ℕ). t ++ more) h.text_is
-          ∙ append_assoc start (line_text (codes "title") 12 24 (title legal) ++ h.rest) more
-          ∙ ap (λ (t : List ℕ). start ++ t) (append_assoc (line_text (codes "title") 12 24 (title legal)) h.rest more)
-          ∙ ap (λ (b : Bool). start ++ (line_text (codes "title") 12 24 (title b) ++ (h.rest ++ more))) same;
+          ∙ append_assoc start (lines ++ h.rest) more
+          ∙ ap (λ (t : List ℕ). start ++ t) (append_assoc lines h.rest more)
+          ∙ ap (λ (t : List ℕ). start ++ (t ++ (h.rest ++ more))) same;
     }

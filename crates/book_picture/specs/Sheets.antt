@@ -1,14 +1,13 @@
 -- What can be drawn of a book.
-use Rattle.std.specs.Prelude.{◌≡◌, ◌⊎◌, ℕ, ◌<◌, IsTrue, List, Some, slice_get}
+use Rattle.std.specs.Prelude.{◌≡◌, ◌⊎◌, ℕ, IsTrue, List, Some, slice_get}
 use Rattle.book_base.specs.Book.{Page, IsCall, IsAnswered}
 use Rattle.call_intervals.specs.declared.interval.Interval.{Interval}
 use Rattle.call_intervals.specs.Intervals.{StandsOn}
 
--- An interval can be drawn: it is of a call of the book, which is answered or open, and it has a place.
+-- An interval can be drawn: it is of a call of the book, which is answered or open.
 pub record IsDrawable (book : List Page) (interval : Interval) : Type 0 where
   pub call : IsCall book interval.call
   pub answered : IsTrue interval.is_open ⊎ IsAnswered book interval.call
-  pub place : interval.begin < interval.end
 
 -- Each interval of a lane can be drawn.
 abbrev pub AreDrawable : List Page → List Interval → Type 0
@@ -17,11 +16,3 @@ AreDrawable book lane = (k : ℕ) (interval : Interval) → slice_get lane k ≡
 -- Each interval of these lanes can be drawn.
 abbrev pub AreAllDrawable : List Page → List (List Interval) → Type 0
 AreAllDrawable book lanes = (caller k : ℕ) (interval : Interval) → StandsOn lanes caller k interval → IsDrawable book interval
-
--- Each interval of a lane ends below a number.
-abbrev pub EndBelow : ℕ → List Interval → Type 0
-EndBelow n lane = (k : ℕ) (interval : Interval) → slice_get lane k ≡ Some interval → interval.end < n
-
--- Each interval of these lanes ends below a number.
-abbrev pub AllEndBelow : ℕ → List (List Interval) → Type 0
-AllEndBelow n lanes = (caller k : ℕ) (interval : Interval) → StandsOn lanes caller k interval → interval.end < n

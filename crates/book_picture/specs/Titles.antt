@@ -1,7 +1,10 @@
--- The lines of text in a picture, and the one that says the verdict.
-use Rattle.std.specs.Prelude.{◌≡◌, ℕ, ◌<◌, ◌^◌, Bool, true, false, List, ◌++◌, codes, decimal}
+-- The lines of text in a picture, and the first ones, which say what the picture is of.
+use Rattle.std.specs.Prelude.{◌≡◌, ℕ, ◌<◌, ◌^◌, Bool, true, false, List, [], ◌++◌, codes, decimal, Option, Some, None}
+use Rattle.book_base.specs.declared.call.Call.{Call}
 use Rattle.frontier_check.specs.declared.verdict.Verdict.{Verdict}
 use Rattle.frontier_check.specs.declared.verdict.Verdict.TheVariants.{Legal, Illegal}
+use Rattle.book_picture.specs.declared.marks.Marks.{Marks}
+use Rattle.book_picture.specs.declared.marks.Marks.TheVariants.{Unasked, Smaller, TooLarge, NoMemory}
 use Rattle.book_picture.specs.declared.sheet.TheConstants.{STYLE}
 use Rattle.book_picture.specs.Escape.{escaped}
 use Rattle.book_picture.specs.Groups.{is_plain}
@@ -16,10 +19,34 @@ abbrev pub is_legal : Verdict → Bool
 is_legal (Legal order) = true
 is_legal Illegal = false
 
--- the title of a picture, by whether there is a legal order
-abbrev pub title : Bool → List ℕ
-title true = codes "legal: the numbers give an order of the calls that explains all replies"
-title false = codes "illegal: no order explains these replies"
+-- what the title says of the verdict
+abbrev pub verdict_text : Bool → List ℕ
+verdict_text true = codes "legal: the numbers give an order of the calls that explains all replies"
+verdict_text false = codes "illegal: no order explains these replies"
+
+-- what the title says of the marks
+abbrev pub marks_text : Marks → List ℕ
+marks_text Unasked = []
+marks_text (Smaller numbers) = codes ", nor those of the marked calls alone"
+marks_text TooLarge = codes " (so many calls: none are marked)"
+marks_text NoMemory = codes " (no memory: none are marked)"
+
+-- the title of a picture
+abbrev pub title : Bool → Marks → List ℕ
+title legal marks = verdict_text legal ++ marks_text marks
+
+-- what a picture says of the first error line of a run, which is that of this call
+abbrev pub error_text : Call → List ℕ
+error_text call = codes "the first error line of the run is that of call " ++ (decimal call.number ++ (codes " of caller " ++ decimal call.caller))
+
+-- the line that says it, where there is one
+abbrev pub error_line : Option Call → List ℕ
+error_line None = []
+error_line (Some call) = line_text (codes "note") 12 80 (error_text call)
+
+-- the first lines of a picture: its title, and which error line was the first
+abbrev pub first_lines : Bool → Marks → Option Call → List ℕ
+first_lines legal marks error = line_text (codes "title") 12 24 (title legal marks) ++ error_line error
 
 -- what stands before the first line of text
 abbrev pub opening : ℕ → ℕ → List ℕ
@@ -31,13 +58,13 @@ opening width height =
 abbrev pub IsOpening : List ℕ → Type 0
 IsOpening text = (width : ℕ) × (height : ℕ) × (width < 2 ^ 64) × (height < 2 ^ 64) × (text ≡ opening width height)
 
--- A text has grown by the title, and by what has no group.
-abbrev pub GrowsByTitle : Bool → List ℕ → List ℕ → Type 0
-GrowsByTitle legal before after = (rest : List ℕ) × (is_plain rest ≡ true) × (after ≡ before ++ (line_text (codes "title") 12 24 (title legal) ++ rest))
+-- A text has grown by these lines, and by what has no group.
+abbrev pub GrowsByLines : List ℕ → List ℕ → List ℕ → Type 0
+GrowsByLines lines before after = (rest : List ℕ) × (is_plain rest ≡ true) × (after ≡ before ++ (lines ++ rest))
 
--- The first line of text in a picture is the title for this verdict.
-pub record SaysVerdict (legal : Bool) (text : List ℕ) : Type 0 where
+-- The text of a picture begins with what stands before the first line of text, and with these lines.
+pub record SaysFirst (lines text : List ℕ) : Type 0 where
   pub width : ℕ
   pub height : ℕ
   pub rest : List ℕ
-  pub text_is : text ≡ opening width height ++ (line_text (codes "title") 12 24 (title legal) ++ rest)
+  pub text_is : text ≡ opening width height ++ (lines ++ rest)

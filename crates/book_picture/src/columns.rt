@@ -1,35 +1,37 @@
-ghost use Rattle.std.specs.Prelude.{◌≡◌, ◌+◌, ◌<◌, length, IfOk};
+ghost use Rattle.std.specs.Prelude.{◌≡◌, ◌+◌, length, IfOk};
 ghost use Rattle.call_intervals.specs.Intervals.{rows_of};
 ghost use Rattle.book_picture.specs.Sheets.{IsDrawable, AreDrawable, AreAllDrawable};
 
 use crate::label::Label;
+use crate::row::Stretch;
 use book_base::{Book, NoMemory};
 use call_intervals::Interval;
 use seq_objects::Kind;
 use std::alloc::Global;
 
-/// Where the first column begins, in pixels.
+/// Where the first column of a row begins, in pixels.
 const LEFT: usize = 100;
 
 /// The least width of a column, in pixels.
 const LEAST: usize = 28;
 
-/// The edges of so many columns, in pixels: each is as wide as the labels of the bars that end in it need.
+/// The edges of the columns of a row, in pixels: each column is as wide as the labels of the bars that
+/// end in it need.
 pub(crate) fn column_edges(
     alloc: Global,
     kind: Kind,
     book: &Book,
     lanes: &[Vec<Interval>],
-    columns: usize,
+    stretch: Stretch,
 ) -> Result<Vec<usize>, NoMemory>
     requires { AreAllDrawable book.now (rows_of lanes.now) }
-    ensures { IfOk result (λ edges. length edges.items ≡ columns + 1) }
+    ensures { IfOk result (λ edges. length edges.items ≡ stretch.places + 1) }
 {
     let mut edges = Vec::new(alloc);
     edges.push(LEFT)?;
     let mut edge = LEFT;
-    for _ in 0..columns {
-        edge = next_edge(alloc, kind, book, lanes, &edges, edge)?;
+    for _ in 0..stretch.places {
+        edge = next_edge(alloc, kind, book, lanes, stretch, &edges, edge)?;
         edges.push(edge)?;
     }
     Ok(edges)
@@ -41,6 +43,7 @@ fn next_edge(
     kind: Kind,
     book: &Book,
     lanes: &[Vec<Interval>],
+    stretch: Stretch,
     edges: &[usize],
     last: usize,
 ) -> Result<usize, NoMemory>
@@ -48,7 +51,7 @@ fn next_edge(
 {
     let mut edge = last.saturating_add(LEAST);
     for lane in lanes {
-        edge = edge.max(lane_edge(alloc, kind, book, lane, edges)?);
+        edge = edge.max(lane_edge(alloc, kind, book, lane, stretch, edges)?);
     }
     Ok(edge)
 }
@@ -59,30 +62,33 @@ fn lane_edge(
     kind: Kind,
     book: &Book,
     lane: &[Interval],
+    stretch: Stretch,
     edges: &[usize],
 ) -> Result<usize, NoMemory>
     requires { AreDrawable book.now lane.now }
 {
     let mut edge: usize = 0;
     for interval in lane {
-        if interval.end == edges.len() {
-            edge = edge.max(bar_end(alloc, kind, book, interval, edges)?);
+        if let Some(part) = stretch.part_of(interval) {
+            if part.end == edges.len() {
+                let left = edges[part.begin];
+                edge = edge.max(bar_end(alloc, kind, book, interval, left)?);
+            }
         }
     }
     Ok(edge)
 }
 
-// How far a bar reaches that begins at one of these edges.
+// How far a bar reaches that begins here.
 fn bar_end(
     alloc: Global,
     kind: Kind,
     book: &Book,
     interval: &Interval,
-    edges: &[usize],
+    left: usize,
 ) -> Result<usize, NoMemory>
-    requires drawable { IsDrawable book.now interval.now }
-    requires begin { interval.now.begin < length edges.now }
+    requires { IsDrawable book.now interval.now }
 {
     let label = Label::of(alloc, kind, book, interval)?;
-    Ok(edges[interval.begin].saturating_add(label.width()))
+    Ok(left.saturating_add(label.width()))
 }

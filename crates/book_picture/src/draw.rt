@@ -1,46 +1,72 @@
-ghost use Rattle.std.specs.Prelude.{◌≡◌, ℕ, ◌<◌, ◌++◌, List, length, is_some, string_bytes, IfOk, OnOk};
-ghost use Rattle.call_intervals.specs.Intervals.{rows_of};
+ghost use Rattle.std.specs.Prelude.{◌≡◌, ℕ, ◌++◌, List, is_some, string_bytes, IfOk, OnOk};
 ghost use Rattle.book_picture.specs.Elements.{AreElementsOf, AreLanesElements, ShowsEachCall};
-ghost use Rattle.book_picture.specs.Titles.{is_legal, SaysVerdict};
-ghost use Rattle.book_picture.specs.Sheets.{AreDrawable, AreAllDrawable, EndBelow, AllEndBelow};
+ghost use Rattle.call_intervals.specs.Intervals.{rows_of};
+ghost use Rattle.book_picture.specs.Sheets.{AreDrawable, AreAllDrawable};
+ghost use Rattle.book_picture.specs.Titles.{is_legal, first_lines, SaysFirst};
+ghost use Rattle.book_picture.specs.Values.{class_of_call};
 
-use crate::columns::column_edges;
+use crate::marks::Marks;
+use crate::rows::folded;
 use crate::sheet::Sheet;
-use book_base::{Book, NoMemory, Place};
+use crate::values::values_of;
+use book_base::{Book, Call, NoMemory, Place};
 use call_intervals::{Interval, call_lanes};
 use frontier_check::Verdict;
 use seq_objects::Kind;
 use sketch::sketch;
 use std::alloc::Global;
 
+/// Where the lanes of the first row begin, in pixels.
+const TOP: usize = 84;
+
+/// The height of a line of text, in pixels.
+const LINE: usize = 18;
+
 /// The picture of a book of an object of this kind, with this verdict, as SVG.
 ///
 /// A legal order numbers its calls. Where there is none, nothing in the picture orders the calls but the
-/// places of their bars.
+/// places of their bars. The places are folded into rows, which are read one after the other: a call has
+/// a bar in each row in which it has a place. Calls that show the same value have the same colour, and
+/// some are marked. Where the book is the witness of a run, the picture says of which error line.
 pub fn draw_book(
     alloc: Global,
     kind: Kind,
     book: &Book,
     verdict: &Verdict,
+    marks: &Marks,
+    error: Option<Call>,
 ) -> Result<String, NoMemory>
-    ensures calls { IfOk result (λ text. ShowsEachCall book.now (string_bytes text)) }
-    ensures verdict { IfOk result (λ text.
-        SaysVerdict (is_legal verdict.now) (string_bytes text)) }
+    ensures calls { IfOk result (λ text.
+        ShowsEachCall kind book.now marks.now (string_bytes text)) }
+    ensures says { IfOk result (λ text.
+        SaysFirst (first_lines (is_legal verdict.now) marks.now error) (string_bytes text)) }
 {
     let events = sketch(alloc, book)?;
     let lanes = call_lanes(alloc, book, &events)?;
-    let edges = column_edges(alloc, kind, book, &lanes, events.len())?;
+    let values = values_of(alloc, kind, book, &events)?;
+    let rows = folded(alloc, kind, book, &lanes, events.len(), top_of(error))?;
     let sheet = Sheet {
         alloc,
         kind,
         book,
         order: order_of(verdict),
-        edges: &edges,
+        rows: &rows,
+        values: &values,
+        marks,
+        error,
     };
     let mut out = sheet.head()?;
     put_lanes(&mut out, &sheet, &lanes)?;
     out.push_str("</svg>\n")?;
     Ok(out)
+}
+
+// Where the first row begins: below the line that tells the first error, where there is one.
+fn top_of(error: Option<Call>) -> usize {
+    match error {
+        Some(_) => TOP + LINE,
+        None => TOP,
+    }
 }
 
 // The order that a verdict carries.
@@ -55,9 +81,10 @@ fn order_of(verdict: &Verdict) -> Option<&[Place]>
 
 // Appends the elements of the calls of all callers.
 fn put_lanes(out: &mut String, sheet: &Sheet, lanes: &[Vec<Interval>]) -> Result<(), NoMemory>
-    requires drawable { AreAllDrawable sheet.now.book.now (rows_of lanes.now) }
-    requires ends { AllEndBelow (length sheet.now.edges.now) (rows_of lanes.now) }
-    ensures { OnOk result ((text : List ℕ) × AreLanesElements (rows_of lanes.now) text
+    requires { AreAllDrawable sheet.now.book.now (rows_of lanes.now) }
+    ensures { OnOk result ((text : List ℕ) × AreLanesElements
+        (class_of_call sheet.now.kind sheet.now.book.now sheet.now.values.now sheet.now.marks.now)
+        sheet.now.rows.now (rows_of lanes.now) text
         × (string_bytes out.new ≡ string_bytes out.old ++ text)) }
 {
     for lane in lanes {
@@ -68,9 +95,10 @@ fn put_lanes(out: &mut String, sheet: &Sheet, lanes: &[Vec<Interval>]) -> Result
 
 // Appends the elements of a caller's calls.
 fn put_lane(out: &mut String, sheet: &Sheet, lane: &[Interval]) -> Result<(), NoMemory>
-    requires drawable { AreDrawable sheet.now.book.now lane.now }
-    requires ends { EndBelow (length sheet.now.edges.now) lane.now }
-    ensures { OnOk result ((text : List ℕ) × AreElementsOf lane.now text
+    requires { AreDrawable sheet.now.book.now lane.now }
+    ensures { OnOk result ((text : List ℕ) × AreElementsOf
+        (class_of_call sheet.now.kind sheet.now.book.now sheet.now.values.now sheet.now.marks.now)
+        sheet.now.rows.now lane.now text
         × (string_bytes out.new ≡ string_bytes out.old ++ text)) }
 {
     for interval in lane {

@@ -1,22 +1,22 @@
-ghost use Rattle.std.specs.Prelude.{◌≡◌, ◌<◌, ◌++◌, length, is_some, string_bytes, IsTrue, IfOk, OnOk};
-ghost use Rattle.book_picture.specs.Elements.{IsElementOf};
+ghost use Rattle.std.specs.Prelude.{◌≡◌, ◌<◌, ◌++◌, length, true, codes, is_some, string_bytes, IsTrue, IfOk, OnOk};
+ghost use Rattle.book_base.specs.Book.{IsCall};
+ghost use Rattle.book_picture.specs.Elements.{ArePartsIn, IsElementOf, GrowsByBar, GrowsByPart, GrowsByParts};
 ghost use Rattle.book_picture.specs.Groups.{HasNoGroup, is_plain, GrowsPlain};
-ghost use Rattle.book_picture.specs.Titles.{line_text, IsOpening, GrowsByTitle, SaysVerdict};
+ghost use Rattle.book_picture.specs.Titles.{line_text, verdict_text, title, error_text, error_line, first_lines, IsOpening, GrowsByLines, SaysFirst};
+ghost use Rattle.book_picture.specs.Values.{class_of_call};
 ghost use Rattle.book_picture.specs.Sheets.{IsDrawable};
 
 use crate::escape::put_escaped;
 use crate::label::Label;
+use crate::marks::Marks;
 use crate::number::number_in;
-use book_base::{Book, NoMemory, Place};
+use crate::row::{Part, Row};
+use crate::rows::LANE;
+use crate::values::{class_of, colour_of, value_of};
+use book_base::{Book, Call, NoMemory, Place};
 use call_intervals::Interval;
 use seq_objects::Kind;
 use std::alloc::Global;
-
-/// Where the first lane begins, in pixels.
-const TOP: usize = 84;
-
-/// From one lane to the next, in pixels.
-const LANE: usize = 56;
 
 /// The height of a bar, in pixels.
 const BAR: usize = 44;
@@ -30,55 +30,75 @@ const MARGIN: usize = 12;
 /// The least width of a sheet, in pixels: that of its legend.
 const LEAST_WIDTH: usize = 712;
 
+/// Eight colours on which dark text is read well, one for each value, and a further one for calls
+/// that show no value.
 const STYLE: &str = "<style>\n\
     text { font: 13px monospace; fill: #1b1b1b; }\n\
     .title { font-weight: bold; }\n\
     .note { fill: #4d4d4d; }\n\
     .lane { stroke: #c9c9c9; }\n\
-    .bar { fill: #e6eef8; stroke: #2b5480; stroke-width: 1.5; }\n\
-    .open { stroke-dasharray: 5 3; }\n\
+    .bar { fill: #eeeeee; stroke: #2b5480; stroke-width: 1.5; }\n\
+    .value-0 .bar { fill: #cfe3fb; }\n\
+    .value-1 .bar { fill: #fde0b8; }\n\
+    .value-2 .bar { fill: #d3efd0; }\n\
+    .value-3 .bar { fill: #f6d0df; }\n\
+    .value-4 .bar { fill: #e2d6f6; }\n\
+    .value-5 .bar { fill: #fbf3b4; }\n\
+    .value-6 .bar { fill: #c8eeee; }\n\
+    .value-7 .bar { fill: #e6d8c8; }\n\
+    .marked .bar { stroke: #b3261e; stroke-width: 3.5; }\n\
+    .marked .call { font-weight: bold; }\n\
+    .bar.open { stroke-dasharray: 5 3; }\n\
+    .bar.through { stroke: none; }\n\
     .badge { fill: #2b5480; }\n\
     .number { fill: #ffffff; font-size: 10px; font-weight: bold; text-anchor: middle; }\n\
     </style>\n";
 
-/// A sheet for the picture of a book: the edges of its columns, one for each event, in pixels.
+/// A sheet for the picture of a book: the rows that its places are folded into, and what is said of it.
 #[derive(Drop)]
 pub(crate) struct Sheet<'a> {
     pub alloc: Global,
     pub kind: Kind,
     pub book: &'a Book,
     pub order: Option<&'a [Place]>,
-    pub edges: &'a [usize],
+    pub rows: &'a [Row],
+    pub values: &'a [u64],
+    pub marks: &'a Marks,
+    pub error: Option<Call>,
 }
 
-/// Where a bar stands, in pixels.
+/// Where a bar stands, in pixels, and which edges of it are drawn: the left one where its call is
+/// invoked, and the right one where it returns.
 #[derive(Clone, Copy)]
 struct Bar {
     left: usize,
     right: usize,
     top: usize,
+    begins: bool,
+    ends: bool,
+    is_open: bool,
 }
 
 impl Sheet<'_> {
-    /// What stands before the bars: the legend, and the lanes with their callers.
+    /// What stands before the bars: the legend, and in each row the lanes with their callers.
     pub fn head(&self) -> Result<String, NoMemory>
         ensures plain { IfOk result (λ text. HasNoGroup (string_bytes text)) }
-        ensures verdict { IfOk result (λ text.
-            SaysVerdict (is_some self.now.order) (string_bytes text)) }
+        ensures says { IfOk result (λ text.
+            SaysFirst (first_lines (is_some self.now.order) self.now.marks.now self.now.error)
+            (string_bytes text)) }
     {
-        let last = self.edges.last().copied().unwrap_or(0);
-        let width = last.saturating_add(MARGIN).max(LEAST_WIDTH);
-        let mut out = self.opening(width)?;
+        let callers = self.book.callers();
+        let width = width_of(self.rows);
+        let mut out = self.opening(width, height_of(self.rows, callers))?;
         self.put_legend(&mut out)?;
-        put_lanes(&mut out, self.book.callers(), width.saturating_sub(MARGIN))?;
+        put_rows(&mut out, self.rows, callers, width.saturating_sub(MARGIN))?;
         Ok(out)
     }
 
-    // What stands before the legend of a sheet of this width: the style, and the ground.
-    fn opening(&self, width: usize) -> Result<String, NoMemory>
+    // What stands before the legend of a sheet of this size: the style, and the ground.
+    fn opening(&self, width: usize, height: usize) -> Result<String, NoMemory>
         ensures { IfOk result (λ text. IsOpening (string_bytes text)) }
     {
-        let height = top_of(self.book.callers());
         let mut out = String::new(self.alloc);
         write!(
             out,
@@ -91,55 +111,174 @@ impl Sheet<'_> {
 
     // Appends what the picture says of the book, and how it is read.
     fn put_legend(&self, out: &mut String) -> Result<(), NoMemory>
-        ensures { OnOk result (GrowsByTitle (is_some self.now.order)
+        ensures { OnOk result (GrowsByLines
+            (first_lines (is_some self.now.order) self.now.marks.now self.now.error)
             (string_bytes out.old) (string_bytes out.new)) }
     {
-        let verdict = match self.order {
+        let title = self.title()?;
+        put_line(out, "title", MARGIN, 24, title.as_bytes())?;
+        self.put_error(out)?;
+        put_notes(out, self.kind)
+    }
+
+    // The title: what is said of the verdict, and of the marks.
+    fn title(&self) -> Result<String, NoMemory>
+        ensures { IfOk result (λ text.
+            string_bytes text ≡ title (is_some self.now.order) self.now.marks.now) }
+    {
+        let verdict = self.verdict();
+        let remark = self.marks.remark();
+        let text = format!(in self.alloc; "{verdict}{remark}")?;
+        Ok(text)
+    }
+
+    // What is said of the verdict.
+    fn verdict(&self) -> &'static str
+        ensures { result.now ≡ verdict_text (is_some self.now.order) }
+    {
+        match self.order {
             Some(_) => "legal: the numbers give an order of the calls that explains all replies",
             None => "illegal: no order explains these replies",
-        };
-        put_line(out, "title", MARGIN, 24, verdict.as_bytes())?;
-        put_notes(out, self.kind)
+        }
+    }
+
+    // Appends which error line of a run was the first, where that is known.
+    fn put_error(&self, out: &mut String) -> Result<(), NoMemory>
+        ensures { OnOk result (string_bytes out.new
+            ≡ string_bytes out.old ++ error_line self.now.error) }
+    {
+        match self.error {
+            None => Ok(()),
+            Some(call) => put_error_line(self.alloc, out, call),
+        }
     }
 
     /// The element of a call.
     pub fn element(&self, interval: &Interval) -> Result<String, NoMemory>
-        requires drawable { IsDrawable self.now.book.now interval.now }
-        requires end { interval.now.end < length self.now.edges.now }
-        ensures { IfOk result (λ text. IsElementOf interval.now.call (string_bytes text)) }
+        requires { IsDrawable self.now.book.now interval.now }
+        ensures { IfOk result (λ text. IsElementOf
+            (class_of_call self.now.kind self.now.book.now self.now.values.now self.now.marks.now)
+            self.now.rows.now interval.now (string_bytes text)) }
     {
         let caller = interval.call.caller;
         let number = interval.call.number;
+        let class = self.class(interval.call)?;
         let inside = self.inside(interval)?;
-        let text = format!(in self.alloc; "<g id=\"call-{caller}-{number}\">\n{inside}</g>\n")?;
+        let text = format!(in self.alloc;
+            "<g id=\"call-{caller}-{number}\" class=\"{class}\">\n{inside}</g>\n"
+        )?;
         Ok(text)
     }
 
-    // What stands in the element of a call: the bar, the label, and the number in the order.
-    fn inside(&self, interval: &Interval) -> Result<String, NoMemory>
-        requires drawable { IsDrawable self.now.book.now interval.now }
-        requires end { interval.now.end < length self.now.edges.now }
-        ensures { IfOk result (λ text. IsTrue (is_plain (string_bytes text))) }
+    // The classes of a call's element: its colour, and whether it is marked.
+    fn class(&self, call: Call) -> Result<String, NoMemory>
+        requires { IsCall self.now.book.now call }
+        ensures { IfOk result (λ text. string_bytes text ≡ class_of_call
+            self.now.kind self.now.book.now self.now.values.now self.now.marks.now call) }
     {
-        let bar = Bar {
-            left: self.edges[interval.begin].saturating_add(GAP),
-            right: self.edges[interval.end].saturating_sub(GAP),
-            top: top_of(interval.call.caller),
-        };
+        let value = value_of(self.kind, self.book, call);
+        let colour = colour_of(self.values, value);
+        let is_marked = self.marks.has(call);
+        class_of(self.alloc, colour, is_marked)
+    }
+
+    // What stands in the element of a call: in each row its bar, if it has a part there.
+    fn inside(&self, interval: &Interval) -> Result<String, NoMemory>
+        requires { IsDrawable self.now.book.now interval.now }
+        ensures plain { IfOk result (λ text. IsTrue (is_plain (string_bytes text))) }
+        ensures parts { IfOk result (λ text.
+            ArePartsIn self.now.rows.now interval.now (string_bytes text)) }
+    {
         let label = Label::of(self.alloc, self.kind, self.book, interval)?;
+        let number = self.number(interval.call);
         let mut out = String::new(self.alloc);
-        put_outline(&mut out, bar, interval.is_open)?;
-        put_label(&mut out, bar, &label)?;
-        if let Some(order) = self.order {
-            put_number(&mut out, bar, number_in(order, interval.call))?;
-        }
+        put_parts(&mut out, self.rows, interval, &label, number)?;
         Ok(out)
+    }
+
+    // The number of a call in the order, where it stands in it.
+    fn number(&self, call: Call) -> Option<usize> {
+        match self.order {
+            Some(order) => number_in(order, call),
+            None => None,
+        }
     }
 }
 
-// Where the lane of a caller begins, in pixels.
-fn top_of(caller: u32) -> usize {
-    (caller as usize).saturating_mul(LANE).saturating_add(TOP)
+impl Bar {
+    // The class of its outline. That of a part which goes on from the row before to the next has none.
+    fn class(self) -> &'static str
+        ensures { is_plain result.now ≡ true }
+    {
+        if !self.begins && !self.ends {
+            " through"
+        } else if self.is_open {
+            " open"
+        } else {
+            ""
+        }
+    }
+
+    // Where its outline begins and ends: right, where the right edge isn't drawn.
+    fn start(self) -> usize {
+        if self.begins && !self.ends {
+            self.right
+        } else {
+            self.left
+        }
+    }
+
+    // Where its outline turns.
+    fn turn(self) -> usize {
+        if self.begins && !self.ends {
+            self.left
+        } else {
+            self.right
+        }
+    }
+
+    // What closes its outline, where both edges are drawn or neither.
+    fn close(self) -> &'static str
+        ensures { is_plain result.now ≡ true }
+    {
+        if self.begins == self.ends { " Z" } else { "" }
+    }
+}
+
+// The width of a sheet with these rows, in pixels.
+fn width_of(rows: &[Row]) -> usize {
+    let mut width = LEAST_WIDTH;
+    for row in rows {
+        let last = row.edges.last().copied().unwrap_or(0);
+        width = width.max(last.saturating_add(MARGIN));
+    }
+    width
+}
+
+// The height of a sheet with these rows of so many lanes, in pixels.
+fn height_of(rows: &[Row], callers: u32) -> usize {
+    let mut height = 0;
+    for row in rows {
+        height = lane_top(row.top, callers);
+    }
+    height
+}
+
+// Where the lane of a caller begins, in pixels, in a row that begins here.
+fn lane_top(top: usize, caller: u32) -> usize {
+    (caller as usize).saturating_mul(LANE).saturating_add(top)
+}
+
+// Appends which error line of a run was the first: that of this call.
+fn put_error_line(alloc: Global, out: &mut String, call: Call) -> Result<(), NoMemory>
+    ensures { OnOk result (string_bytes out.new
+        ≡ string_bytes out.old ++ line_text (codes "note") 12 80 (error_text call)) }
+{
+    let Call { caller, number } = call;
+    let text = format!(in alloc;
+        "the first error line of the run is that of call {number} of caller {caller}"
+    )?;
+    put_line(out, "note", MARGIN, 80, text.as_bytes())
 }
 
 // Appends how a picture of an object of this kind is read.
@@ -157,21 +296,31 @@ fn put_notes(out: &mut String, kind: Kind) -> Result<(), NoMemory>
     Ok(())
 }
 
-// Appends the lanes of so many callers.
-fn put_lanes(out: &mut String, callers: u32, right: usize) -> Result<(), NoMemory>
+// Appends the lanes of so many callers in each row.
+fn put_rows(out: &mut String, rows: &[Row], callers: u32, right: usize) -> Result<(), NoMemory>
+    ensures { OnOk result (GrowsPlain (string_bytes out.old) (string_bytes out.new)) }
+{
+    for row in rows {
+        put_lanes(out, row.top, callers, right)?;
+    }
+    Ok(())
+}
+
+// Appends the lanes of so many callers, in a row that begins here.
+fn put_lanes(out: &mut String, top: usize, callers: u32, right: usize) -> Result<(), NoMemory>
     ensures { OnOk result (GrowsPlain (string_bytes out.old) (string_bytes out.new)) }
 {
     for caller in 0..callers {
-        put_lane(out, caller, right)?;
+        put_lane(out, top, caller, right)?;
     }
     Ok(())
 }
 
 // Appends the line and the name of a lane.
-fn put_lane(out: &mut String, caller: u32, right: usize) -> Result<(), NoMemory>
+fn put_lane(out: &mut String, top: usize, caller: u32, right: usize) -> Result<(), NoMemory>
     ensures { OnOk result (GrowsPlain (string_bytes out.old) (string_bytes out.new)) }
 {
-    let middle = top_of(caller).saturating_add(BAR / 2);
+    let middle = lane_top(top, caller).saturating_add(BAR / 2);
     let base = middle.saturating_add(4);
     write!(
         out,
@@ -184,23 +333,78 @@ fn put_lane(out: &mut String, caller: u32, right: usize) -> Result<(), NoMemory>
     Ok(())
 }
 
-// Appends the outline of a bar. That of an open one has no right edge.
-fn put_outline(out: &mut String, bar: Bar, is_open: bool) -> Result<(), NoMemory>
-    ensures { OnOk result (GrowsPlain (string_bytes out.old) (string_bytes out.new)) }
+// Appends what these rows have of an interval.
+fn put_parts(
+    out: &mut String,
+    rows: &[Row],
+    interval: &Interval,
+    label: &Label,
+    number: Option<usize>,
+) -> Result<(), NoMemory>
+    ensures { OnOk result (GrowsByParts rows.now interval.now
+        (string_bytes out.old) (string_bytes out.new)) }
 {
-    let Bar { left, right, top } = bar;
-    let bottom = top.saturating_add(BAR);
-    if is_open {
-        write!(
-            out,
-            "<path class=\"bar open\" d=\"M {right} {top} H {left} V {bottom} H {right}\"/>\n"
-        )?;
-    } else {
-        write!(
-            out,
-            "<path class=\"bar\" d=\"M {left} {top} H {right} V {bottom} H {left} Z\"/>\n"
-        )?;
+    for row in rows {
+        put_part(out, row, interval, label, number)?;
     }
+    Ok(())
+}
+
+// Appends what a row has of an interval: its bar, if it has a part there.
+fn put_part(
+    out: &mut String,
+    row: &Row,
+    interval: &Interval,
+    label: &Label,
+    number: Option<usize>,
+) -> Result<(), NoMemory>
+    ensures { OnOk result (GrowsByPart row.now interval.now
+        (string_bytes out.old) (string_bytes out.new)) }
+{
+    match row.part_of(interval) {
+        Some(part) => put_bar(out, bar_of(row, interval, part), label, number),
+        None => Ok(()),
+    }
+}
+
+// Where the bar of a part stands.
+fn bar_of(row: &Row, interval: &Interval, part: Part) -> Bar
+    requires begin { part.begin < length row.now.edges.items }
+    requires end { part.end < length row.now.edges.items }
+{
+    Bar {
+        left: row.edges[part.begin].saturating_add(GAP),
+        right: row.edges[part.end].saturating_sub(GAP),
+        top: lane_top(row.top, interval.call.caller),
+        begins: part.begins,
+        ends: part.ends && !interval.is_open,
+        is_open: interval.is_open,
+    }
+}
+
+// Appends a bar, with its label and the number of its call in the order, where it stands in it.
+fn put_bar(out: &mut String, bar: Bar, label: &Label, number: Option<usize>) -> Result<(), NoMemory>
+    ensures { OnOk result (GrowsByBar (string_bytes out.old) (string_bytes out.new)) }
+{
+    put_outline(out, bar)?;
+    put_label(out, bar, label)?;
+    put_number(out, bar, number)
+}
+
+// Appends the outline of a bar.
+fn put_outline(out: &mut String, bar: Bar) -> Result<(), NoMemory>
+    ensures { OnOk result (GrowsByBar (string_bytes out.old) (string_bytes out.new)) }
+{
+    let class = bar.class();
+    let start = bar.start();
+    let turn = bar.turn();
+    let close = bar.close();
+    let top = bar.top;
+    let bottom = top.saturating_add(BAR);
+    write!(
+        out,
+        "<path class=\"bar{class}\" d=\"M {start} {top} H {turn} V {bottom} H {start}{close}\"/>\n"
+    )?;
     Ok(())
 }
 

@@ -1,6 +1,7 @@
 //! Which part of an input is a book's text, and in which version.
 
 ghost use Rattle.std.specs.Prelude.{◌↔◌, ◌+◌, ◌<◌, ◌≤◌, drop, length, IsTrue, IsNone, IfSome, List, ℕ};
+ghost use Rattle.given_book.specs.FirstError.{IsReportPart};
 ghost use Rattle.given_book.specs.Given.{BeginsAsReport, BeginsAsOldBook, IsAfterVerdict, BeginsAsVerdict, HasEndAt, HasNoEnd, IsWitnessPart, IsBookPart};
 
 use text_fields::Version;
@@ -69,6 +70,16 @@ fn after_end(bytes: &[u8]) -> &[u8]
     match place_of_end(bytes) {
         Some(at) => &bytes[at + 5..],
         None => &bytes[bytes.len()..],
+    }
+}
+
+/// What may be the text of a report at the beginning of the bytes: up to the first line `end`, with it.
+pub(crate) fn report_part(bytes: &[u8]) -> &[u8]
+    ensures { IsReportPart bytes.now result.now }
+{
+    match place_of_end(bytes) {
+        Some(at) => &bytes[..at + 5],
+        None => bytes,
     }
 }
 

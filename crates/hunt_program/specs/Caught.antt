@@ -1,5 +1,5 @@
 -- What is written of a hunt, and of what it caught.
-use Rattle.std.specs.Prelude.{◌≡◌, ℕ, ◌++◌, List, Option, codes, false}
+use Rattle.std.specs.Prelude.{◌≡◌, ℕ, ◌++◌, List, Option, None, codes, false}
 use Rattle.book_base.specs.Book.{Page}
 use Rattle.book_base.specs.Order.{HasLegalOrder}
 use Rattle.seq_objects.specs.declared.kind.Kind.{Kind}
@@ -11,7 +11,8 @@ use Rattle.smaller_book.specs.Part.{IsPart}
 use Rattle.smaller_book.specs.Keys.{IsEvidence}
 use Rattle.smaller_book.specs.Minimal.{IsMinimal}
 use Rattle.book_picture.specs.Elements.{ShowsEachCall}
-use Rattle.book_picture.specs.Titles.{SaysVerdict}
+use Rattle.book_picture.specs.Titles.{first_lines, SaysFirst}
+use Rattle.book_picture.specs.declared.marks.Marks.TheVariants.{Unasked}
 use Rattle.byte_streams.specs.declared.status.Status.{Status}
 use Rattle.byte_streams.specs.declared.status.Status.TheVariants.{Fine, Found}
 use Rattle.hunts.specs.declared.trial.Catch.{Catch}
@@ -34,7 +35,8 @@ IsSmallerText kind book text = (part : List Page) × IsSmallerWitness kind book 
 
 -- The text is a picture of a book made small, which says that it has no legal order.
 abbrev pub IsSmallerPicture : Kind → List Page → List ℕ → Type 0
-IsSmallerPicture kind book text = (part : List Page) × IsSmallerWitness kind book part × ShowsEachCall part text × SaysVerdict false text
+IsSmallerPicture kind book text =
+    (part : List Page) × IsSmallerWitness kind book part × ShowsEachCall kind part Unasked text × SaysFirst (first_lines false Unasked None) text
 
 -- The text is that of a catch's report, and behind it that of its witness.
 abbrev pub IsReportShown : Kind → Catch → List ℕ → Type 0

@@ -1,17 +1,20 @@
 //! The program: it reads a book, or the whole output of a run, and writes the picture of the book or of the witness.
 #![tactic(auto)]
 
+mod marking;
+
 ghost use Rattle.std.specs.Prelude.{◌≡◌, ◌⊎◌, string_bytes, IfOk, IfErr};
 ghost use Rattle.byte_streams.specs.Fault.{Rose};
 ghost use Rattle.witness_picture.specs.Output.{IsPictureOf, IsNoPicture};
 
+use crate::marking::marks_for;
 use book_base::{NoMemory, ReadFault, TextFault, What};
 use book_picture::draw_book;
 use byte_streams::{
     INPUT_LIMIT, ReadAllError, Sink, Source, Status, StdSink, StdSource, read_all, write_text,
 };
 use frontier_check::check;
-use given_book::read_given;
+use given_book::{first_error, read_given};
 use std::alloc::Global;
 use std::process::ExitCode;
 use text_refusals::refusal;
@@ -28,8 +31,10 @@ fn picture(alloc: Global, bytes: &[u8]) -> Result<String, ReadFault>
         }));
     }
     let (kind, book) = read_given(alloc, bytes)?;
+    let error = first_error(alloc, bytes)?;
     let verdict = check(alloc, &kind, &book)?;
-    Ok(draw_book(alloc, kind, &book, &verdict)?)
+    let marks = marks_for(alloc, kind, &book, &verdict);
+    Ok(draw_book(alloc, kind, &book, &verdict, &marks, error)?)
 }
 
 // Reads the source, and writes the picture of its book, or why it gives none.

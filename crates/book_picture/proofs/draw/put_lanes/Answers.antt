@@ -1,24 +1,23 @@
 use Rattle.std.proofs.Common.{List, ◌++◌, string_bytes, append_assoc, subst}
 use Rattle.call_intervals.specs.declared.interval.Interval.{Interval}
 use Rattle.book_picture.specs.Elements.{AreElementsOf}
-use Rattle.book_picture.proofs.DrawingLemmas.{drawable_lane, ends_below_lane, rows_turn}
+use Rattle.book_picture.specs.Values.{class_of_call}
+use Rattle.book_picture.proofs.DrawingLemmas.{drawable_lane, lanes_turn}
 use Rattle.book_picture.proofs.draw.put_lanes.Goals as goal
 
-pub put_lane-requires-clause-drawable : goal.put_lane-requires-clause-drawable
-put_lane-requires-clause-drawable c =
-    drawable_lane c.args.sheet.now.book.now c.args.lanes.now c.loop-lane.lane-index c.lane-item.result c.deref.result.now c.loop-lane-test.true c.lane-item.is c.deref.ensures.value c.requires.drawable
-
-pub put_lane-requires-clause-ends : goal.put_lane-requires-clause-ends
-put_lane-requires-clause-ends c =
-    ends_below_lane _ c.args.lanes.now c.loop-lane.lane-index c.lane-item.result c.deref.result.now c.loop-lane-test.true c.lane-item.is c.deref.ensures.value c.requires.ends
+pub put_lane-requires : goal.put_lane-requires
+put_lane-requires c =
+    drawable_lane c.args.sheet.now.book.now c.args.lanes.now c.loop-lane.lane-index c.lane-item.result c.deref.result.now c.loop-lane-test.true c.lane-item.is c.deref.ensures.value c.requires
 
 pub loop-lane-preserved : goal.loop-lane-preserved
 loop-lane-preserved c =
+    let sheet = c.args.sheet.now in
+    let class = class_of_call sheet.kind sheet.book.now sheet.values.now sheet.marks.now in
     let was = c.loop-lane.invariant in
     let put = c.in_ok-put_lane.ensures in
     let joined = append_assoc (string_bytes c.args.out.now) was.0 put.0 in (
       was.0 ++ put.0,
-      rows_turn c.args.lanes.now c.loop-lane.lane-index c.lane-item.result was.0 put.0 c.loop-lane-test.true c.lane-item.is was.1
-          (subst (λ (lane : List Interval). AreElementsOf lane put.0) c.deref.ensures.value put.1),
+      lanes_turn class sheet.rows.now c.args.lanes.now c.loop-lane.lane-index c.lane-item.result was.0 put.0 c.loop-lane-test.true c.lane-item.is was.1
+          (subst (λ (lane : List Interval). AreElementsOf class sheet.rows.now lane put.0) c.deref.ensures.value put.1),
       cc (joined, was.2, put.2),
     )

@@ -1,14 +1,16 @@
-use Rattle.std.proofs.Common.{string_bytes, ap, ◌∙◌}
+use Rattle.std.proofs.Common.{◌≡◌, ℕ, List, ◌++◌, string_bytes, sym, ap, subst, ◌∙◌}
 use Rattle.book_picture.specs.Groups.{is_plain}
-use Rattle.book_picture.proofs.PlainTexts.{grows_then, plain_from}
+use Rattle.book_picture.specs.Elements.{ArePartsIn}
 use Rattle.book_picture.proofs.sheet.Sheet.inside.Goals as goal
-use Rattle.book_picture.proofs.sheet.Sheet.inside.Goals.{in-Some+in_ok-put_number, in_default}
 
-pub returns : goal.returns
-returns c =
-    let first = grows_then _ _ _ c.in_ok-put_outline.ensures c.in_ok-put_label.ensures in
-    elim c.match-self.branch [
-      | in-Some+in_ok-put_number w ↦
-          ap (λ o. is_plain (string_bytes o)) w.out-is ∙ plain_from _ _ c.new-out.ensures.bytes (grows_then _ _ _ first w.in_ok-put_number.ensures)
-      | in_default w ↦ ap (λ o. is_plain (string_bytes o)) w.out-is ∙ plain_from _ _ c.new-out.ensures.bytes first
-    ]
+pub returns-clause-plain : goal.returns-clause-plain
+returns-clause-plain c =
+    let put = c.in_ok-put_parts.ensures in
+    let is : string_bytes c.put_parts.new.out ≡ put.0 = put.3 ∙ ap (λ (t : List ℕ). t ++ put.0) c.new-out.ensures.bytes in
+    ap is_plain is ∙ put.1
+
+pub returns-clause-parts : goal.returns-clause-parts
+returns-clause-parts c =
+    let put = c.in_ok-put_parts.ensures in
+    let is : string_bytes c.put_parts.new.out ≡ put.0 = put.3 ∙ ap (λ (t : List ℕ). t ++ put.0) c.new-out.ensures.bytes in
+    subst (ArePartsIn c.args.self.now.rows.now c.args.interval.now) (sym is) put.2

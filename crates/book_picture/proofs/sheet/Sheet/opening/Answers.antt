@@ -4,7 +4,7 @@ use Rattle.book_picture.proofs.sheet.Sheet.opening.Goals as goal
 pub returns : goal.returns
 returns c = (
   c.args.width,
-  c.top_of-height.result,
+  c.args.height,
   omega arith,
   omega arith,
   simp (c.in_ok-push_str-2.ensures.bytes, c.in_ok-push_str.ensures.bytes, c.in_ok-write.ensures.bytes, c.new-out.ensures.bytes, append_assoc),

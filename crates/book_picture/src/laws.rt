@@ -1,0 +1,33 @@
+//! Laws of pictures: of the rows that places are folded into, and of the colours of values.
+
+ghost use Rattle.std.specs.Prelude.{◌≡◌};
+ghost use Rattle.book_picture.specs.declared.row.TheConstants.{ROW_PLACES};
+ghost use Rattle.book_picture.specs.declared.values.TheConstants.{COLOURS};
+ghost use Rattle.book_picture.specs.Rows.{ADozenStayOnOneRow};
+ghost use Rattle.book_picture.specs.Values.{ArgumentsAreOfTheTable, EachValueAppears, FewValuesAreToldApart};
+
+/// The sizes: how many places a row has at most, and how many colours there are.
+pub fn sizes()
+    ensures row { ROW_PLACES ≡ 24 }
+    ensures colours { COLOURS ≡ 8 }
+{}
+
+/// So many places as the sketch of a dozen calls has at most stay on one row.
+pub fn a_dozen_calls_stay_on_one_row()
+    ensures { ADozenStayOnOneRow }
+{}
+
+/// Which operations have an argument, by their codes, is what the tables of the kinds say.
+pub fn arguments_are_of_the_table()
+    ensures { ArgumentsAreOfTheTable }
+{}
+
+/// Each value that an invoked call shows is among those that appear.
+pub fn each_value_appears()
+    ensures { EachValueAppears }
+{}
+
+/// Where no more values appear than there are colours, two of them have two colours.
+pub fn few_values_have_colours_of_their_own()
+    ensures { FewValuesAreToldApart }
+{}

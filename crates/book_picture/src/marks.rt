@@ -1,0 +1,56 @@
+ghost use Rattle.std.specs.Prelude.{◌≡◌};
+ghost use Rattle.book_picture.specs.Marks.{numbers_in, is_named, is_marked};
+ghost use Rattle.book_picture.specs.Titles.{marks_text};
+
+use book_base::Call;
+
+/// Which calls of a picture are marked, and why no others are.
+#[derive(Debug, Drop)]
+pub enum Marks {
+    /// None are, and the picture says nothing of marks.
+    Unasked,
+    /// Those of a smaller book that no order explains either: for each caller, their numbers.
+    Smaller(Vec<Vec<u64>>),
+    /// None are, since no smaller book is sought of a book with so many calls.
+    TooLarge,
+    /// None are, since there was no memory for a smaller book.
+    NoMemory,
+}
+
+impl Marks {
+    /// Whether a call is marked.
+    pub(crate) fn has(&self, call: Call) -> bool
+        ensures { result ≡ is_marked self.now call }
+    {
+        match self {
+            Marks::Unasked => false,
+            Marks::Smaller(numbers) => is_named(numbers, call),
+            Marks::TooLarge => false,
+            Marks::NoMemory => false,
+        }
+    }
+
+    /// What the title of a picture says of its marks.
+    pub(crate) fn remark(&self) -> &'static str
+        ensures { result.now ≡ marks_text self.now }
+    {
+        match self {
+            Marks::Unasked => "",
+            Marks::Smaller(_) => ", nor those of the marked calls alone",
+            Marks::TooLarge => " (so many calls: none are marked)",
+            Marks::NoMemory => " (no memory: none are marked)",
+        }
+    }
+}
+
+// Whether a call is one of those with these numbers, by caller.
+fn is_named(numbers: &[Vec<u64>], call: Call) -> bool
+    ensures { result ≡ is_named (numbers_in numbers.now) call }
+{
+    let caller = call.caller as usize;
+    if caller < numbers.len() {
+        numbers[caller].contains(&call.number)
+    } else {
+        false
+    }
+}

@@ -1,0 +1,72 @@
+//! A row of a picture, and what of an interval stands in it.
+
+ghost use Rattle.std.specs.Prelude.{◌≡◌, ◌-◌, ◌<◌, ◌≤◌, length, is_some, IfSome};
+ghost use Rattle.book_picture.specs.Rows.{has_part};
+
+use call_intervals::Interval;
+
+/// How many places of a sketch a row has at most: two for each of a dozen calls.
+pub(crate) const ROW_PLACES: usize = 24;
+
+/// The places of a row: the first of them, and how many there are.
+#[derive(Clone, Copy, Debug)]
+pub(crate) struct Stretch {
+    pub first: usize,
+    pub places: usize,
+}
+
+/// A row: the first of its places, where its lanes begin, and the edges of its columns, in pixels.
+#[derive(Debug, Drop)]
+pub(crate) struct Row {
+    pub first: usize,
+    pub top: usize,
+    pub edges: Vec<usize>,
+}
+
+/// The part of an interval that stands in a row: the edges at which it begins and ends, and whether the
+/// interval begins and ends there too.
+#[derive(Clone, Copy, Debug)]
+pub(crate) struct Part {
+    pub begin: usize,
+    pub end: usize,
+    pub begins: bool,
+    pub ends: bool,
+}
+
+impl Stretch {
+    /// The part of an interval that stands on these places, if it has one there.
+    pub fn part_of(self, interval: &Interval) -> Option<Part>
+        ensures some { is_some result ≡ has_part self.first self.places interval.now }
+        ensures place { IfSome result (λ part. (part.begin < part.end) × (part.end ≤ self.places)) }
+    {
+        let begin = interval.begin.saturating_sub(self.first);
+        let behind = interval.end.saturating_sub(self.first);
+        let end = behind.min(self.places);
+        if begin < end {
+            Some(Part {
+                begin,
+                end,
+                begins: self.first <= interval.begin,
+                ends: behind <= self.places,
+            })
+        } else {
+            None
+        }
+    }
+}
+
+impl Row {
+    /// The part of an interval that stands in the row, if it has one there.
+    pub fn part_of(&self, interval: &Interval) -> Option<Part>
+        ensures some { is_some result
+            ≡ has_part self.now.first (length self.now.edges.items - 1) interval.now }
+        ensures place { IfSome result (λ part. (part.begin < part.end)
+            × (part.end < length self.now.edges.items)) }
+    {
+        let stretch = Stretch {
+            first: self.first,
+            places: self.edges.len().saturating_sub(1),
+        };
+        stretch.part_of(interval)
+    }
+}

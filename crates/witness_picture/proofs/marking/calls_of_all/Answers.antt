@@ -1,0 +1,20 @@
+use Rattle.std.proofs.Common.{◌≡◌, ◌∙◌, ◌≤◌, ℕ, List, length, sum, take, take_all, ap, arith}
+use Rattle.book_base.specs.Book.{Page, announced, calls_of}
+use Rattle.std.proofs.lemmas.List.{length-map}
+use Rattle.witness_picture.proofs.Judging.{calls_more}
+use Rattle.witness_picture.proofs.marking.calls_of_all.Goals as goal
+
+pub overflow_add-total : goal.overflow_add-total
+overflow_add-total c =
+    let few : calls_of c.args.book.now c.loop-caller.caller ≤ 256 = c.callers-caller-end.ensures.small.calls c.loop-caller.caller in
+    omega (arith, few, c.calls-total.ensures, c.loop-caller.invariant.most)
+
+pub loop-caller-preserved : goal.loop-caller-preserved
+loop-caller-preserved c =
+    let book = c.args.book.now in
+    let i = c.loop-caller.caller in
+    let few : calls_of book i ≤ 256 = c.callers-caller-end.ensures.small.calls i in
+    record {
+      counted = omega (arith, c.calls-total.ensures, calls_more book i c.loop-caller.total (omega (arith, c.callers-caller-end.ensures.count)) c.loop-caller.invariant.counted);
+      most = omega (arith, few, c.calls-total.ensures, c.loop-caller.invariant.most);
+    }

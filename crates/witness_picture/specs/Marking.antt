@@ -1,0 +1,38 @@
+-- Which calls are marked in the picture of a book.
+use Rattle.std.specs.Prelude.{ℕ, ◌<◌, Bool, true, false, List}
+use Rattle.book_base.specs.Book.{Page}
+use Rattle.book_base.specs.Order.{HasLegalOrder}
+use Rattle.seq_objects.specs.declared.kind.Kind.{Kind}
+use Rattle.seq_objects.specs.Objects.{kind_init, kind_next}
+use Rattle.book_picture.specs.declared.marks.Marks.{Marks}
+use Rattle.book_picture.specs.declared.marks.Marks.TheVariants.{Unasked, Smaller, TooLarge, NoMemory}
+use Rattle.book_picture.specs.Marks.{numbers_in}
+use Rattle.smaller_book.specs.Part.{IsPart}
+use Rattle.smaller_book.specs.Keys.{IsEvidence}
+use Rattle.smaller_book.specs.Minimal.{IsMinimal, size_of}
+use Rattle.witness_picture.specs.declared.marking.TheConstants.{MOST_CALLS}
+
+-- These are the numbers of the calls of a smaller book: a part of the book without a legal order, which shows that the book has none
+-- either, and which no rule makes smaller.
+pub record AreOfASmallerBook (kind : Kind) (book : List Page) (names : List (List ℕ)) : Type 0 where
+  pub part : List Page
+  pub is_part : IsPart book names part
+  pub evidence : IsEvidence kind book part
+  pub illegal : ¬ HasLegalOrder (kind_init kind) (kind_next kind) part
+  pub minimal : IsMinimal kind part
+
+-- The marks of a book without a legal order: the calls of a smaller book; none where the book has too many calls, or for want of
+-- memory.
+abbrev pub AreMarksOf : Kind → List Page → Marks → Type 0
+AreMarksOf kind book (Smaller numbers) = AreOfASmallerBook kind book (numbers_in numbers.items)
+AreMarksOf kind book TooLarge = MOST_CALLS < size_of book
+AreMarksOf kind book NoMemory = Unit {0}
+AreMarksOf kind book Unasked = ⊥
+
+-- The marks of a book, by whether it has a legal order: where it has one, they weren't asked for.
+abbrev pub AreMarksFor : Kind → List Page → Bool → Marks → Type 0
+AreMarksFor kind book true Unasked = Unit {0}
+AreMarksFor kind book true (Smaller numbers) = ⊥
+AreMarksFor kind book true TooLarge = ⊥
+AreMarksFor kind book true NoMemory = ⊥
+AreMarksFor kind book false marks = AreMarksOf kind book marks

@@ -1,0 +1,69 @@
+//! Which calls of a book are marked in its picture: those of a smaller book that no order explains either.
+
+ghost use Rattle.std.specs.Prelude.{◌≡◌, IfOk};
+ghost use Rattle.book_base.specs.Order.{HasLegalOrder};
+ghost use Rattle.frontier_check.specs.Verdict.{IsRight};
+ghost use Rattle.seq_objects.specs.Objects.{kind_init, kind_next};
+ghost use Rattle.book_picture.specs.Marks.{numbers_in};
+ghost use Rattle.book_picture.specs.Titles.{is_legal};
+ghost use Rattle.smaller_book.specs.Minimal.{size_of};
+ghost use Rattle.witness_picture.specs.Marking.{AreOfASmallerBook, AreMarksOf, AreMarksFor};
+
+use book_base::{Book, NoMemory};
+use book_picture::Marks;
+use frontier_check::Verdict;
+use seq_objects::Kind;
+use smaller_book::shrink;
+use std::alloc::Global;
+
+/// A smaller book is sought of a book of at most so many calls, since each try is a whole check.
+const MOST_CALLS: u64 = 1024;
+
+/// The calls that are marked in the picture of a book, of which this is the verdict: none where it has a
+/// legal order.
+pub(crate) fn marks_for(alloc: Global, kind: Kind, book: &Book, verdict: &Verdict) -> Marks
+    requires { IsRight (kind_init kind) (kind_next kind) book.now verdict.now }
+    ensures { AreMarksFor kind book.now (is_legal verdict.now) result }
+{
+    match verdict {
+        Verdict::Legal(_) => Marks::Unasked,
+        Verdict::Illegal => marks_of(alloc, kind, book),
+    }
+}
+
+// The calls that are marked in the picture of a book without a legal order: those of a smaller book.
+fn marks_of(alloc: Global, kind: Kind, book: &Book) -> Marks
+    requires { ¬ HasLegalOrder (kind_init kind) (kind_next kind) book.now }
+    ensures { AreMarksOf kind book.now result }
+{
+    if calls_of_all(book) > MOST_CALLS {
+        return Marks::TooLarge;
+    }
+    match smaller_numbers(alloc, kind, book) {
+        Ok(numbers) => Marks::Smaller(numbers),
+        Err(NoMemory) => Marks::NoMemory,
+    }
+}
+
+// The numbers of the calls of a smaller book, by caller.
+fn smaller_numbers(alloc: Global, kind: Kind, book: &Book) -> Result<Vec<Vec<u64>>, NoMemory>
+    requires { ¬ HasLegalOrder (kind_init kind) (kind_next kind) book.now }
+    ensures { IfOk result (λ numbers.
+        AreOfASmallerBook kind book.now (numbers_in numbers.items)) }
+{
+    match shrink(alloc, kind, book)? {
+        Some(smaller) => Ok(smaller.numbers),
+        None => unreachable!(),
+    }
+}
+
+// How many calls a book has.
+fn calls_of_all(book: &Book) -> u64
+    ensures { result ≡ size_of book.now }
+{
+    let mut total = 0;
+    for caller in 0..book.callers() {
+        total += book.calls(caller);
+    }
+    total
+}
