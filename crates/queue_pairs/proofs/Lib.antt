@@ -2,3 +2,5 @@ pub mod Moments
 pub mod Walking
 pub mod Serving
 pub mod Swapping
+pub mod Spanning
+pub mod Tabling

@@ -1,8 +1,8 @@
-//! Queues without a search of orders: the k-th put and the k-th take are looked for together, as pairs that
-//! may take effect one after another.
+//! Pairs of a queue's book: the k-th put and the k-th take are looked for together, as pairs that may take effect one
+//! after another, with no list and no order.
 #![tactic(auto)]
 
-mod decide;
+mod front;
 pub mod laws;
 mod order;
 mod search;
@@ -12,4 +12,14 @@ mod surplus;
 mod table;
 mod walk;
 
-pub use decide::decide_queue;
+use book_base::{MAX_CALLERS, MAX_CALLS};
+pub use front::{Front, TimedPair};
+pub use order::{calls_in_order, places_of};
+pub use search::{Found, PairSearch};
+pub use standing::Standing;
+pub use surplus::Surplus;
+pub use table::{Deal, Table, TimedCall};
+pub use walk::{Choice, Level, Step, Walk};
+
+/// A moment later than all others, which no call has: a view counts at most the calls of all callers.
+pub const NEVER: u64 = MAX_CALLERS as u64 * MAX_CALLS + 1;

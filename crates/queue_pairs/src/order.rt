@@ -46,14 +46,14 @@ pub fn calls_in_order(alloc: Global, table: &Table, walk: &Walk) -> Result<Vec<C
 // Adds the calls of a step.
 fn add_step(table: &Table, choice: Choice, events: &mut Vec<Event>) -> Result<(), NoMemory> {
     match choice.step {
-        Step::Pair(put, take) => {
+        Step::Pair(pair) => {
             events.push(Event {
-                moment: choice.to.put_moment,
-                call: put.call,
+                moment: pair.put_moment,
+                call: pair.put.call,
             })?;
             events.push(Event {
-                moment: choice.to.take_moment,
-                call: take.call,
+                moment: pair.take_moment,
+                call: pair.take.call,
             })?;
         }
         Step::Finds(after, upto) => {

@@ -1,24 +1,27 @@
+use crate::NEVER;
+use crate::front::{Front, TimedPair};
 use crate::standing::Standing;
 use crate::surplus::Surplus;
-use crate::table::{Deal, Table, TimedCall, earlier_of};
+use crate::table::{Deal, Table, TimedCall};
 use crate::walk::{Choice, Step, Walk};
 use book_base::{MAX_CALLERS, NoMemory};
+use indexmap::IndexSet;
 use std::alloc::Global;
 use std::cmp::Reverse;
+use std::mem;
 
 // How many steps a search has.
 const STEPS: u64 = 200_000;
 
-// The next calls that don't stand, and the latest moments that they may have: the least `last` of all puts, of all
-// takes that show a value, and of all takes that find nothing that don't stand.
-#[derive(Clone, Copy)]
-struct Front {
-    puts: [Option<TimedCall>; MAX_CALLERS],
-    takes: [Option<TimedCall>; MAX_CALLERS],
-    find: Option<TimedCall>,
-    put_limit: u64,
-    take_limit: u64,
-    find_limit: u64,
+/// What a search comes to.
+#[derive(Drop)]
+pub enum Found {
+    /// A walk whose levels have pairs for all answered takes.
+    Pairs(Walk),
+    /// All was tried, and none was found: the standings that were entered.
+    DeadEnds(IndexSet<Standing>),
+    /// The steps that a search has didn't suffice.
+    Unsaid,
 }
 
 /// A search for pairs of the puts and takes of a queue's book.
@@ -26,6 +29,9 @@ pub struct PairSearch<'a> {
     pub alloc: Global,
     pub table: &'a Table,
     pub surplus: &'a Surplus,
+    /// Whether unanswered takes take only what the answered ones leave. Otherwise they may take any value, so that more
+    /// is tried.
+    pub by_surplus: bool,
 }
 
 impl Drop for PairSearch<'_> {
@@ -34,35 +40,37 @@ impl Drop for PairSearch<'_> {
             alloc: _,
             table: _,
             surplus: _,
+            by_surplus: _,
         } = self;
     }
 }
 
 impl PairSearch<'_> {
-    /// The walk whose levels have pairs for all answered takes, if it is found within the steps that a search
-    /// has. `None` says nothing.
-    pub fn run(&self) -> Result<Option<Walk>, NoMemory> {
+    /// Looks for a walk whose levels have pairs for all answered takes.
+    pub fn run(&self) -> Result<Found, NoMemory> {
         let mut walk = Walk::new(self.alloc);
-        let front = self.front(&walk.here);
+        let _is_new = walk.entered.insert(walk.here)?;
+        let front = Front::of(self.table, &walk.here);
         if front.is_whole(&walk.here) {
-            return Ok(Some(walk));
+            return Ok(Found::Pairs(walk));
         }
         walk.choices = self.choices(&walk, &walk.here, &front)?;
         for _ in 0..STEPS {
             match walk.choices.pop() {
                 Some(choice) => {
                     if self.enter(&mut walk, choice)? {
-                        return Ok(Some(walk));
+                        return Ok(Found::Pairs(walk));
                     }
                 }
                 None => {
                     if !walk.retreat() {
-                        return Ok(None);
+                        let none = IndexSet::new(self.alloc);
+                        return Ok(Found::DeadEnds(mem::replace(&mut walk.entered, none)));
                     }
                 }
             }
         }
-        Ok(None)
+        Ok(Found::Unsaid)
     }
 
     // Goes on by a choice, unless the walk was there, and tells whether all is whole there.
@@ -70,37 +78,16 @@ impl PairSearch<'_> {
         if !walk.entered.insert(choice.to)? {
             return Ok(false);
         }
-        if let Step::Pair(put, take) = choice.step
-            && !take.is_answered()
-            && let Deal::Put(value) = put.deal
+        if let Step::Pair(pair) = choice.step
+            && !pair.take.is_answered()
+            && let Deal::Put(value) = pair.put.deal
         {
             walk.spent.push(value)?;
         }
-        let front = self.front(&choice.to);
+        let front = Front::of(self.table, &choice.to);
         let choices = self.choices(walk, &choice.to, &front)?;
         walk.enter(choice, choices)?;
         Ok(front.is_whole(&choice.to))
-    }
-
-    // The calls that are next where these stand.
-    fn front(&self, standing: &Standing) -> Front {
-        let mut front = Front {
-            puts: [None; MAX_CALLERS],
-            takes: [None; MAX_CALLERS],
-            find: self.table.next_find(standing.found),
-            put_limit: u64::MAX,
-            take_limit: u64::MAX,
-            find_limit: self.table.find_limit(standing.found),
-        };
-        for caller in 0..MAX_CALLERS {
-            let put = self.table.next_put(caller, standing.puts[caller]);
-            let take = self.table.next_take(caller, standing.takes[caller]);
-            front.put_limit = front.put_limit.min(last_of(put));
-            front.take_limit = front.take_limit.min(last_of(take));
-            front.puts[caller] = put;
-            front.takes[caller] = take;
-        }
-        front
     }
 
     // What may be tried where these stand, with the best choice last: the one whose take is due first.
@@ -111,7 +98,7 @@ impl PairSearch<'_> {
         front: &Front,
     ) -> Result<Vec<Choice>, NoMemory> {
         let mut choices = Vec::new(self.alloc);
-        if let Some(choice) = front.finds_next(standing) {
+        if let Some(choice) = finds_next(standing, front) {
             choices.push(choice)?;
             if choice.to.take_moment <= standing.take_moment {
                 return Ok(choices);
@@ -149,7 +136,7 @@ impl PairSearch<'_> {
             if let Some(put) = front.puts[caller]
                 && put.is_held()
                 && self.may_pair(walk, put, take)
-                && let Some(choice) = front.pair_next(standing, put, take)
+                && let Some(choice) = pair_next(standing, front, put, take)
                 && !choices.iter().any(|other| serves(other, &choice))
             {
                 choices.push(choice)?;
@@ -163,82 +150,63 @@ impl PairSearch<'_> {
     fn may_pair(&self, walk: &Walk, put: TimedCall, take: TimedCall) -> bool {
         match (put.deal, take.deal) {
             (Deal::Put(value), Deal::Took(shown)) => value == shown,
-            (Deal::Put(value), Deal::OpenTake) => {
-                put.is_answered() && walk.times_spent(value) < self.surplus.of_value(value)
-            }
+            (Deal::Put(value), Deal::OpenTake) => put.is_answered() && self.is_left(walk, value),
             _ => false,
         }
     }
-}
 
-impl Front {
-    // Whether all answered takes stand, and the puts that don't may still take effect.
-    fn is_whole(&self, standing: &Standing) -> bool {
-        self.find.is_none() && self.take_limit == u64::MAX && standing.put_moment <= self.put_limit
-    }
-
-    // The takes that find nothing and may stand next, at the earliest moment.
-    fn finds_next(&self, standing: &Standing) -> Option<Choice> {
-        let moment = match self.find {
-            Some(find) => standing.take_moment.max(find.span.first),
-            None => return None,
-        };
-        if moment > self.put_limit || moment > self.take_limit || moment > self.find_limit {
-            return None;
-        }
-        Some(Choice {
-            turn: self.find_limit,
-            step: Step::Finds(standing.found, moment),
-            to: standing.with_finds(moment),
-        })
-    }
-
-    // The choice of a pair, at the earliest moments that it may have.
-    fn pair_next(&self, standing: &Standing, put: TimedCall, take: TimedCall) -> Option<Choice> {
-        let put_moment = standing.put_moment.max(put.span.first);
-        let take_moment = standing.take_moment.max(put_moment).max(take.span.first);
-        if put_moment > self.put_limit
-            || take_moment > self.take_limit
-            || take_moment > self.find_limit
-        {
-            return None;
-        }
-        Some(Choice {
-            turn: take.span.last,
-            step: Step::Pair(put, take),
-            to: standing.with_pair(put.call, take.call, put_moment, take_moment),
-        })
+    // Whether the answered takes leave one more of a value.
+    fn is_left(&self, walk: &Walk, value: u64) -> bool {
+        !self.by_surplus || walk.times_spent(value) < self.surplus.of_value(value)
     }
 }
 
-// Whether a pair serves for another one: it has the same value, no later moments, and its calls are due no later, so
-// that the two may be exchanged wherever they stand.
+// The takes that find nothing and may stand next, at the earliest moment.
+fn finds_next(standing: &Standing, front: &Front) -> Option<Choice> {
+    if front.find_first == NEVER {
+        return None;
+    }
+    let moment = standing.take_moment.max(front.find_first);
+    if front.is_past(moment, moment) {
+        return None;
+    }
+    Some(Choice {
+        turn: front.find_limit,
+        step: Step::Finds(standing.found, moment),
+        to: standing.with_finds(moment),
+    })
+}
+
+// The choice of a pair, at the earliest moments that it may have.
+fn pair_next(
+    standing: &Standing,
+    front: &Front,
+    put: TimedCall,
+    take: TimedCall,
+) -> Option<Choice> {
+    let pair = TimedPair::earliest(standing, put, take);
+    if front.is_past(pair.put_moment, pair.take_moment) {
+        return None;
+    }
+    Some(Choice {
+        turn: take.span.last,
+        step: Step::Pair(pair),
+        to: standing.with_pair(&pair),
+    })
+}
+
+// Of two calls the one that some view holds first.
+fn earlier_of(one: Option<TimedCall>, other: TimedCall) -> Option<TimedCall> {
+    match one {
+        Some(first) if first.span.first <= other.span.first => one,
+        _ => Some(other),
+    }
+}
+
+// Whether one choice serves for another one, so that this one needn't be tried.
 fn serves(one: &Choice, other: &Choice) -> bool {
     match (one.step, other.step) {
-        (Step::Pair(put, take), Step::Pair(other_put, other_take)) => {
-            value_of(put) == value_of(other_put)
-                && take.is_answered() == other_take.is_answered()
-                && one.to.put_moment <= other.to.put_moment
-                && put.span.last <= other_put.span.last
-                && one.to.take_moment <= other.to.take_moment
-                && take.span.last <= other_take.span.last
-        }
+        (Step::Pair(pair), Step::Pair(others)) => pair.serves(&others),
         _ => false,
-    }
-}
-
-// The value that a put puts in.
-fn value_of(put: TimedCall) -> Option<u64> {
-    match put.deal {
-        Deal::Put(value) => Some(value),
-        _ => None,
-    }
-}
-
-// The latest moment that a call may have.
-fn last_of(timed: Option<TimedCall>) -> u64 {
-    match timed {
-        Some(timed) => timed.span.last,
-        None => u64::MAX,
     }
 }

@@ -1,4 +1,10 @@
-use book_base::{Call, MAX_CALLERS};
+ghost use Rattle.std.specs.Prelude.{◌≡◌, ◌<◌, IsTrue, ◌+◌, slice_set};
+ghost use Rattle.book_base.specs.declared.TheConstants.{MAX_CALLERS, MAX_CALLS};
+ghost use Rattle.queue_pairs.specs.Fronts.{paired, pair_of};
+ghost use Rattle.queue_pairs.specs.Pairs.{Pairs, FindNothing, after, none_paired};
+
+use crate::front::TimedPair;
+use book_base::{Call, MAX_CALLERS, MAX_CALLS};
 
 /// What stands of a queue's book: of each caller the puts and the takes below a number, and the takes that find
 /// nothing and that some view holds up to a moment; and the moments of the last put and of the last take.
@@ -16,7 +22,9 @@ pub struct Standing {
 
 impl Standing {
     /// No call stands.
-    pub fn start() -> Standing {
+    pub fn start() -> Standing
+        ensures { paired result ≡ none_paired MAX_CALLERS }
+    {
         Standing {
             puts: [0; MAX_CALLERS],
             takes: [0; MAX_CALLERS],
@@ -26,31 +34,52 @@ impl Standing {
         }
     }
 
-    /// The pair of a put and a take stands too, at these moments.
-    pub fn with_pair(self, put: Call, take: Call, put_moment: u64, take_moment: u64) -> Standing {
+    /// A pair stands too.
+    pub fn with_pair(self, pair: &TimedPair) -> Standing
+        ensures { pair.now.put.call.caller < MAX_CALLERS → pair.now.put.call.number < MAX_CALLS
+            → pair.now.take.call.caller < MAX_CALLERS → pair.now.take.call.number < MAX_CALLS
+            → paired result ≡ after (paired self) (Pairs (pair_of pair.now)) }
+    {
         let mut standing = self;
-        raise(&mut standing.puts, put);
-        raise(&mut standing.takes, take);
-        standing.put_moment = put_moment;
-        standing.take_moment = take_moment;
+        raise(&mut standing.puts, pair.put.call);
+        raise(&mut standing.takes, pair.take.call);
+        standing.put_moment = pair.put_moment;
+        standing.take_moment = pair.take_moment;
         standing
     }
 
     /// The takes that find nothing stand that some view holds at a moment. What is put in or taken afterwards is
     /// so no earlier.
-    pub fn with_finds(self, moment: u64) -> Standing {
+    pub fn with_finds(self, moment: u64) -> Standing
+        ensures { paired result ≡ after (paired self) (FindNothing moment) }
+    {
         let mut standing = self;
         standing.found = moment;
         standing.put_moment = moment;
         standing.take_moment = moment;
         standing
     }
+
+    /// Whether the same stands at the same moments.
+    pub fn is_same(&self, other: &Standing) -> bool
+        ensures { IsTrue result → self.now ≡ other.now }
+    {
+        if self.puts != other.puts || self.takes != other.takes {
+            return false;
+        }
+        self.found == other.found
+            && self.put_moment == other.put_moment
+            && self.take_moment == other.take_moment
+    }
 }
 
 // The calls of a caller stand up to this one.
-fn raise(numbers: &mut [u16; MAX_CALLERS], call: Call) {
+fn raise(numbers: &mut [u16; MAX_CALLERS], call: Call)
+    ensures { call.caller < MAX_CALLERS → call.number < MAX_CALLS
+        → numbers.new ≡ slice_set numbers.old call.caller (call.number + 1) }
+{
     let caller = call.caller as usize;
-    if caller < MAX_CALLERS && call.number < u16::MAX as u64 {
+    if caller < MAX_CALLERS && call.number < MAX_CALLS {
         numbers[caller] = call.number as u16 + 1;
     }
 }

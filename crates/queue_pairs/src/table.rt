@@ -1,8 +1,13 @@
-ghost use Rattle.std.specs.Prelude.{◌<◌, length};
-ghost use Rattle.book_base.specs.Book.{IsCall};
+ghost use Rattle.std.specs.Prelude.{◌≡◌, ℕ, ◌+◌, ◌<◌, ◌∷◌, ◌++◌, [], true, false, IfOk, OnOk, IsTrue, ◌↔◌, length, slice_get, slice_index, slice_index_or, None};
+ghost use Rattle.book_base.specs.declared.TheConstants.{MAX_CALLERS};
+ghost use Rattle.book_base.specs.Book.{IsCall, calls_of};
+ghost use Rattle.object_foresight.specs.Deals.{deal_of, take_of};
+ghost use Rattle.queue_pairs.specs.Tables.{known_deal, is_find, is_put, is_take, put_at, rows_of, take_at, timed_at, IsTimed, IsRowTo, AreFindsTo, IsTable, IsFirstFrom};
+ghost use Rattle.queue_pairs.specs.Fronts.{first_after, last_after, IsLeastOf};
 
+use crate::NEVER;
 use crate::spans::span_of;
-use book_base::{Book, Call, NoMemory, Span};
+use book_base::{Book, Call, MAX_CALLERS, NoMemory, Span};
 use object_foresight::{Reader, Role};
 use std::alloc::Global;
 
@@ -16,6 +21,43 @@ pub enum Deal {
     Other,
 }
 
+impl Deal {
+    /// Whether the call puts a value in.
+    pub fn is_put(self) -> bool
+        ensures { result ≡ is_put self }
+    {
+        matches!(self, Deal::Put(_))
+    }
+
+    /// Whether the call takes a value out, or is an unanswered take.
+    pub fn is_take(self) -> bool
+        ensures { result ≡ is_take self }
+    {
+        matches!(self, Deal::Took(_) | Deal::OpenTake)
+    }
+
+    /// Whether the call takes and finds nothing.
+    pub fn is_find(self) -> bool
+        ensures { result ≡ is_find self }
+    {
+        matches!(self, Deal::FoundNothing)
+    }
+
+    /// Whether two calls did the same.
+    pub fn is_same(self, other: Deal) -> bool
+        ensures { IsTrue result → self ≡ other }
+    {
+        match (self, other) {
+            (Deal::Put(value), Deal::Put(others)) => value == others,
+            (Deal::Took(value), Deal::Took(others)) => value == others,
+            (Deal::FoundNothing, Deal::FoundNothing) => true,
+            (Deal::OpenTake, Deal::OpenTake) => true,
+            (Deal::Other, Deal::Other) => true,
+            _ => false,
+        }
+    }
+}
+
 /// A call, what it did, and when it may take effect.
 #[derive(Clone, Copy)]
 pub struct TimedCall {
@@ -26,13 +68,17 @@ pub struct TimedCall {
 
 impl TimedCall {
     /// Whether the call is answered.
-    pub fn is_answered(&self) -> bool {
-        self.span.last < u64::MAX
+    pub fn is_answered(&self) -> bool
+        ensures { IsTrue result ↔ (self.now.span.last < NEVER) }
+    {
+        self.span.last < NEVER
     }
 
     /// Whether some view holds the call.
-    pub fn is_held(&self) -> bool {
-        self.span.first < u64::MAX
+    pub fn is_held(&self) -> bool
+        ensures { IsTrue result ↔ (self.now.span.first < NEVER) }
+    {
+        self.span.first < NEVER
     }
 }
 
@@ -45,74 +91,173 @@ pub struct Table {
 
 impl Table {
     /// The calls of a book.
-    pub fn of<R: Reader>(alloc: Global, reader: &R, book: &Book) -> Result<Table, NoMemory> {
-        let mut table = Table {
-            rows: Vec::new(alloc),
-            finds: Vec::new(alloc),
-        };
+    pub fn of<R: Reader>(alloc: Global, reader: &R, book: &Book) -> Result<Table, NoMemory>
+        ensures { IfOk result (IsTable (R.reading reader.now) book.now) }
+    {
+        let mut rows = Vec::new(alloc);
+        let mut finds = Vec::new(alloc);
         for caller in 0..book.callers() {
-            let row = row_of(alloc, reader, book, caller, &mut table.finds)?;
-            table.rows.push(row)?;
+            let row = row_of(alloc, reader, book, caller, &mut finds)?;
+            rows.push(row)?;
         }
-        Ok(table)
+        Ok(Table { rows, finds })
+    }
+
+    /// How many calls of a caller there are.
+    pub fn calls(&self, caller: usize) -> usize
+        ensures { result ≡ length (slice_index_or (rows_of self.now) caller []) }
+    {
+        match self.rows.get(caller) {
+            Some(row) => row.len(),
+            None => 0,
+        }
+    }
+
+    /// A call of a caller.
+    pub fn at(&self, caller: usize, number: usize) -> Option<TimedCall>
+        ensures { result ≡ timed_at self.now caller number }
+    {
+        match self.rows.get(caller) {
+            Some(row) => match row.get(number) {
+                Some(timed) => Some(*timed),
+                None => None,
+            },
+            None => None,
+        }
+    }
+
+    // A call of a caller, if it is a put.
+    fn put_at(&self, caller: usize, number: usize) -> Option<TimedCall>
+        ensures { result ≡ put_at self.now caller number }
+    {
+        match self.at(caller, number) {
+            Some(timed) => {
+                if timed.deal.is_put() {
+                    Some(timed)
+                } else {
+                    None
+                }
+            }
+            None => None,
+        }
+    }
+
+    // A call of a caller, if it is a take that shows a value or is unanswered.
+    fn take_at(&self, caller: usize, number: usize) -> Option<TimedCall>
+        ensures { result ≡ take_at self.now caller number }
+    {
+        match self.at(caller, number) {
+            Some(timed) => {
+                if timed.deal.is_take() {
+                    Some(timed)
+                } else {
+                    None
+                }
+            }
+            None => None,
+        }
     }
 
     /// The first put of a caller from a number on.
-    pub fn next_put(&self, caller: usize, from: u16) -> Option<TimedCall> {
-        let Some(row) = self.rows.get(caller) else {
-            return None;
-        };
-        for number in from as usize..row.len() {
-            let timed = row[number];
-            if let Deal::Put(_) = timed.deal {
-                return Some(timed);
+    pub fn next_put(&self, caller: usize, from: u16) -> Option<TimedCall>
+        ensures { IsFirstFrom (λ n. put_at self.now caller n) from result }
+    {
+        for number in from as usize..self.calls(caller) {
+            if let Some(put) = self.put_at(caller, number) {
+                return Some(put);
             }
         }
         None
     }
 
     /// The first take of a caller from a number on that shows a value or is unanswered.
-    pub fn next_take(&self, caller: usize, from: u16) -> Option<TimedCall> {
-        let Some(row) = self.rows.get(caller) else {
-            return None;
-        };
-        for number in from as usize..row.len() {
-            let timed = row[number];
-            if let Deal::Took(_) | Deal::OpenTake = timed.deal {
-                return Some(timed);
+    pub fn next_take(&self, caller: usize, from: u16) -> Option<TimedCall>
+        ensures { IsFirstFrom (λ n. take_at self.now caller n) from result }
+    {
+        for number in from as usize..self.calls(caller) {
+            if let Some(take) = self.take_at(caller, number) {
+                return Some(take);
             }
         }
         None
     }
 
-    /// Of the calls that take and find nothing and that no view holds up to a moment the one that is held first.
-    pub fn next_find(&self, found: u64) -> Option<TimedCall> {
-        let mut next: Option<TimedCall> = None;
-        for find in &self.finds {
-            if find.span.first > found {
-                next = earlier_of(next, *find);
-            }
+    /// The first put of each caller from a number of it on.
+    pub fn next_puts(&self, from: &[u16; MAX_CALLERS]) -> [Option<TimedCall>; MAX_CALLERS]
+        ensures { (i : ℕ) → i < MAX_CALLERS
+            → IsFirstFrom (λ n. put_at self.now i n) (slice_index from.now i) (slice_index_or result i None) }
+    {
+        let mut puts: [Option<TimedCall>; MAX_CALLERS] = [None; MAX_CALLERS];
+        for caller in 0..MAX_CALLERS {
+            puts[caller] = self.next_put(caller, from[caller]);
         }
-        next
+        puts
+    }
+
+    /// The first take of each caller, from a number of it on, that shows a value or is unanswered.
+    pub fn next_takes(&self, from: &[u16; MAX_CALLERS]) -> [Option<TimedCall>; MAX_CALLERS]
+        ensures { (i : ℕ) → i < MAX_CALLERS
+            → IsFirstFrom (λ n. take_at self.now i n) (slice_index from.now i) (slice_index_or result i None) }
+    {
+        let mut takes: [Option<TimedCall>; MAX_CALLERS] = [None; MAX_CALLERS];
+        for caller in 0..MAX_CALLERS {
+            takes[caller] = self.next_take(caller, from[caller]);
+        }
+        takes
+    }
+
+    /// The least first moment of all calls that take and find nothing and that no view holds up to a moment.
+    pub fn find_first(&self, found: u64) -> u64
+        ensures { IsLeastOf (λ k. first_after found (slice_get self.now.finds.items k)) (length self.now.finds.items) result }
+    {
+        let mut least = NEVER;
+        for k in 0..self.finds.len() {
+            least = least.min(self.first_after(found, k));
+        }
+        least
     }
 
     /// The least moment of all calls that take and find nothing and that no view holds up to a moment.
-    pub fn find_limit(&self, found: u64) -> u64 {
-        let mut limit = u64::MAX;
-        for find in &self.finds {
-            if find.span.first > found {
-                limit = limit.min(find.span.last);
-            }
+    pub fn find_limit(&self, found: u64) -> u64
+        ensures { IsLeastOf (λ k. last_after found (slice_get self.now.finds.items k)) (length self.now.finds.items) result }
+    {
+        let mut least = NEVER;
+        for k in 0..self.finds.len() {
+            least = least.min(self.last_after(found, k));
         }
-        limit
+        least
     }
-}
 
-/// Of two calls the one that some view holds first.
-pub fn earlier_of(one: Option<TimedCall>, other: TimedCall) -> Option<TimedCall> {
-    match one {
-        Some(first) if first.span.first <= other.span.first => one,
-        _ => Some(other),
+    // The first moment of a call that finds nothing, where no view holds it up to a moment.
+    fn first_after(&self, found: u64, k: usize) -> u64
+        ensures { result ≡ first_after found (slice_get self.now.finds.items k) }
+    {
+        match self.finds.get(k) {
+            Some(find) => {
+                if found < find.span.first {
+                    find.span.first
+                } else {
+                    NEVER
+                }
+            }
+            None => NEVER,
+        }
+    }
+
+    // The moment of a call that finds nothing, where no view holds it up to a moment.
+    fn last_after(&self, found: u64, k: usize) -> u64
+        ensures { result ≡ last_after found (slice_get self.now.finds.items k) }
+    {
+        match self.finds.get(k) {
+            Some(find) => {
+                if found < find.span.first {
+                    find.span.last
+                } else {
+                    NEVER
+                }
+            }
+            None => NEVER,
+        }
     }
 }
 
@@ -124,41 +269,64 @@ fn row_of<R: Reader>(
     caller: u32,
     finds: &mut Vec<TimedCall>,
 ) -> Result<Vec<TimedCall>, NoMemory>
-    requires { caller < length book.now }
+    requires caller { caller < length book.now }
+    requires finds { AreFindsTo (R.reading reader.now) book.now caller 0 finds.old.items }
+    ensures row { IfOk result (λ row. IsRowTo (R.reading reader.now) book.now caller (calls_of book.now caller) row.items) }
+    ensures finds { OnOk result (AreFindsTo (R.reading reader.now) book.now (caller + 1) 0 finds.new.items) }
 {
     let mut row = Vec::new(alloc);
     for number in 0..book.calls(caller) {
         let timed = timed(reader, book, Call { caller, number });
         row.push(timed)?;
-        if let Deal::FoundNothing = timed.deal {
-            finds.push(timed)?;
-        }
+        add_find(timed, finds)?;
     }
     Ok(row)
+}
+
+// Adds a call that takes and finds nothing.
+fn add_find(timed: TimedCall, finds: &mut Vec<TimedCall>) -> Result<(), NoMemory>
+    ensures found { OnOk result (is_find timed.deal ≡ true → finds.new.items ≡ finds.old.items ++ timed ∷ []) }
+    ensures other { OnOk result (is_find timed.deal ≡ false → finds.new.items ≡ finds.old.items) }
+{
+    if !timed.deal.is_find() {
+        return Ok(());
+    }
+    finds.push(timed)?;
+    Ok(())
 }
 
 // A call of a book, with what it did and when it may take effect.
 fn timed<R: Reader>(reader: &R, book: &Book, call: Call) -> TimedCall
     requires { IsCall book.now call }
+    ensures { IsTimed (R.reading reader.now) book.now call result }
 {
-    TimedCall {
-        call,
-        deal: deal_of(reader, book, call),
-        span: span_of(book, call),
-    }
+    let deal = deal_of(reader, book, call);
+    let span = span_of(book, call);
+    TimedCall { call, deal, span }
 }
 
 // What a call of a book did.
 fn deal_of<R: Reader>(reader: &R, book: &Book, call: Call) -> Deal
     requires { IsCall book.now call }
+    ensures { known_deal result ≡ deal_of (R.reading reader.now) book.now call }
 {
     match reader.role(book.op(call)) {
         Role::Put(value) => Deal::Put(value),
-        Role::Take if call.number >= book.answers(call.caller) => Deal::OpenTake,
-        Role::Take => match reader.shown(book.record(call).reply) {
-            Some(value) => Deal::Took(value),
-            None => Deal::FoundNothing,
-        },
+        Role::Take => take_of(reader, book, call),
         Role::Other => Deal::Other,
+    }
+}
+
+// What a call that takes did.
+fn take_of<R: Reader>(reader: &R, book: &Book, call: Call) -> Deal
+    requires { IsCall book.now call }
+    ensures { known_deal result ≡ take_of (R.reading reader.now) book.now call }
+{
+    if call.number >= book.answers(call.caller) {
+        return Deal::OpenTake;
+    }
+    match reader.shown(book.record(call).reply) {
+        Some(value) => Deal::Took(value),
+        None => Deal::FoundNothing,
     }
 }

@@ -1,5 +1,5 @@
+use crate::front::TimedPair;
 use crate::standing::Standing;
-use crate::table::TimedCall;
 use book_base::NoMemory;
 use indexmap::IndexSet;
 use std::alloc::Global;
@@ -9,7 +9,7 @@ use std::mem;
 #[derive(Clone, Copy)]
 pub enum Step {
     /// A put, and the take that takes its value out.
-    Pair(TimedCall, TimedCall),
+    Pair(TimedPair),
     /// The takes that find nothing and whose first moments lie after one moment, and not after another one.
     Finds(u64, u64),
 }
@@ -75,8 +75,8 @@ impl Walk {
                     choice,
                     choices,
                 } = level;
-                if let Step::Pair(_, take) = choice.step
-                    && !take.is_answered()
+                if let Step::Pair(pair) = choice.step
+                    && !pair.take.is_answered()
                 {
                     let _value = self.spent.pop();
                 }

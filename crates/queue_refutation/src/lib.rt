@@ -1,5 +1,10 @@
-//! When a queue's book has no legal order: where all that may stand next at each of a list of
-//! standings leads to one of them, no pairs go on from any of them.
+//! Queues decided by pairs, without a search of orders: an order that pairs make is judged, and there is none where all
+//! that may stand next at each of a list of standings leads to one of them.
 #![tactic(auto)]
 
+mod dead_ends;
+mod decide;
 pub mod laws;
+mod one_open;
+
+pub use decide::decide_queue;

@@ -18,7 +18,7 @@ use crate::register::Register;
 use crate::stack::Stack;
 use crate::whole::{put_whole, whole};
 use book_base::{Book, Cut, Decision, Foresight, Marks, NoMemory, OpWord, SeqObject, Sight, State};
-use queue_pairs::decide_queue;
+use queue_refutation::decide_queue;
 use std::alloc::Global;
 
 /// A kind of sequential object.

@@ -1,0 +1,36 @@
+-- When the calls of a book may take effect, as spans of moments say it.
+use Rattle.std.specs.Prelude.{◌≡◌, ℕ, ◌+◌, ◌<◌, ◌≤◌, List, Some}
+use Rattle.book_base.specs.declared.call.Call.{Call}
+use Rattle.book_base.specs.declared.call.Record.{Record}
+use Rattle.book_base.specs.declared.sight.Span.{Span}
+use Rattle.book_base.specs.Cut.{Holds}
+use Rattle.book_base.specs.Book.{Page, answers_of, record_of}
+use Rattle.queue_pairs.specs.declared.TheConstants.{NEVER}
+use Rattle.queue_pairs.specs.Moments.{moment_of, IsHeldBy}
+
+-- A span says when a call may take effect: from the moment of the first view that holds it up to
+-- that of its own view. A moment without such a view is later than all others.
+pub record IsSpanOf (book : List Page) (call : Call) (span : Span) : Type 0 where
+  pub held : span.first < NEVER → IsHeldBy book call span.first
+  pub least : (m : ℕ) → IsHeldBy book call m → (span.first ≤ m) × (span.first < NEVER)
+  pub answered : (r : Record) → record_of book call ≡ Some r
+      → (span.last ≡ moment_of r) × (span.last < NEVER)
+  pub unanswered : answers_of book call.caller ≤ call.number → span.last ≡ NEVER
+
+-- The views of a caller's first records don't hold a call, and those of its records from another
+-- number on do.
+pub record AreHolding (book : List Page) (caller : ℕ) (call : Call) (low high : ℕ) : Type 0 where
+  pub ordered : low ≤ high
+  pub few : high ≤ answers_of book caller
+  pub below : (k : ℕ) (r : Record) → k < low
+      → record_of book (record { caller = caller; number = k }) ≡ Some r → Holds r.view call → ⊥
+  pub above : (k : ℕ) (r : Record) → high ≤ k
+      → record_of book (record { caller = caller; number = k }) ≡ Some r → Holds r.view call
+
+-- Of the views of the callers below a number that hold a call, a moment is that of the first, or
+-- later than all others where none does.
+pub record IsFirstBelow (book : List Page) (call : Call) (below first : ℕ) : Type 0 where
+  pub few : first ≤ NEVER
+  pub held : first < NEVER → IsHeldBy book call first
+  pub least : (other : Call) (r : Record) → other.caller < below
+      → record_of book other ≡ Some r → Holds r.view call → first ≤ moment_of r

@@ -1,0 +1,384 @@
+ghost use Rattle.std.specs.Prelude.{◌≡◌, ℕ, ◌⊎◌, ◌<◌, ◌≤◌, List, Some, IsTrue, slice_get};
+ghost use Rattle.book_base.specs.declared.TheConstants.{MAX_CALLERS, MAX_CALLS};
+ghost use Rattle.book_base.specs.Book.{Page};
+ghost use Rattle.history_rules.specs.Container.{Reading};
+ghost use Rattle.queue_pairs.specs.declared.TheConstants.{NEVER};
+ghost use Rattle.queue_pairs.specs.declared.standing.Standing.{Standing};
+ghost use Rattle.queue_pairs.specs.Pairs.{Pairs, after};
+ghost use Rattle.queue_pairs.specs.Tables.{put_at, take_at, IsTable};
+ghost use Rattle.queue_pairs.specs.Fronts.{paired, pair_of, IsFront, IsNextEntry, IsNextPair};
+ghost use Rattle.queue_refutation.specs.Closed.{IsOneOf, AreClosed};
+ghost use Rattle.queue_refutation.specs.DeadEnds.{listed, HasNoOrder, Lead, IsOf, IsOfTaker, IsOfPut, IsOfPutter, IsAny, FindsLeadOn, StandAtOnce, ClosedAt, IsServed};
+
+use crate::one_open::has_one_open;
+use book_base::{Book, Call, MAX_CALLERS, MAX_CALLS};
+use indexmap::IndexSet;
+use queue_pairs::{Deal, Front, NEVER, Standing, Table, TimedCall, TimedPair};
+
+/// Standings that a search entered, to be looked at once more. Where all that may stand next at each of them leads to
+/// one of them, or to none, no pairs go on from any.
+pub struct DeadEnds<'a> {
+    pub table: &'a Table,
+    pub standings: &'a IndexSet<Standing>,
+}
+
+impl Drop for DeadEnds<'_> {
+    fn drop(self) {
+        let DeadEnds {
+            table: _,
+            standings: _,
+        } = self;
+    }
+}
+
+impl DeadEnds<'_> {
+    /// Whether the standings show that a queue's book has no legal order: they have the start, and lead to one another
+    /// alone. No clause says that they do so wherever there is none.
+    pub fn refute(&self, book: &Book) -> bool
+        ensures { IsTrue result → HasNoOrder self.now.table.now book.now }
+    {
+        if !has_one_open(self.table, book) {
+            return false;
+        }
+        if !self.has(&Standing::start()) {
+            return false;
+        }
+        self.are_closed()
+    }
+
+    // Whether each of the standings leads to one of them alone.
+    fn are_closed(&self) -> bool
+        ensures { IsTrue result → (reading : Reading) (book : List Page) → IsTable reading book self.now.table.now
+            → AreClosed reading book (listed self.now.standings.now.keys) }
+    {
+        for place in 0..self.standings.len() {
+            if !self.is_closed_at(place) {
+                return false;
+            }
+        }
+        true
+    }
+
+    // Whether the standing at a place leads to one of them alone.
+    fn is_closed_at(&self, place: usize) -> bool
+        ensures { IsTrue result → (s : Standing) → slice_get self.now.standings.now.keys place ≡ Some s
+            → ClosedAt self.now.table.now (listed self.now.standings.now.keys) s }
+    {
+        match self.standings.get_index(place) {
+            Some(standing) => self.is_closed(standing),
+            None => true,
+        }
+    }
+
+    // Whether a standing leads to one of them alone.
+    fn is_closed(&self, standing: &Standing) -> bool
+        ensures { IsTrue result → ClosedAt self.now.table.now (listed self.now.standings.now.keys) standing.now }
+    {
+        let _here = *standing;
+        if standing.take_moment >= NEVER {
+            return false;
+        }
+        let front = Front::of(self.table, standing);
+        if self.finds_stand_at_once(standing, &front) {
+            return true;
+        }
+        if standing.put_moment > standing.take_moment {
+            return false;
+        }
+        if front.is_whole(standing) {
+            return false;
+        }
+        if !self.finds_lead(standing, &front) {
+            return false;
+        }
+        self.pairs_lead(standing, &front)
+    }
+
+    // Whether one of the standings is this one.
+    fn has(&self, standing: &Standing) -> bool
+        ensures { IsTrue result → IsOneOf (listed self.now.standings.now.keys) (paired standing.now) }
+    {
+        match self.standings.get_full(standing) {
+            Some((_, kept)) => kept.is_same(standing),
+            None => false,
+        }
+    }
+
+    // Whether takes that find nothing stand at once, which delays nothing, and lead to one of the standings.
+    fn finds_stand_at_once(&self, standing: &Standing, front: &Front) -> bool
+        requires front { IsFront self.now.table.now standing.now front.now }
+        requires few { standing.now.take_moment < NEVER }
+        ensures { IsTrue result → StandAtOnce self.now.table.now (listed self.now.standings.now.keys) standing.now }
+    {
+        if front.find_first > standing.take_moment {
+            return false;
+        }
+        if front.put_limit < standing.take_moment {
+            return false;
+        }
+        self.has(&standing.with_finds(standing.take_moment))
+    }
+
+    // Whether the takes that find nothing and may stand next lead to one of the standings, or to none.
+    fn finds_lead(&self, standing: &Standing, front: &Front) -> bool
+        requires front { IsFront self.now.table.now standing.now front.now }
+        requires few { standing.now.take_moment < NEVER }
+        ensures { IsTrue result → FindsLeadOn self.now.table.now (listed self.now.standings.now.keys) standing.now }
+    {
+        if front.find_first >= NEVER {
+            return true;
+        }
+        let moment = standing.take_moment.max(front.find_first);
+        if front.is_past(moment, moment) {
+            return true;
+        }
+        self.has(&standing.with_finds(moment))
+    }
+
+    // Whether each pair that may stand next leads to one of the standings, or to none.
+    fn pairs_lead(&self, standing: &Standing, front: &Front) -> bool
+        requires front { IsFront self.now.table.now standing.now front.now }
+        requires turn { standing.now.put_moment ≤ standing.now.take_moment }
+        requires few { standing.now.take_moment < NEVER }
+        ensures { IsTrue result → Lead IsAny self.now.table.now (listed self.now.standings.now.keys) standing.now }
+    {
+        for caller in 0..MAX_CALLERS {
+            if !self.putter_leads(standing, front, caller) {
+                return false;
+            }
+        }
+        true
+    }
+
+    // The same of the pairs of a caller's put.
+    fn putter_leads(&self, standing: &Standing, front: &Front, caller: usize) -> bool
+        requires front { IsFront self.now.table.now standing.now front.now }
+        requires turn { standing.now.put_moment ≤ standing.now.take_moment }
+        requires few { standing.now.take_moment < NEVER }
+        requires caller { caller < MAX_CALLERS }
+        ensures { IsTrue result → Lead (IsOfPutter caller) self.now.table.now (listed self.now.standings.now.keys) standing.now }
+    {
+        match front.put(caller) {
+            Some(put) => self.put_leads(standing, front, put),
+            None => true,
+        }
+    }
+
+    // The same of the pairs of a put.
+    fn put_leads(&self, standing: &Standing, front: &Front, put: TimedCall) -> bool
+        requires front { IsFront self.now.table.now standing.now front.now }
+        requires turn { standing.now.put_moment ≤ standing.now.take_moment }
+        requires few { standing.now.take_moment < NEVER }
+        requires put { IsNextEntry (λ i n. put_at self.now.table.now i n) standing.now.puts put }
+        ensures { IsTrue result → Lead (IsOfPut put.call) self.now.table.now (listed self.now.standings.now.keys) standing.now }
+    {
+        for caller in 0..MAX_CALLERS {
+            if !self.taker_leads(standing, front, put, caller) {
+                return false;
+            }
+        }
+        true
+    }
+
+    // The same of a put and a caller's take.
+    fn taker_leads(&self, standing: &Standing, front: &Front, put: TimedCall, caller: usize) -> bool
+        requires front { IsFront self.now.table.now standing.now front.now }
+        requires turn { standing.now.put_moment ≤ standing.now.take_moment }
+        requires few { standing.now.take_moment < NEVER }
+        requires put { IsNextEntry (λ i n. put_at self.now.table.now i n) standing.now.puts put }
+        requires caller { caller < MAX_CALLERS }
+        ensures { IsTrue result → Lead (IsOfTaker put.call caller) self.now.table.now (listed self.now.standings.now.keys) standing.now }
+    {
+        match front.take(caller) {
+            Some(take) => self.calls_lead(standing, front, put, take),
+            None => true,
+        }
+    }
+
+    // The same of a put and a take. A pair of which neither is answered is idle.
+    fn calls_lead(
+        &self,
+        standing: &Standing,
+        front: &Front,
+        put: TimedCall,
+        take: TimedCall,
+    ) -> bool
+        requires front { IsFront self.now.table.now standing.now front.now }
+        requires turn { standing.now.put_moment ≤ standing.now.take_moment }
+        requires few { standing.now.take_moment < NEVER }
+        requires put { IsNextEntry (λ i n. put_at self.now.table.now i n) standing.now.puts put }
+        requires take { IsNextEntry (λ i n. take_at self.now.table.now i n) standing.now.takes take }
+        ensures { IsTrue result → Lead (IsOf put.call take.call) self.now.table.now (listed self.now.standings.now.keys) standing.now }
+    {
+        if !put.is_held() {
+            return true;
+        }
+        if !take.is_held() {
+            return true;
+        }
+        if !may_take(put.deal, take.deal) {
+            return true;
+        }
+        if is_idle(put, take) {
+            return true;
+        }
+        let pair = TimedPair::earliest(standing, put, take);
+        self.pair_leads(standing, front, &pair)
+    }
+
+    // The same of a pair at its earliest moments.
+    fn pair_leads(&self, standing: &Standing, front: &Front, pair: &TimedPair) -> bool
+        requires front { IsFront self.now.table.now standing.now front.now }
+        requires turn { standing.now.put_moment ≤ standing.now.take_moment }
+        requires few { standing.now.take_moment < NEVER }
+        requires pair { IsNextPair self.now.table.now standing.now pair.now }
+        ensures { IsTrue result → Lead (IsOf pair.now.put.call pair.now.take.call) self.now.table.now (listed self.now.standings.now.keys) standing.now }
+    {
+        if front.is_past(pair.put_moment, pair.take_moment) {
+            return true;
+        }
+        if self.leads(standing, pair) {
+            return true;
+        }
+        self.is_served(standing, front, pair)
+    }
+
+    // Whether one of the standings stands after a pair.
+    fn leads(&self, standing: &Standing, pair: &TimedPair) -> bool
+        ensures { IsTrue result → IsOneOf (listed self.now.standings.now.keys) (after (paired standing.now) (Pairs (pair_of pair.now))) }
+    {
+        if !is_small(pair.put.call) {
+            return false;
+        }
+        if !is_small(pair.take.call) {
+            return false;
+        }
+        self.has(&standing.with_pair(pair))
+    }
+
+    // Whether a pair of next calls that serves for this one leads to one of the standings.
+    fn is_served(&self, standing: &Standing, front: &Front, pair: &TimedPair) -> bool
+        requires front { IsFront self.now.table.now standing.now front.now }
+        ensures { IsTrue result → IsServed self.now.table.now (listed self.now.standings.now.keys) standing.now pair.now }
+    {
+        for caller in 0..MAX_CALLERS {
+            if self.putter_serves(standing, front, pair, caller) {
+                return true;
+            }
+        }
+        false
+    }
+
+    // The same of the pairs of a caller's put.
+    fn putter_serves(
+        &self,
+        standing: &Standing,
+        front: &Front,
+        pair: &TimedPair,
+        caller: usize,
+    ) -> bool
+        requires front { IsFront self.now.table.now standing.now front.now }
+        requires caller { caller < MAX_CALLERS }
+        ensures { IsTrue result → IsServed self.now.table.now (listed self.now.standings.now.keys) standing.now pair.now }
+    {
+        match front.put(caller) {
+            Some(put) => self.put_serves(standing, front, pair, put),
+            None => false,
+        }
+    }
+
+    // The same of the pairs of a put.
+    fn put_serves(
+        &self,
+        standing: &Standing,
+        front: &Front,
+        pair: &TimedPair,
+        put: TimedCall,
+    ) -> bool
+        requires front { IsFront self.now.table.now standing.now front.now }
+        requires put { IsNextEntry (λ i n. put_at self.now.table.now i n) standing.now.puts put }
+        ensures { IsTrue result → IsServed self.now.table.now (listed self.now.standings.now.keys) standing.now pair.now }
+    {
+        if !put.is_held() {
+            return false;
+        }
+        if !put.deal.is_same(pair.put.deal) {
+            return false;
+        }
+        for caller in 0..MAX_CALLERS {
+            if self.taker_serves(standing, front, pair, put, caller) {
+                return true;
+            }
+        }
+        false
+    }
+
+    // The same of a put and a caller's take.
+    fn taker_serves(
+        &self,
+        standing: &Standing,
+        front: &Front,
+        pair: &TimedPair,
+        put: TimedCall,
+        caller: usize,
+    ) -> bool
+        requires front { IsFront self.now.table.now standing.now front.now }
+        requires put { IsNextEntry (λ i n. put_at self.now.table.now i n) standing.now.puts put }
+        requires held { put.span.first < NEVER }
+        requires caller { caller < MAX_CALLERS }
+        ensures { IsTrue result → IsServed self.now.table.now (listed self.now.standings.now.keys) standing.now pair.now }
+    {
+        match front.take(caller) {
+            Some(take) => self.calls_serve(standing, pair, put, take),
+            None => false,
+        }
+    }
+
+    // The same of a put and a take.
+    fn calls_serve(
+        &self,
+        standing: &Standing,
+        pair: &TimedPair,
+        put: TimedCall,
+        take: TimedCall,
+    ) -> bool
+        requires put { IsNextEntry (λ i n. put_at self.now.table.now i n) standing.now.puts put }
+        requires held { put.span.first < NEVER }
+        requires take { IsNextEntry (λ i n. take_at self.now.table.now i n) standing.now.takes take }
+        ensures { IsTrue result → IsServed self.now.table.now (listed self.now.standings.now.keys) standing.now pair.now }
+    {
+        if !take.is_held() {
+            return false;
+        }
+        let other = TimedPair::earliest(standing, put, take);
+        if !other.serves(pair) {
+            return false;
+        }
+        self.leads(standing, &other)
+    }
+}
+
+// Whether a take may take out what a put puts in.
+fn may_take(put: Deal, take: Deal) -> bool
+    ensures { (v : ℕ) → put ≡ Deal.Put v → (take ≡ Deal.Took v) ⊎ (take ≡ Deal.OpenTake) → IsTrue result }
+{
+    match (put, take) {
+        (Deal::Put(value), Deal::Took(shown)) => value == shown,
+        (Deal::Put(_), Deal::OpenTake) => true,
+        _ => false,
+    }
+}
+
+// Whether neither of two calls is answered.
+fn is_idle(put: TimedCall, take: TimedCall) -> bool
+    ensures { IsTrue result → (NEVER ≤ put.span.last) × (NEVER ≤ take.span.last) }
+{
+    !put.is_answered() && !take.is_answered()
+}
+
+// Whether a call is one that a book may have.
+fn is_small(call: Call) -> bool
+    ensures { IsTrue result → (call.caller < MAX_CALLERS) × (call.number < MAX_CALLS) }
+{
+    (call.caller as usize) < MAX_CALLERS && call.number < MAX_CALLS
+}

@@ -1,0 +1,99 @@
+ghost use Rattle.std.specs.Prelude.{◌≡◌, [], IfOk, IsTrue};
+ghost use Rattle.book_base.specs.Decision.{IsRightDecision};
+ghost use Rattle.history_rules.specs.Container.{IsQueue};
+ghost use Rattle.queue_refutation.specs.DeadEnds.{HasNoOrder};
+
+use crate::dead_ends::DeadEnds;
+use book_base::{Book, Decision, NoMemory, SeqObject};
+use indexmap::IndexSet;
+use object_foresight::Reader;
+use order_check::check_order;
+use queue_pairs::{Found, PairSearch, Standing, Surplus, Table, Walk, calls_in_order, places_of};
+use std::alloc::Global;
+
+/// What the pairs of a queue's book say of it (after Henzinger, Sezgin and Vafeiadis 2013, whose order of puts and
+/// takes they keep).
+///
+/// The search isn't trusted: the order that it finds is judged, and one that isn't legal isn't delivered; and the
+/// standings that it entered without finding any are looked at once more. No clause says how often anything is said:
+/// that costs time alone.
+pub fn decide_queue<Q: SeqObject + Reader>(
+    alloc: Global,
+    queue: &Q,
+    book: &Book,
+) -> Result<Decision, NoMemory>
+    requires queue { IsQueue (Q.reading queue.now) (Q.next queue.now) }
+    requires empty { (Q.reading queue.now).values (Q.init queue.now) ≡ [] }
+    ensures { IfOk result (IsRightDecision (Q.init queue.now) (Q.next queue.now) book.now) }
+{
+    let table = Table::of(alloc, queue, book)?;
+    let surplus = Surplus::of(alloc, &table)?;
+    let search = PairSearch {
+        alloc,
+        table: &table,
+        surplus: &surplus,
+        by_surplus: true,
+    };
+    match search.run()? {
+        Found::Pairs(walk) => order_of(alloc, queue, book, &table, &walk),
+        Found::DeadEnds(standings) => {
+            if refute(book, &table, &standings) {
+                return Ok(Decision::NoOrder);
+            }
+            if refute_anew(alloc, book, &table, &surplus)? {
+                return Ok(Decision::NoOrder);
+            }
+            Ok(Decision::Unsaid)
+        }
+        Found::Unsaid => Ok(Decision::Unsaid),
+    }
+}
+
+// Whether the standings of a search in which unanswered takes may take any value show that there is no order.
+fn refute_anew(
+    alloc: Global,
+    book: &Book,
+    table: &Table,
+    surplus: &Surplus,
+) -> Result<bool, NoMemory>
+    ensures { IfOk result (λ refuted. IsTrue refuted → HasNoOrder table.now book.now) }
+{
+    let search = PairSearch {
+        alloc,
+        table,
+        surplus,
+        by_surplus: false,
+    };
+    match search.run()? {
+        Found::DeadEnds(standings) => Ok(refute(book, table, &standings)),
+        Found::Pairs(_) | Found::Unsaid => Ok(false),
+    }
+}
+
+// Whether these standings show that there is no order.
+fn refute(book: &Book, table: &Table, standings: &IndexSet<Standing>) -> bool
+    ensures { IsTrue result → HasNoOrder table.now book.now }
+{
+    let ends = DeadEnds { table, standings };
+    ends.refute(book)
+}
+
+// The order that the pairs of a walk make, where it is legal.
+fn order_of<Q: SeqObject + Reader>(
+    alloc: Global,
+    queue: &Q,
+    book: &Book,
+    table: &Table,
+    walk: &Walk,
+) -> Result<Decision, NoMemory>
+    ensures { IfOk result (IsRightDecision (Q.init queue.now) (Q.next queue.now) book.now) }
+{
+    let order = calls_in_order(alloc, table, walk)?;
+    let Some(places) = places_of(alloc, queue, book, &order)? else {
+        return Ok(Decision::Unsaid);
+    };
+    match check_order(alloc, queue, book, &places)? {
+        Ok(()) => Ok(Decision::Order(places)),
+        Err(_) => Ok(Decision::Unsaid),
+    }
+}
