@@ -4,22 +4,25 @@ ghost use Rattle.queue_pairs.specs.Moments.{PrecedesByMoments, MomentsKeepPreced
 ghost use Rattle.queue_pairs.specs.PairLaws.{LegalOrdersHavePairs};
 ghost use Rattle.queue_pairs.specs.Serving.{EarlierPutServes, EarlierTakeServes};
 
-/// Precedence is a matter of moments: a call precedes those that no view holds up to its own moment, and calls
-/// keep precedence exactly where each has a moment, from the first view that holds it up to its own view, and
-/// moments don't fall.
+/// In a valid book an answered call precedes exactly those calls that no view holds up to the
+/// moment of its own view. Where the book has one open, calls that views hold keep precedence
+/// exactly where each has a moment, from the first view that holds it up to its own view, and
+/// moments don't fall. Of calls that no view holds, no clause speaks.
 pub fn moments_keep_precedence()
     ensures precedes { PrecedesByMoments }
     ensures order { MomentsKeepPrecedence }
 {}
 
-/// A queue's book with one open that has a legal order has pairs of puts and takes that may take effect one
-/// after another. So one without such pairs has none.
+/// A queue's book with one open that has a legal order has pairs of puts and takes that may take
+/// effect one after another. So one without such pairs has none.
 pub fn legal_orders_have_pairs()
     ensures { LegalOrdersHavePairs }
 {}
 
-/// Of two puts of one value, and of two takes of one deal, the one that may take effect no later and is due no later serves for
-/// the other.
+/// In a valid book with one open, of two callers' next puts of one value, and of two callers'
+/// next takes of one deal, the one that may take effect no later and is due no later serves for
+/// the other: where steps go on with a pair that has the other, as many go on with it in the
+/// other's place. That `decide_queue` rests on this, no clause says.
 pub fn choices_serve_for_one_another()
     ensures puts { EarlierPutServes }
     ensures takes { EarlierTakeServes }
