@@ -15,7 +15,7 @@ use Rattle.world_core.proofs.Bounds.{collects_few}
 use Rattle.world_laws.proofs.Bounding.{scans_are_bounded}
 use Rattle.row_table.specs.Notes.{given_now}
 use Rattle.row_table.proofs.Noting.{last_given-push}
-use Rattle.collect_scan.specs.Scanned.{scan_with, local_in_scan, local_stood, most_words, HasScanned}
+use Rattle.collect_scan.specs.Scanned.{scan_with, local_in_scan, local_stood, most_words, HasScanned, HasTicked}
 use Rattle.collect_scan.specs.Turns.{HasTurned}
 use Rattle.collect_scan.proofs.Seen.{round_lends}
 
@@ -83,11 +83,15 @@ module _ (n : ℕ) (before : Local) (region : Region) (opening : Opening) (taken
   pub stood_stays : is_done (wanted n taken) ≡ false → local_stood n before region opening taken ≡ here
   stood_stays goes = stays_by here scan (wanted n taken) goes
 
+  pub stood_ticked : (cut : List ℕ) (now : Local) (first last : ℕ) → given_now (local_stood n before region opening taken) ≡ Some cut → length taken ≤ most_words n
+      → now ≡ local_stood n before region opening taken → last ≡ first + length taken → HasTicked n region opening cut before now first last
+  stood_ticked cut now first last h few is ticks =
+      let done : wanted n taken ≡ Done cut = done_by here scan (wanted n taken) cut h in
+      record { scanned = record { taken = taken; done = done; few = few; is = is ∙ ap (went_on here scan) done }; ticks = ticks }
+
   pub stood_scanned : (cut : List ℕ) (now : Local) → given_now (local_stood n before region opening taken) ≡ Some cut → length taken ≤ most_words n
       → now ≡ local_stood n before region opening taken → HasScanned n region opening cut before now
-  stood_scanned cut now h few is =
-      let done : wanted n taken ≡ Done cut = done_by here scan (wanted n taken) cut h in
-      record { taken = taken; done = done; few = few; is = is ∙ ap (went_on here scan) done }
+  stood_scanned cut now h few is = (stood_ticked cut now 0 (0 + length taken) h few is refl).scanned
 
 pub turned_by : (n : ℕ) (before : Local) (region : Region) (opening : Opening) (taken : List ℕ) (x : ℕ) (r : Option (List ℕ)) (now : Local)
     → r ≡ given_now (local_stood n before region opening (taken ++ x ∷ [])) → length (taken ++ x ∷ []) ≤ most_words n

@@ -69,3 +69,8 @@ pub record HasScanned (n : ℕ) (region : Region) (opening : Opening) (cut : Lis
   pub done : wanted n taken ≡ Done cut
   pub few : length taken ≤ most_words n
   pub is : after ≡ local_after_scan n before region opening taken cut
+
+-- The same, and the counter ticked once for each word that the scan took.
+pub record HasTicked (n : ℕ) (region : Region) (opening : Opening) (cut : List ℕ) (before after : Local) (first last : ℕ) : Type 0 where
+  pub scanned : HasScanned n region opening cut before after
+  pub ticks : last ≡ first + length scanned.taken

@@ -5,6 +5,7 @@ ghost use Rattle.world_core.specs.Local.{Viewing};
 ghost use Rattle.world_core.specs.Event.{Begins_scan};
 ghost use Rattle.row_table.specs.Callers.{IsCallerOf, local_with};
 ghost use Rattle.collect_scan.specs.Given.{ScansAddTheirCut, ScansLeaveWork, CutsAreFew, OwnEntriesAreCounts, CutsHoldGiven, CutsHoldLooks, GivenRowsAreKnown, ViewScansHavePhase};
+ghost use Rattle.collect_scan.specs.Scanned.{most_words};
 ghost use Rattle.collect_scan.specs.Turns.{MayScan, opening_at};
 
 use row_table::{Caller, Rows};
@@ -48,6 +49,13 @@ pub fn given_rows_are_known()
 /// beginning.
 pub fn view_scans_have_phase()
     ensures { ViewScansHavePhase }
+{}
+
+/// A scan of one caller takes 3 words at most, of two callers 8, and of sixteen 288.
+pub fn few_words_in_numbers()
+    ensures one { most_words 1 ≡ 3 }
+    ensures two { most_words 2 ≡ 8 }
+    ensures sixteen { most_words 16 ≡ 288 }
 {}
 
 /// In each phase but that of the view a caller may begin a scan that carries no reply.

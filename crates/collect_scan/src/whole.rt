@@ -1,6 +1,6 @@
 ghost use Rattle.std.specs.Prelude.{◌≡◌, ◌+◌, ◌≤◌, length};
 ghost use Rattle.row_table.specs.Callers.{IsCallerOf, IsStill, local_with, stance_of};
-ghost use Rattle.collect_scan.specs.Scanned.{HasScanned, most_words};
+ghost use Rattle.collect_scan.specs.Scanned.{HasScanned, HasTicked, most_words};
 ghost use Rattle.collect_scan.specs.Given.{HoldsLooks};
 ghost use Rattle.collect_scan.specs.Turns.{MayScan, opening_at, stance_scanned};
 
@@ -36,6 +36,9 @@ pub fn scan<P: Program, L: Ledger>(
     // The caller's local is the one before after one scan of the region, with no other event, which
     // ended with the answered cut.
     ensures scanned { HasScanned rows.now.callers region (opening_at caller.old region) result (local_with caller.old) (local_with caller.new) }
+    // The counter of steps has risen once for each word that this scan took.
+    ensures exact { HasTicked rows.now.callers region (opening_at caller.old region) result
+        (local_with caller.old) (local_with caller.new) steps.old steps.new }
     // The answered cut contains each count of the region that the caller had looked at before the
     // scan.
     ensures looked { HoldsLooks region result (local_with caller.old) }

@@ -15,6 +15,10 @@ use Rattle.world_core.specs.Calls.{HasPeeked}
 abbrev pub words_of_book : List Page → ℕ
 words_of_book book = 2 * sum (announced book) + (1 + length book) * sum (answered book)
 
+-- A book of two callers with one call each, of which the first is answered.
+abbrev pub one_answered : List Page
+one_answered = record { operations = 7 ∷ []; records = record { reply = 5; view = 1 ∷ 0 ∷ [] } ∷ [] } ∷ record { operations = 9 ∷ []; records = [] } ∷ []
+
 -- A caller of n knows the first rows of caller j in a region, as many as the count says.
 abbrev pub KnowsRows : ℕ → Local → Region → ℕ → ℕ → Type 0
 KnowsRows n l region j count = (k : ℕ) → k < count → IsTrue (knows_row n l region j k)

@@ -6,6 +6,7 @@ mod answers;
 mod gather;
 mod gathered;
 mod held;
+pub mod laws;
 mod operations;
 mod records;
 

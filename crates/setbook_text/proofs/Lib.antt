@@ -1,5 +1,6 @@
 mod JoinTexts
 pub mod SharpSetBooks
+pub mod SetHeads
 mod NamedCalls
 mod Twins
 pub mod WrittenTexts

@@ -7,7 +7,7 @@ use Rattle.book_base.specs.declared.fault.What.TheVariants as what
 use Rattle.book_base.specs.Book.{Page}
 use Rattle.text_fields.specs.declared.version.Version.TheVariants.{Second}
 use Rattle.text_fields.specs.Lines.{Unread}
-use Rattle.text_fields.specs.Faults.{Wanted, ALine, TheEnd, Rules, IsFirstFault, IsReadTo}
+use Rattle.text_fields.specs.Faults.{Wanted, ALine, TheEnd, Nothing, Rules, GoesTo, IsFirstFault, IsReadTo}
 use Rattle.text_fields.specs.Head.{AreCallers, AreCalls, callers_words, calls_words}
 use Rattle.book_text.specs.CallLines.{Progress, CallPasses, CallFails, no_call_read}
 use Rattle.book_text.specs.Grammar.{end_words}
@@ -73,6 +73,42 @@ setbook_wanted (AtEnd book) = TheEnd
 -- the rules of a set book's text
 abbrev pub setbook_rules : Rules SetBookDue
 setbook_rules = record { Passes = SetBookPasses; Fails = SetBookFails; wanted = setbook_wanted }
+
+-- The rules of the head alone: its four lines. Others read on behind it.
+abbrev pub SetHeadPasses : SetBookDue → List (List ℕ) → SetBookDue → Type 0
+SetHeadPasses TitleDue words after = SetBookPasses TitleDue words after
+SetHeadPasses ObjectDue words after = SetBookPasses ObjectDue words after
+SetHeadPasses CallersDue words after = SetBookPasses CallersDue words after
+SetHeadPasses (CountsDue n) words after = SetBookPasses (CountsDue n) words after
+SetHeadPasses (InCalls book calls) words after = ⊥
+SetHeadPasses (AtEnd book) words after = ⊥
+
+abbrev pub SetHeadFails : SetBookDue → List (List ℕ) → What → Type 0
+SetHeadFails TitleDue words name = SetBookFails TitleDue words name
+SetHeadFails ObjectDue words name = SetBookFails ObjectDue words name
+SetHeadFails CallersDue words name = SetBookFails CallersDue words name
+SetHeadFails (CountsDue n) words name = SetBookFails (CountsDue n) words name
+SetHeadFails (InCalls book calls) words name = ⊥
+SetHeadFails (AtEnd book) words name = ⊥
+
+abbrev pub set_head_wanted : SetBookDue → Wanted
+set_head_wanted TitleDue = ALine
+set_head_wanted ObjectDue = ALine
+set_head_wanted CallersDue = ALine
+set_head_wanted (CountsDue n) = ALine
+set_head_wanted (InCalls book calls) = Nothing
+set_head_wanted (AtEnd book) = Nothing
+
+abbrev pub set_head_rules : Rules SetBookDue
+set_head_rules = record { Passes = SetHeadPasses; Fails = SetHeadFails; wanted = set_head_wanted }
+
+-- The text begins with the head of a set book with these numbers of calls, and leaves the rest unread.
+abbrev pub IsSetHead : List ℕ → Unread → Unread → Type 0
+IsSetHead calls text left = GoesTo set_head_rules TitleDue text (in_calls (no_call_read calls)) left
+
+-- The first fault of a text that is to begin with the head of a set book.
+abbrev pub IsSetHeadFault : Unread → TextFault → Type 0
+IsSetHeadFault text fault = IsFirstFault set_head_rules TitleDue text fault
 
 -- The first fault of bytes that are to be a set book's text.
 abbrev pub IsFirstSetBookFault : List ℕ → TextFault → Type 0

@@ -6,10 +6,11 @@ ghost use Rattle.book_base.specs.declared.fault.TextFault.{TextFault};
 ghost use Rattle.book_base.specs.Book.{Page};
 ghost use Rattle.text_fields.specs.declared.version.Version.TheVariants.{Second};
 ghost use Rattle.text_fields.specs.Head.{AreCallers, AreCalls};
+ghost use Rattle.text_fields.specs.Lines.{Unread};
 ghost use Rattle.text_fields.specs.Faults.{GoesTo, IsFirstFault, StopsFor};
 ghost use Rattle.book_text.specs.BookRules.{whole_text};
 ghost use Rattle.book_text.specs.CallLines.{no_call_read};
-ghost use Rattle.setbook_text.specs.SetBookRules.{TitleDue, ObjectDue, CallersDue, CountsDue, in_calls, setbook_rules, IsSetBookText, IsNoSetBookText, IsFirstSetBookFault};
+ghost use Rattle.setbook_text.specs.SetBookRules.{TitleDue, ObjectDue, CallersDue, CountsDue, in_calls, setbook_rules, set_head_rules, IsSetHead, IsSetHeadFault, IsSetBookText, IsNoSetBookText, IsFirstSetBookFault};
 
 use crate::join_words::JoinWords;
 use book_base::{Book, Cut, ReadFault, TextFault, What};
@@ -51,12 +52,31 @@ fn read_text(alloc: Global, bytes: &[u8]) -> Result<Book, ReadFault>
     Ok(book)
 }
 
-/// The four lines of the head: the number of callers, and the number of calls of each.
+/// The head: the number of callers, and the number of calls of each. After a refusal the lines stay as
+/// they were.
 fn read_head(lines: &mut Lines) -> Result<(u32, Cut), TextFault>
-    ensures found { IfOk result (λ (n, calls). GoesTo setbook_rules
-        TitleDue lines.old (in_calls (no_call_read calls)) lines.new) }
+    ensures found { IfOk result (λ (n, calls). IsSetHead calls lines.old lines.new) }
     ensures says { IfOk result (λ (n, calls). AreCallers Second n × AreCalls Second n calls) }
-    ensures refused { IfErr result (IsFirstFault setbook_rules TitleDue lines.old) }
+    ensures refused { IfErr result (IsSetHeadFault lines.old) }
+    ensures unchanged { IfErr result (λ _. lines.new ≡ lines.old) }
+    // A head is read as that head, and leaves what stands behind it.
+    ensures only { (calls : List ℕ) (left : Unread) → IsSetHead calls lines.old left
+        → MatchResult result (λ read. (read.1 ≡ calls) × (lines.new ≡ left)) (λ _. ⊥) }
+    // Where the head has a first fault, the answer is that fault.
+    ensures first { (fault : TextFault) → IsSetHeadFault lines.old fault
+        → MatchResult result (λ _. ⊥) (λ e. e ≡ fault) }
+{
+    let mut ahead = lines.copy();
+    let head = read_lines(&mut ahead)?;
+    *lines = ahead;
+    Ok(head)
+}
+
+/// The four lines of the head.
+fn read_lines(lines: &mut Lines) -> Result<(u32, Cut), TextFault>
+    ensures found { IfOk result (λ (n, calls). IsSetHead calls lines.old lines.new) }
+    ensures says { IfOk result (λ (n, calls). AreCallers Second n × AreCalls Second n calls) }
+    ensures refused { IfErr result (IsSetHeadFault lines.old) }
 {
     read_title(lines)?;
     read_object(lines)?;
@@ -68,8 +88,8 @@ fn read_head(lines: &mut Lines) -> Result<(u32, Cut), TextFault>
 /// The line of the title.
 fn read_title(lines: &mut Lines) -> Result<(), TextFault>
     ensures found { IfOk result (λ _.
-        GoesTo setbook_rules TitleDue lines.old ObjectDue lines.new) }
-    ensures refused { IfErr result (IsFirstFault setbook_rules TitleDue lines.old) }
+        GoesTo set_head_rules TitleDue lines.old ObjectDue lines.new) }
+    ensures refused { IfErr result (IsFirstFault set_head_rules TitleDue lines.old) }
 {
     let line = lines.number();
     let mut words = Words::new(lines.line()?);
@@ -86,8 +106,8 @@ fn read_title(lines: &mut Lines) -> Result<(), TextFault>
 /// The line of the object.
 fn read_object(lines: &mut Lines) -> Result<(), TextFault>
     ensures found { IfOk result (λ _.
-        GoesTo setbook_rules ObjectDue lines.old CallersDue lines.new) }
-    ensures refused { IfErr result (IsFirstFault setbook_rules ObjectDue lines.old) }
+        GoesTo set_head_rules ObjectDue lines.old CallersDue lines.new) }
+    ensures refused { IfErr result (IsFirstFault set_head_rules ObjectDue lines.old) }
 {
     let line = lines.number();
     let mut words = Words::new(lines.line()?);
@@ -104,9 +124,9 @@ fn read_object(lines: &mut Lines) -> Result<(), TextFault>
 /// The line of the number of callers.
 fn read_callers(lines: &mut Lines) -> Result<u32, TextFault>
     ensures found { IfOk result (λ n.
-        GoesTo setbook_rules CallersDue lines.old (CountsDue n) lines.new) }
+        GoesTo set_head_rules CallersDue lines.old (CountsDue n) lines.new) }
     ensures says { IfOk result (λ n. AreCallers Second n) }
-    ensures refused { IfErr result (IsFirstFault setbook_rules CallersDue lines.old) }
+    ensures refused { IfErr result (IsFirstFault set_head_rules CallersDue lines.old) }
 {
     let line = lines.number();
     let mut words = Words::new(lines.line()?);
@@ -123,10 +143,10 @@ fn read_callers(lines: &mut Lines) -> Result<u32, TextFault>
 fn read_counts(lines: &mut Lines, n: u32) -> Result<Cut, TextFault>
     requires some { 1 ≤ n }
     requires few { n ≤ MAX_CALLERS }
-    ensures found { IfOk result (λ calls. GoesTo setbook_rules
+    ensures found { IfOk result (λ calls. GoesTo set_head_rules
         (CountsDue n) lines.old (in_calls (no_call_read calls)) lines.new) }
     ensures says { IfOk result (λ calls. AreCalls Second n calls) }
-    ensures refused { IfErr result (IsFirstFault setbook_rules (CountsDue n) lines.old) }
+    ensures refused { IfErr result (IsFirstFault set_head_rules (CountsDue n) lines.old) }
 {
     let line = lines.number();
     let mut words = Words::new(lines.line()?);

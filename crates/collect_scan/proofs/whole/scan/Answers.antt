@@ -4,7 +4,7 @@ use Rattle.row_table.specs.Callers.{shape_of, who_of, local_with}
 use Rattle.row_table.specs.Notes.{given_now}
 use Rattle.collect_scan.specs.Scanned.{local_in_scan}
 use Rattle.collect_scan.specs.Turns.{opening_at}
-use Rattle.collect_scan.proofs.Ending.{stood_goes, stood_stays, stood_scanned}
+use Rattle.collect_scan.proofs.Ending.{stood_goes, stood_stays, stood_scanned, stood_ticked}
 use Rattle.collect_scan.proofs.Owning.{cuts_hold_looks}
 use Rattle.collect_scan.proofs.Turning.{scanning_short, scans_on, scanned_wide, left_fewer}
 use Rattle.collect_scan.proofs.whole.scan.Goals as goal
@@ -14,6 +14,12 @@ returns-in-Some-clause-scanned g c =
     let h = c.loop-cut.invariant in
     stood_scanned c.args.rows.now.callers (local_with c.args.caller.now) c.args.region (opening_at c.args.caller.now c.args.region) h.taken c.in-Some.cut (local_with c.loop-cut.caller)
     (ap given_now (sym h.stood) ∙ sym c.given.ensures ∙ c.in-Some.is) h.few h.stood
+
+pub returns-in-Some-clause-exact : goal.returns-in-Some-clause-exact
+returns-in-Some-clause-exact g c =
+    let h = c.loop-cut.invariant in
+    stood_ticked c.args.rows.now.callers (local_with c.args.caller.now) c.args.region (opening_at c.args.caller.now c.args.region) h.taken c.in-Some.cut (local_with c.loop-cut.caller)
+    c.args.steps.now c.loop-cut.steps (ap given_now (sym h.stood) ∙ sym c.given.ensures ∙ c.in-Some.is) h.few h.stood h.ticks
 
 pub returns-in-Some-clause-wide : goal.returns-in-Some-clause-wide
 returns-in-Some-clause-wide g c =

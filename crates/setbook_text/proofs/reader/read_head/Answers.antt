@@ -1,29 +1,24 @@
 use Rattle.std.proofs.lemmas.Result.{err_from_is_err_and}
-use Rattle.text_fields.proofs.Sharp.{goes_then, stops_later}
-use Rattle.book_text.specs.CallLines.{no_call_read}
-use Rattle.setbook_text.specs.SetBookRules.{TitleDue, ObjectDue, CallersDue, CountsDue, in_calls, setbook_rules}
+use Rattle.setbook_text.proofs.SetHeads.{one_head, no_head_fault, one_head_fault}
 use Rattle.setbook_text.proofs.reader.read_head.Goals as goal
 
-pub returns-in_err-read_object-clause-refused : goal.returns-in_err-read_object-clause-refused
-returns-in_err-read_object-clause-refused c =
-    let p = err_from_is_err_and c.from_residual-in_err-read_object.result c.from_residual-in_err-read_object.ensures.1 in
-    rw (p.1, p.2) (stops_later setbook_rules TitleDue ObjectDue c.args.lines.now c.read_title.new.lines c.in_err-read_object.field-0.0 c.in_ok-read_title.ensures.found c.in_err-read_object.ensures.refused)
+pub returns-in_err-head-clause-only : goal.returns-in_err-head-clause-only
+returns-in_err-head-clause-only c = λ calls left read.
+    let refused = rw c.copy-ahead.ensures at c.in_err-head.ensures.refused in
+    absurd (no_head_fault calls c.args.lines.now left c.in_err-head.field-0.0 read refused)
 
-pub returns-in_err-n-clause-refused : goal.returns-in_err-n-clause-refused
-returns-in_err-n-clause-refused c =
-    let p = err_from_is_err_and c.from_residual-in_err-n.result c.from_residual-in_err-n.ensures.1 in
-    let two = goes_then setbook_rules TitleDue ObjectDue CallersDue c.args.lines.now c.read_title.new.lines c.read_object.new.lines c.in_ok-read_title.ensures.found c.in_ok-read_object.ensures.found in
-    rw (p.1, p.2) (stops_later setbook_rules TitleDue CallersDue c.args.lines.now c.read_object.new.lines c.in_err-n.field-0.0 two c.in_err-n.ensures.refused)
+pub returns-in_err-head-clause-first : goal.returns-in_err-head-clause-first
+returns-in_err-head-clause-first c = λ fault first.
+    let p = err_from_is_err_and c.from_residual.result c.from_residual.ensures.1 in
+    let refused = rw c.copy-ahead.ensures at c.in_err-head.ensures.refused in
+    rw (p.1, p.2) (one_head_fault c.args.lines.now c.in_err-head.field-0.0 fault refused first)
 
-pub returns-in_err-calls-clause-refused : goal.returns-in_err-calls-clause-refused
-returns-in_err-calls-clause-refused c =
-    let p = err_from_is_err_and c.from_residual-in_err-calls.result c.from_residual-in_err-calls.ensures.1 in
-    let two = goes_then setbook_rules TitleDue ObjectDue CallersDue c.args.lines.now c.read_title.new.lines c.read_object.new.lines c.in_ok-read_title.ensures.found c.in_ok-read_object.ensures.found in
-    let three = goes_then setbook_rules TitleDue CallersDue (CountsDue c.in_ok-n.n) c.args.lines.now c.read_object.new.lines c.read_callers.new.lines two c.in_ok-n.ensures.found in
-    rw (p.1, p.2) (stops_later setbook_rules TitleDue (CountsDue c.in_ok-n.n) c.args.lines.now c.read_callers.new.lines c.in_err-calls.field-0.0 three c.in_err-calls.ensures.refused)
+pub returns-clause-only : goal.returns-clause-only
+returns-clause-only c = λ calls left read.
+    let found = rw c.copy-ahead.ensures at c.in_ok-head.ensures.found in
+    one_head c.in_ok-head.head.1 calls c.args.lines.now c.read_lines.new.lines left found read
 
-pub returns-clause-found : goal.returns-clause-found
-returns-clause-found c =
-    let two = goes_then setbook_rules TitleDue ObjectDue CallersDue c.args.lines.now c.read_title.new.lines c.read_object.new.lines c.in_ok-read_title.ensures.found c.in_ok-read_object.ensures.found in
-    let three = goes_then setbook_rules TitleDue CallersDue (CountsDue c.in_ok-n.n) c.args.lines.now c.read_object.new.lines c.read_callers.new.lines two c.in_ok-n.ensures.found in
-    goes_then setbook_rules TitleDue (CountsDue c.in_ok-n.n) (in_calls (no_call_read c.in_ok-calls.calls)) c.args.lines.now c.read_callers.new.lines c.read_counts.new.lines three c.in_ok-calls.ensures.found
+pub returns-clause-first : goal.returns-clause-first
+returns-clause-first c = λ fault first.
+    let found = rw c.copy-ahead.ensures at c.in_ok-head.ensures.found in
+    no_head_fault c.in_ok-head.head.1 c.args.lines.now c.read_lines.new.lines fault found first
