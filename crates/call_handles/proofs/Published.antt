@@ -1,5 +1,5 @@
 -- The parts of a call after its reply is handed in, one after the other: what its caller has published in the end.
-use Rattle.std.proofs.Common.{◌≡◌, ◌∙◌, ℕ, List, Result, Ok, Err, IfOk, IfErr, length, sym, ap, subst}
+use Rattle.std.proofs.Common.{◌≡◌, ◌∙◌, ℕ, List, Result, Ok, Err, IfOk, IfErr, length, slice_index, sym, ap, subst}
 use Rattle.book_base.specs.declared.call.Record.{Record}
 use Rattle.world_core.specs.Shape.{Meaning}
 use Rattle.world_core.specs.Local.{Local}
@@ -25,14 +25,14 @@ use Rattle.enforcer.specs.Judged.{record_in, cut_in, stance_after, IsRightByPeek
 use Rattle.enforcer.specs.Recorded.{HoldsOwn}
 use Rattle.enforcer.specs.States.{caller_published, reply_published, view_published, caller_seen, reply_seen, view_seen, cut_seen}
 use Rattle.enforcer.proofs.WholeCalls.{peeks_grow}
-use Rattle.call_handles.specs.Ends.{IsPublishedBy, IsJudgedAs}
+use Rattle.call_handles.specs.Ends.{record_seen, IsPublishedBy, IsJudgedAs}
 
 -- peeks leave a caller's calls
 peeks_leave : (l m : Local) (before after : ℕ) → HasOnlyPeeked l m before after → progress_of m ≡ progress_of l
 peeks_leave l m before after h = ap progress_of h.local
 
 module _ {P : Type 0} (meaning : P → ℕ → ℕ → Meaning) (r : Rows P) (call : Announced P) (reply : ℕ) (a : Answered P) (v : Viewed P) (p : Published P) (s : Seen P) where
-  -- What the parts before the judgement say of one another.
+  -- What the parts before a judgement say of one another.
   pub record Course : Type 0 where
     pub same : IsSame (caller_announced call) (caller_answered a)
     pub handed : reply_answered a ≡ reply
@@ -48,59 +48,84 @@ module _ {P : Type 0} (meaning : P → ℕ → ℕ → Meaning) (r : Rows P) (ca
     pub seen : IsStill meaning r (caller_published p) (caller_seen s)
     pub seen_record : (reply_seen s ≡ reply_published p) × (view_seen s ≡ view_published p)
     pub seen_wide : length (cut_seen s) ≡ r.callers
+    pub seen_own : HoldsOwn (cut_seen s) (caller_seen s)
     pub seen_progress : progress_of (local_with (caller_seen s)) ≡ after_seeing (cut_seen s) (progress_of (local_with (caller_published p)))
     pub seen_grows : Grows (local_with (caller_published p)) (local_with (caller_seen s))
 
   module _ (h : Course) where
     -- the record that was viewed is the one that was seen to be published
-    same_record : record_viewed v ≡ record { reply = reply_seen s; view = view_seen s }
+    same_record : record_viewed v ≡ record_seen s
     same_record =
         let replies = sym (h.seen_record.0 ∙ h.publish_record.0) in
         let views = sym (h.seen_record.1 ∙ h.publish_record.1) in
         λ i. record { reply = replies i; view = views i }
 
-    pub answered_grows : Grows (announced_local call) (local_with (caller_seen s))
-    answered_grows =
+    all_grows : Grows (announced_local call) (local_with (caller_seen s))
+    all_grows =
         subst (λ (l : Local). Grows l (local_with (caller_seen s))) h.same.local
         (grows_on (answered_local a) (viewed_local v) (local_with (caller_seen s)) h.view_grows
         (grows_on (viewed_local v) (local_with (caller_published p)) (local_with (caller_seen s)) h.publish_grows h.seen_grows))
 
-    pub is_published : (c : Caller P) (told : Record) (cut : List ℕ) (before after : ℕ) → IsStill meaning r (caller_seen s) c
-        → HasOnlyPeeked (local_with (caller_seen s)) (local_with c) before after → told ≡ record { reply = reply_seen s; view = view_seen s } → cut ≡ cut_seen s → HoldsOwn cut c
-        → IsPublishedBy meaning r call reply c told cut
-    is_published c told cut before after still peeks told_is cut_is own =
+    pub is_published : IsPublishedBy meaning r call reply (caller_seen s) (record_seen s) (cut_seen s)
+    is_published =
         record {
-          still = (still.0, still.1 ∙ h.seen.1 ∙ h.published.1 ∙ h.viewed.1 ∙ h.same.who);
-          replied = ap (λ (x : Record). x.reply) told_is ∙ h.seen_record.0 ∙ h.publish_record.0 ∙ h.view_reply ∙ h.handed;
-          wide = (
-            ap (λ (x : Record). length x.view) told_is ∙ ap (λ (view : List ℕ). length view) (h.seen_record.1 ∙ h.publish_record.1) ∙ h.view_wide,
-            ap (λ (x : List ℕ). length x) cut_is ∙ h.seen_wide,
-          );
-          own = own;
+          still = (h.seen.0, h.seen.1 ∙ h.published.1 ∙ h.viewed.1 ∙ h.same.who);
+          replied = h.seen_record.0 ∙ h.publish_record.0 ∙ h.view_reply ∙ h.handed;
+          wide = (ap (λ (view : List ℕ). length view) (h.seen_record.1 ∙ h.publish_record.1) ∙ h.view_wide, h.seen_wide);
+          own = h.seen_own;
           progress =
-              peeks_leave (local_with (caller_seen s)) (local_with c) before after peeks
-              ∙ h.seen_progress
+              h.seen_progress
               ∙ ap (after_seeing (cut_seen s)) (h.publish_progress ∙ ap after_publishing (h.view_progress
               ∙ ap (λ (l : Local). after_viewing (record_viewed v) (progress_of l)) h.same.local
-              ∙ ap (λ (x : Record). after_viewing x (progress_of (announced_local call))) (same_record ∙ sym told_is)))
-              ∙ ap (λ (x : List ℕ). after_seeing x (after_publishing (after_viewing told (progress_of (announced_local call))))) (sym cut_is);
-          grows = grows_on (announced_local call) (local_with (caller_seen s)) (local_with c) answered_grows (peeks_grow (local_with (caller_seen s)) (local_with c) before after peeks);
+              ∙ ap (λ (x : Record). after_viewing x (progress_of (announced_local call))) same_record));
+          grows = all_grows;
         }
 
-    -- what the judgement says of its outcome, where there is one, and of its record, where it isn't judged
-    pub judged_as : (init : List ℕ) (next : List ℕ → ℕ → List ℕ × ℕ) (before after : ℕ) (result : Result (Caller P × Outcome) (Unjudged P))
-        → IfOk result (λ x. IsStill meaning r (caller_seen s) x.0) → IfOk result (λ x. HasOnlyPeeked (local_with (caller_seen s)) (local_with x.0) before after)
-        → IfOk result (λ x. record_in x.1 ≡ record { reply = reply_seen s; view = view_seen s }) → IfOk result (λ x. cut_in x.1 ≡ cut_seen s) → IfOk result (λ x. HoldsOwn (cut_in x.1) x.0)
-        → IfOk result (λ x. stance_of x.0 ≡ stance_after x.1) → IfOk result (λ x. IsRightByPeeks init next r.callers (local_with x.0) x.1) → IfOk result (λ x. IsRightOf init next meaning r x.0 x.1)
-        → IfOk result (λ x. IsJudgedAs meaning r init next call reply x.0 x.1)
-    judged_as init next before after (Ok x) still peeks told cut own stance by_peeks verdict =
-        record { published = is_published x.0 (record_in x.1) (cut_in x.1) before after still peeks told cut own; stance = stance; by_peeks = by_peeks; verdict = verdict }
-    judged_as init next before after (Err u) still peeks told cut own stance by_peeks verdict = tt
+module _ {P : Type 0} (meaning : P → ℕ → ℕ → Meaning) (r : Rows P) (call : Announced P) (reply : ℕ) (s : Seen P) (h : IsPublishedBy meaning r call reply (caller_seen s) (record_seen s) (cut_seen s)) where
+  -- what is published stays so where its caller isn't judged
+  pub deferred : (c : Caller P) → IsSame (caller_seen s) c → IsPublishedBy meaning r call reply c (record_seen s) (cut_seen s)
+  deferred c same =
+      record {
+        still = (same.rows meaning r h.still.0, same.who ∙ h.still.1);
+        replied = h.replied;
+        wide = h.wide;
+        own = ap (λ (i : ℕ). slice_index (cut_seen s) i) same.who ∙ h.own ∙ ap (λ (l : Local). l.published) (sym same.local);
+        progress = ap progress_of same.local ∙ h.progress;
+        grows = subst (λ (l : Local). Grows (announced_local call) l) (sym same.local) h.grows;
+      }
 
-    pub unjudged_as : (before after : ℕ) (result : Result (Caller P × Outcome) (Unjudged P))
-        → IfErr result (λ u. IsStill meaning r (caller_seen s) u.caller) → IfErr result (λ u. HasOnlyPeeked (local_with (caller_seen s)) (local_with u.caller) before after)
-        → IfErr result (λ u. (u.reply ≡ reply_seen s) × (u.view ≡ view_seen s) × (u.seen ≡ cut_seen s)) → IfErr result (λ u. HoldsOwn u.seen u.caller)
-        → IfErr result (λ u. IsPublishedBy meaning r call reply u.caller (record_unjudged u) u.seen)
-    unjudged_as before after (Ok x) still peeks told own = tt
-    unjudged_as before after (Err u) still peeks told own =
-        is_published u.caller (record_unjudged u) u.seen before after still peeks (λ i. record { reply = told.0 i; view = told.1 i }) told.2 own
+  -- and where it peeks
+  peeked : (c : Caller P) (told : Record) (cut : List ℕ) (before after : ℕ) → IsStill meaning r (caller_seen s) c
+      → HasOnlyPeeked (local_with (caller_seen s)) (local_with c) before after → told ≡ record_seen s → cut ≡ cut_seen s → HoldsOwn cut c
+      → IsPublishedBy meaning r call reply c told cut
+  peeked c told cut before after still peeks told_is cut_is own =
+      record {
+        still = (still.0, still.1 ∙ h.still.1);
+        replied = ap (λ (x : Record). x.reply) told_is ∙ h.replied;
+        wide = (ap (λ (x : Record). length x.view) told_is ∙ h.wide.0, ap (λ (x : List ℕ). length x) cut_is ∙ h.wide.1);
+        own = own;
+        progress =
+            peeks_leave (local_with (caller_seen s)) (local_with c) before after peeks
+            ∙ h.progress
+            ∙ ap (λ (x : Record). after_seeing (cut_seen s) (after_publishing (after_viewing x (progress_of (announced_local call))))) (sym told_is)
+            ∙ ap (λ (x : List ℕ). after_seeing x (after_publishing (after_viewing told (progress_of (announced_local call))))) (sym cut_is);
+        grows = grows_on (announced_local call) (local_with (caller_seen s)) (local_with c) h.grows (peeks_grow (local_with (caller_seen s)) (local_with c) before after peeks);
+      }
+
+  -- what the judgement says of its outcome, where there is one, and of its record, where it isn't judged
+  pub judged_as : (init : List ℕ) (next : List ℕ → ℕ → List ℕ × ℕ) (before after : ℕ) (result : Result (Caller P × Outcome) (Unjudged P))
+      → IfOk result (λ x. IsStill meaning r (caller_seen s) x.0) → IfOk result (λ x. HasOnlyPeeked (local_with (caller_seen s)) (local_with x.0) before after)
+      → IfOk result (λ x. record_in x.1 ≡ record_seen s) → IfOk result (λ x. cut_in x.1 ≡ cut_seen s) → IfOk result (λ x. HoldsOwn (cut_in x.1) x.0)
+      → IfOk result (λ x. stance_of x.0 ≡ stance_after x.1) → IfOk result (λ x. IsRightByPeeks init next r.callers (local_with x.0) x.1) → IfOk result (λ x. IsRightOf init next meaning r x.0 x.1)
+      → IfOk result (λ x. IsJudgedAs meaning r init next call reply x.0 x.1)
+  judged_as init next before after (Ok x) still peeks told cut own stance by_peeks verdict =
+      record { published = peeked x.0 (record_in x.1) (cut_in x.1) before after still peeks told cut own; stance = stance; by_peeks = by_peeks; verdict = verdict }
+  judged_as init next before after (Err u) still peeks told cut own stance by_peeks verdict = tt
+
+  pub unjudged_as : (before after : ℕ) (result : Result (Caller P × Outcome) (Unjudged P))
+      → IfErr result (λ u. IsStill meaning r (caller_seen s) u.caller) → IfErr result (λ u. HasOnlyPeeked (local_with (caller_seen s)) (local_with u.caller) before after)
+      → IfErr result (λ u. (u.reply ≡ reply_seen s) × (u.view ≡ view_seen s) × (u.seen ≡ cut_seen s)) → IfErr result (λ u. HoldsOwn u.seen u.caller)
+      → IfErr result (λ u. IsPublishedBy meaning r call reply u.caller (record_unjudged u) u.seen)
+  unjudged_as before after (Ok x) still peeks told own = tt
+  unjudged_as before after (Err u) still peeks told own =
+      peeked u.caller (record_unjudged u) u.seen before after still peeks (λ i. record { reply = told.0 i; view = told.1 i }) told.2 own

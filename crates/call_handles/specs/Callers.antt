@@ -104,6 +104,13 @@ abbrev pub HasEnded : ℕ → CallerHandle → Answer → CallerHandle → Type 
 HasEnded reply h found k =
     (call : announced.Announced Outside) × (h.stage ≡ Announced call) × AnswersFor (rows_of h) (kind_of h) call reply k.stage found
 
+-- The call that was announced at the one handle is published with this reply, and nothing is judged: its caller stands between two
+-- calls at the other.
+abbrev pub HasPublished : ℕ → CallerHandle → CallerHandle → Type 0
+HasPublished reply h k =
+    (call : announced.Announced Outside) × (c : Caller Outside) × (told : Record) × (seen : List ℕ) × (h.stage ≡ Announced call)
+    × (k.stage ≡ Idle c) × IsPublishedBy every_reply (rows_of h) call reply c told seen
+
 -- The bytes are the text of the book of the handle's error, which has no legal order.
 abbrev pub IsWitnessOf : CallerHandle → List ℕ → Type 0
 IsWitnessOf h bytes =

@@ -1,5 +1,5 @@
 -- The handle of a table: what it has, when its parts belong together, and which callers it gives.
-use Rattle.std.specs.Prelude.{◌≡◌, ℕ, ◌<◌, ◌≤◌, Some}
+use Rattle.std.specs.Prelude.{◌≡◌, ℕ, ◌<◌, ◌≤◌, None, Some}
 use Rattle.std.specs.Arc.{arc_value}
 use Rattle.world_core.specs.declared.program.Outside.{Outside}
 use Rattle.world_core.specs.Local.{fresh}
@@ -8,10 +8,13 @@ use Rattle.row_table.specs.declared.caller.Caller.{Caller}
 use Rattle.row_table.specs.declared.rows.Rows.{Rows}
 use Rattle.row_table.specs.Callers.{who_of, local_with, stance_of, on_bench, stance_on, IsBenchOf}
 use Rattle.drv_wrapper.specs.Stands.{ready}
+use Rattle.monitor.specs.Monitors.{caller_of, local_of, own_of}
 use Rattle.call_handles.specs.declared.caller_handle.CallerHandle.{CallerHandle}
+use Rattle.call_handles.specs.declared.monitor_handle.MonitorHandle.{MonitorHandle}
 use Rattle.call_handles.specs.declared.stage.Stage.TheVariants.{Idle}
 use Rattle.call_handles.specs.declared.table_handle.TableHandle.{TableHandle}
 use Rattle.call_handles.specs.Callers.{every_reply, rows_of, kind_of, stage_of}
+use Rattle.call_handles.specs.Monitors.{rows_watched, kind_watched, monitor_in}
 
 -- The rows of the table, the kind by which calls are judged, and the number of the caller that it gives next.
 abbrev pub rows_in : TableHandle → Rows Outside
@@ -38,3 +41,9 @@ abbrev pub IsFreshOf : TableHandle → ℕ → CallerHandle → Type 0
 IsFreshOf t who h =
     (rows_of h ≡ rows_in t) × (kind_of h ≡ kind_in t)
     × ((c : Caller Outside) × (stage_of h ≡ Idle c) × (who_of c ≡ who) × (local_with c ≡ fresh) × (stance_of c ≡ ready))
+
+-- The handle is of this caller of the table as a monitor, which has made no round.
+abbrev pub IsFreshMonitorOf : TableHandle → ℕ → MonitorHandle → Type 0
+IsFreshMonitorOf t who h =
+    (rows_watched h ≡ rows_in t) × (kind_watched h ≡ kind_in t) × (who_of (caller_of (monitor_in h)) ≡ who)
+    × (local_of (monitor_in h) ≡ fresh) × (own_of (monitor_in h) ≡ None)

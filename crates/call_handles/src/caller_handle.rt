@@ -5,6 +5,7 @@ ghost use Rattle.row_table.specs.Callers.{who_of, IsCallerOf, IsFree};
 use crate::announcing::announce_alone;
 use crate::judging::judge_alone;
 use crate::kept::Kept;
+use crate::publishing::publish_alone;
 use crate::stage::{Stage, Wrong};
 use book_base::{NoMemory, OpWord};
 use book_writer::write_book;
@@ -17,7 +18,8 @@ use std::sync::Arc;
 /// One caller of a table, with all that its calls need.
 ///
 /// It makes one call at a time: [`announce`](CallerHandle::announce), then the object's own call, wherever that is
-/// made, then [`answered`](CallerHandle::answered) with its reply.
+/// made, then with its reply [`answered`](CallerHandle::answered), which judges the call, or
+/// [`publish`](CallerHandle::publish), which leaves that to the monitors of the table.
 #[derive(Drop)]
 pub struct CallerHandle {
     pub(crate) kept: Kept,
@@ -36,7 +38,7 @@ pub enum Answer {
 }
 
 impl CallerHandle {
-    ghost use Rattle.call_handles.specs.Callers.{every_reply, rows_of, kind_of, stage_of, caller_in, IsSoundCaller, IsOfSameTable, MayAnnounce, HasAnnounced, IsInError, HasBegun, HasEnded, IsWitnessOf};
+    ghost use Rattle.call_handles.specs.Callers.{every_reply, rows_of, kind_of, stage_of, caller_in, IsSoundCaller, IsOfSameTable, MayAnnounce, HasAnnounced, IsInError, HasBegun, HasEnded, HasPublished, IsWitnessOf};
 
     /// The handle of a caller of this table, which is between two calls. Its calls are judged by this kind, and begin the
     /// search for an order with this guide.
@@ -123,6 +125,26 @@ impl CallerHandle {
                 (CallerHandle { kept, stage }, Some(answer))
             }
             stage => (CallerHandle { kept, stage }, None),
+        }
+    }
+
+    /// Hands in the reply of the object to the call that is announced, which is published with its view, and judges
+    /// nothing: whether one was announced. Else the handle is as it was.
+    pub fn publish(self, reply: u64) -> (CallerHandle, bool)
+        requires sound { IsSoundCaller self }
+        ensures sound { IsSoundCaller result.0 }
+        ensures same { IsOfSameTable self result.0 }
+        ensures when { IsTrue result.1 ↔ HasAnnounced self }
+        ensures published { IsTrue result.1 → HasPublished reply self result.0 }
+        ensures unchanged { ¬ IsTrue result.1 → result.0 ≡ self }
+    {
+        let CallerHandle { kept, stage } = self;
+        match stage {
+            Stage::Announced(call) => {
+                let stage = Stage::Idle(publish_alone(&kept.rows, call, reply));
+                (CallerHandle { kept, stage }, true)
+            }
+            stage => (CallerHandle { kept, stage }, false),
         }
     }
 

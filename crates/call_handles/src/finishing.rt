@@ -7,10 +7,10 @@ ghost use Rattle.drv_wrapper.specs.States.{caller_announced, announced_local};
 ghost use Rattle.enforcer.specs.Enforced.{record_unjudged};
 ghost use Rattle.call_handles.specs.Ends.{IsPublishedBy, IsJudgedAs};
 
-use crate::handed::hand_in;
+use crate::publishing::publish_reply;
 use book_base::SeqObject;
-use drv_wrapper::{Announced, view};
-use enforcer::{Gathered, Outcome, Unjudged, judge, publish, seen};
+use drv_wrapper::Announced;
+use enforcer::{Gathered, Outcome, Unjudged, judge};
 use frontier_check::Guide;
 use row_table::{Caller, Rows, Steps};
 use seq_objects::Kind;
@@ -18,8 +18,8 @@ use std::alloc::Global;
 use std::sync::ledger::Ledger;
 use world_core::{Outside, Program};
 
-/// What an announced call comes to whose reply is handed in: the view is taken, reply and view are published, the
-/// published records are seen, and the book at the seen cut is judged.
+/// What an announced call comes to whose reply is handed in: it is published, and the book at the cut that its caller
+/// has seen since is judged.
 ///
 /// It is all of [`enforce`](enforcer::enforce) that comes after the object has answered.
 pub(crate) fn finish<L: Ledger>(
@@ -45,9 +45,6 @@ pub(crate) fn finish<L: Ledger>(
     ensures unjudged_stands { IfErr result (λ u.
         stance_of u.caller ≡ record ready { live = false }) }
 {
-    let answered = hand_in(announced, reply);
-    let viewed = view(answered, rows, steps);
-    let published = publish(viewed, rows, steps);
-    let seen = seen(published, rows, steps);
+    let seen = publish_reply(rows, announced, reply, steps);
     judge(alloc, &kind, rows, seen, gathered, guide, steps)
 }

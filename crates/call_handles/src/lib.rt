@@ -1,5 +1,5 @@
 //! A table of callers and each of its callers as values that are handed round, for objects outside the library: a
-//! call is announced, its reply is handed in, and the call is judged.
+//! call is announced, its reply is handed in, and the call is judged, by its caller or by monitors of the table.
 #![tactic(auto)]
 
 mod announcing;
@@ -9,11 +9,15 @@ mod handed;
 mod handle;
 mod judging;
 mod kept;
+mod monitor_handle;
+mod publishing;
+mod rounds;
 mod stage;
 mod table_handle;
 
 pub use caller_handle::{Answer, CallerHandle};
 pub use handle::Handle;
 pub use kept::Kept;
+pub use monitor_handle::{Judgement, MonitorHandle};
 pub use stage::{Stage, Wrong};
 pub use table_handle::TableHandle;

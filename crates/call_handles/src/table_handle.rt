@@ -1,16 +1,21 @@
-ghost use Rattle.std.specs.Prelude.{◌≡◌, ◌+◌, ◌≤◌, ◌↔◌, IsNone, IfSome, IfNone, IfOk, IfErr};
+ghost use Rattle.std.specs.Prelude.{◌≡◌, ◌+◌, ◌<◌, ◌≤◌, ◌↔◌, IsNone, IfSome, IfNone, IfOk, IfErr};
 ghost use Rattle.book_base.specs.declared.TheConstants.{MAX_CALLERS, MAX_CALLS};
+ghost use Rattle.world_core.specs.Local.{fresh};
+ghost use Rattle.row_table.specs.Callers.{who_of, local_with, stance_of, IsCallerOf, IsFree};
+ghost use Rattle.drv_wrapper.specs.Stands.{ready};
 
 use crate::caller_handle::CallerHandle;
+use crate::monitor_handle::MonitorHandle;
 use book_base::{MAX_CALLERS, MAX_CALLS, NoMemory};
 use frontier_check::Guide;
-use row_table::{Bench, Rows};
+use row_table::{Bench, Caller, Rows};
 use seq_objects::Kind;
 use std::alloc::Global;
 use std::sync::Arc;
 use world_core::Outside;
 
-/// A table, which gives the handles of its callers one by one. The calls of all of them are judged by one kind.
+/// A table, which gives the handles of its callers one by one, each to make calls or as a monitor. All of them judge by
+/// one kind.
 ///
 /// The table goes with the last of these handles and its own.
 #[derive(Drop)]
@@ -22,8 +27,9 @@ pub struct TableHandle {
 }
 
 impl TableHandle {
-    ghost use Rattle.call_handles.specs.Callers.{IsSoundCaller};
-    ghost use Rattle.call_handles.specs.Tables.{rows_in, kind_in, next_of, IsSoundTable, GivesNext, IsFreshOf};
+    ghost use Rattle.call_handles.specs.Callers.{every_reply, IsSoundCaller};
+    ghost use Rattle.call_handles.specs.Monitors.{IsSoundMonitor};
+    ghost use Rattle.call_handles.specs.Tables.{rows_in, kind_in, next_of, IsSoundTable, GivesNext, IsFreshOf, IsFreshMonitorOf};
 
     /// A table for so many callers with so many calls each.
     pub fn open(
@@ -69,8 +75,43 @@ impl TableHandle {
         }
         let rows = Arc::try_clone(&self.rows)?;
         let guide = Guide::new(alloc)?;
+        let caller = self.take_next();
+        Ok(Some(CallerHandle::new(rows, self.kind, caller, guide)))
+    }
+
+    /// The handle of the next caller as a monitor, while there is one. For want of memory the table is as it was.
+    pub fn monitor(&mut self, alloc: Global) -> Result<Option<MonitorHandle>, NoMemory>
+        requires sound { IsSoundTable self.old }
+        ensures sound { IsSoundTable self.new }
+        ensures when { IfOk result (λ found. IsNone found ↔ (next_of self.old ≡ (rows_in self.old).callers)) }
+        ensures given { IfOk result (λ found. IfSome found (IsFreshMonitorOf self.old (next_of self.old))) }
+        ensures given_sound { IfOk result (λ found. IfSome found IsSoundMonitor) }
+        ensures next { IfOk result (λ found. IfSome found (λ _.
+            GivesNext (next_of self.old + 1) self.old self.new)) }
+        ensures none { IfOk result (λ found. IfNone found (self.new ≡ self.old)) }
+        ensures unchanged { IfErr result (λ _. self.new ≡ self.old) }
+    {
+        if self.next == self.rows.callers() {
+            return Ok(None);
+        }
+        let rows = Arc::try_clone(&self.rows)?;
+        let caller = self.take_next();
+        Ok(Some(MonitorHandle::new(alloc, rows, self.kind, caller)))
+    }
+
+    // Takes the next caller off the bench, where there is one.
+    fn take_next(&mut self) -> Caller
+        requires sound { IsSoundTable self.old }
+        requires left { next_of self.old < (rows_in self.old).callers }
+        ensures sound { IsSoundTable self.new }
+        ensures next { GivesNext (next_of self.old + 1) self.old self.new }
+        ensures caller { IsCallerOf every_reply (rows_in self.old) result }
+        ensures who { who_of result ≡ next_of self.old }
+        ensures fresh { (local_with result ≡ fresh) × (stance_of result ≡ ready) }
+        ensures free { IsFree result }
+    {
         let caller = self.rows.part(&mut self.bench, self.next);
         self.next += 1;
-        Ok(Some(CallerHandle::new(rows, self.kind, caller, guide)))
+        caller
     }
 }

@@ -1,15 +1,20 @@
 -- A program's place for a handle: what is in it, and what the calls on it find and leave there.
-use Rattle.std.specs.Prelude.{◌≡◌, ℕ, ◌≤◌, ◌+◌, List, Option, Some}
+use Rattle.std.specs.Prelude.{◌≡◌, ℕ, ◌≤◌, ◌+◌, List, Option, None, Some}
 use Rattle.book_base.specs.declared.TheConstants.{MAX_CALLERS, MAX_CALLS}
 use Rattle.seq_objects.specs.declared.kind.Kind.{Kind}
 use Rattle.seq_objects.specs.Words.{kind_name}
 use Rattle.call_handles.specs.declared.caller_handle.Answer.{Answer}
 use Rattle.call_handles.specs.declared.caller_handle.CallerHandle.{CallerHandle}
+use Rattle.call_handles.specs.declared.monitor_handle.Judgement.{Judgement}
+use Rattle.call_handles.specs.declared.monitor_handle.MonitorHandle.{MonitorHandle}
 use Rattle.call_handles.specs.declared.table_handle.TableHandle.{TableHandle}
 use Rattle.call_handles.specs.declared.handle.Handle.{Handle}
-use Rattle.call_handles.specs.declared.handle.Handle.TheVariants.{Table, Caller}
-use Rattle.call_handles.specs.Callers.{IsOfSameTable, HasBegun, HasEnded, IsWitnessOf}
-use Rattle.call_handles.specs.Tables.{rows_in, kind_in, next_of, GivesNext, IsFreshOf}
+use Rattle.call_handles.specs.declared.handle.Handle.TheVariants.{Spare, Table, Caller, Monitor}
+use Rattle.call_handles.specs.Callers.{IsOfSameTable, IsInError, HasBegun, HasEnded, HasPublished, IsWitnessOf}
+use Rattle.call_handles.specs.Monitors.{IsOfSameWatch, HasFoundWrong, HasJudged, IsFoundWitness}
+use Rattle.call_handles.specs.Tables.{rows_in, kind_in, next_of, GivesNext, IsFreshOf, IsFreshMonitorOf}
+use Rattle.handle_slots.specs.declared.role.Role.{Role}
+use Rattle.handle_slots.specs.declared.role.Role.TheVariants as role
 use Rattle.handle_slots.specs.declared.slot.Slot.{Slot}
 
 abbrev pub handle_in : Slot → Option Handle
@@ -34,11 +39,16 @@ IsOpened name callers calls found =
 abbrev pub MayGive : Option Handle → Type 0
 MayGive found = (t : TableHandle) × (found ≡ Some (Table t)) × ¬ (next_of t ≡ (rows_in t).callers)
 
--- The table has given its next caller, whose handle this is.
-abbrev pub HasGiven : Option Handle → Option Handle → Option Handle → Type 0
-HasGiven before after given =
-    (t u : TableHandle) × (h : CallerHandle) × (before ≡ Some (Table t)) × (after ≡ Some (Table u)) × (given ≡ Some (Caller h))
-    × GivesNext (next_of t + 1) t u × IsFreshOf t (next_of t) h
+-- The handle is that of this caller of the table, fresh, in this role.
+abbrev pub IsFreshAs : Role → TableHandle → ℕ → Handle → Type 0
+IsFreshAs role.Caller t who given = (h : CallerHandle) × (given ≡ Caller h) × IsFreshOf t who h
+IsFreshAs role.Monitor t who given = (m : MonitorHandle) × (given ≡ Monitor m) × IsFreshMonitorOf t who m
+
+-- The table has given its next caller, whose handle this is, in this role.
+abbrev pub HasGiven : Role → Option Handle → Option Handle → Option Handle → Type 0
+HasGiven part before after given =
+    (t u : TableHandle) × (h : Handle) × (before ≡ Some (Table t)) × (after ≡ Some (Table u)) × (given ≡ Some h)
+    × GivesNext (next_of t + 1) t u × IsFreshAs part t (next_of t) h
 
 -- The handle is that of a caller for which this holds.
 abbrev pub IsCallers : (CallerHandle → Type 0) → Option Handle → Type 0
@@ -57,6 +67,31 @@ Begins op before after = AreCallers (HasBegun op) before after
 abbrev pub Ends : ℕ → Answer → Option Handle → Option Handle → Type 0
 Ends reply answer before after = AreCallers (λ h k. HasEnded reply h answer k) before after
 
--- The bytes are the text of the book of the caller's error.
+-- The call that the caller has announced is published with this reply, and nobody has judged it.
+abbrev pub Publishes : ℕ → Option Handle → Option Handle → Type 0
+Publishes reply before after = AreCallers (HasPublished reply) before after
+
+-- The handle is that of a monitor for which this holds.
+abbrev pub IsMonitors : (MonitorHandle → Type 0) → Option Handle → Type 0
+IsMonitors Is found = (m : MonitorHandle) × (found ≡ Some (Monitor m)) × Is m
+
+-- The monitor has made a round, with this judgement.
+abbrev pub Judges : Judgement → Option Handle → Option Handle → Type 0
+Judges judgement before after =
+    (m k : MonitorHandle) × (before ≡ Some (Monitor m)) × (after ≡ Some (Monitor k)) × IsOfSameWatch m k × HasJudged m judgement k
+
+-- The last call of the handle's caller was an error, or a round of its monitor was illegal.
+abbrev pub HasWitness : Option Handle → Type 0
+HasWitness None = ⊥
+HasWitness (Some Spare) = ⊥
+HasWitness (Some (Table t)) = ⊥
+HasWitness (Some (Caller h)) = IsInError h
+HasWitness (Some (Monitor m)) = HasFoundWrong m
+
+-- The bytes are the text of the book of the caller's error, or of the monitor's illegal round.
 abbrev pub Witnesses : Option Handle → List ℕ → Type 0
-Witnesses found bytes = IsCallers (λ h. IsWitnessOf h bytes) found
+Witnesses None bytes = ⊥
+Witnesses (Some Spare) bytes = ⊥
+Witnesses (Some (Table t)) bytes = ⊥
+Witnesses (Some (Caller h)) bytes = IsWitnessOf h bytes
+Witnesses (Some (Monitor m)) bytes = IsFoundWitness m bytes

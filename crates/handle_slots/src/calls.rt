@@ -1,11 +1,12 @@
 ghost use Rattle.std.specs.Prelude.{◌≡◌, ◌↔◌, IsTrue, IsSome, IfSome, IfNone, IfOk, Some, None, is_some};
-ghost use Rattle.call_handles.specs.Callers.{MayAnnounce, HasAnnounced, IsInError};
+ghost use Rattle.call_handles.specs.Callers.{MayAnnounce, HasAnnounced};
 ghost use Rattle.call_handles.specs.Handles.{IsSound};
-ghost use Rattle.handle_slots.specs.Slots.{handle_in, IsCallers, Begins, Ends, Witnesses};
+ghost use Rattle.call_handles.specs.Monitors.{MayJudge};
+ghost use Rattle.handle_slots.specs.Slots.{handle_in, IsCallers, Begins, Ends, Publishes, IsMonitors, Judges, HasWitness, Witnesses};
 
 use crate::slot::Slot;
 use book_base::{NoMemory, OpWord};
-use call_handles::{Answer, Handle};
+use call_handles::{Answer, Handle, Judgement};
 use core::mem::replace_with;
 use std::alloc::Global;
 
@@ -96,22 +97,106 @@ pub fn answered(alloc: Global, slot: &mut Slot, reply: u64) -> Option<Answer>
     replace_with(slot, (alloc, reply), answered_in)
 }
 
-// The witness of a handle, where its last call was an error.
+// The handle after its announced call is published with this reply, where one is announced, and whether it was.
+fn published_by(handle: Handle, reply: u64) -> (Handle, bool)
+    requires sound { IsSound handle }
+    ensures sound { IsSound result.0 }
+    ensures when { IsTrue result.1 ↔ IsCallers HasAnnounced (Some handle) }
+    ensures published { IsTrue result.1 → Publishes reply (Some handle) (Some result.0) }
+    ensures unchanged { ¬ IsTrue result.1 → result.0 ≡ handle }
+{
+    match handle {
+        Handle::Caller(caller) => {
+            let (caller, published) = caller.publish(reply);
+            (Handle::Caller(caller), published)
+        }
+        handle => (handle, false),
+    }
+}
+
+fn published_in(slot: Slot, given: (Global, u64)) -> (Slot, bool)
+    requires taken { IsTrue (is_some (handle_in slot)) }
+    ensures when { IsTrue result.1 ↔ IsCallers HasAnnounced (handle_in slot) }
+    ensures published { IsTrue result.1 → Publishes given.1 (handle_in slot) (handle_in result.0) }
+    ensures unchanged { ¬ IsTrue result.1 → handle_in result.0 ≡ handle_in slot }
+{
+    let (alloc, reply) = given;
+    let (mut handle, _) = slot.take(alloc);
+    let published = replace_with(&mut *handle, reply, published_by);
+    (Slot::of(handle), published)
+}
+
+/// Hands in the reply to the call that the caller has announced whose handle is in the slot, and publishes it without a
+/// judgement: whether it has announced one. Else the handle is as it was.
+pub fn publish(alloc: Global, slot: &mut Slot, reply: u64) -> bool
+    ensures when { IsTrue result ↔ IsCallers HasAnnounced (handle_in slot.old) }
+    ensures published { IsTrue result → Publishes reply (handle_in slot.old) (handle_in slot.new) }
+    ensures unchanged { ¬ IsTrue result → handle_in slot.new ≡ handle_in slot.old }
+{
+    if !slot.is_taken() {
+        return false;
+    }
+    replace_with(slot, (alloc, reply), published_in)
+}
+
+// The handle after a round of its monitor, where it may make one, and the judgement.
+fn judged_by(handle: Handle, alloc: Global) -> (Handle, Option<Judgement>)
+    requires sound { IsSound handle }
+    ensures sound { IsSound result.0 }
+    ensures when { IsSome result.1 ↔ IsMonitors MayJudge (Some handle) }
+    ensures judged { IfSome result.1 (λ found. Judges found (Some handle) (Some result.0)) }
+    ensures unchanged { IfNone result.1 (result.0 ≡ handle) }
+{
+    match handle {
+        Handle::Monitor(monitor) => {
+            let (monitor, found) = monitor.judge(alloc);
+            (Handle::Monitor(monitor), found)
+        }
+        handle => (handle, None),
+    }
+}
+
+fn judged_in(slot: Slot, alloc: Global) -> (Slot, Option<Judgement>)
+    requires taken { IsTrue (is_some (handle_in slot)) }
+    ensures when { IsSome result.1 ↔ IsMonitors MayJudge (handle_in slot) }
+    ensures judged { IfSome result.1 (λ found. Judges found (handle_in slot) (handle_in result.0)) }
+    ensures unchanged { IfNone result.1 (handle_in result.0 ≡ handle_in slot) }
+{
+    let (mut handle, _) = slot.take(alloc);
+    let found = replace_with(&mut *handle, alloc, judged_by);
+    (Slot::of(handle), found)
+}
+
+/// Makes a round of the monitor whose handle is in the slot, where none was illegal yet: what it found. There is no
+/// answer where the slot has no such monitor, and then the handle is as it was.
+pub fn judge(alloc: Global, slot: &mut Slot) -> Option<Judgement>
+    ensures when { IsSome result ↔ IsMonitors MayJudge (handle_in slot.old) }
+    ensures judged { IfSome result (λ found. Judges found (handle_in slot.old) (handle_in slot.new)) }
+    ensures unchanged { IfNone result (handle_in slot.new ≡ handle_in slot.old) }
+{
+    if !slot.is_taken() {
+        return None;
+    }
+    replace_with(slot, alloc, judged_in)
+}
+
+// The witness of a handle, where it has one.
 fn witness_of(handle: &Handle, alloc: Global) -> Result<Option<Vec<u8>>, NoMemory>
     requires sound { IsSound handle.now }
-    ensures when { IfOk result (λ found. IsSome found ↔ IsCallers IsInError (Some handle.now)) }
+    ensures when { IfOk result (λ found. IsSome found ↔ HasWitness (Some handle.now)) }
     ensures text { IfOk result (λ found. IfSome found (λ text.
         Witnesses (Some handle.now) text.items)) }
 {
     match handle {
         Handle::Caller(caller) => caller.witness(alloc),
+        Handle::Monitor(monitor) => monitor.witness(alloc),
         _ => Ok(None),
     }
 }
 
 fn witness_in(slot: Slot, alloc: Global) -> (Slot, Result<Option<Vec<u8>>, NoMemory>)
     requires taken { IsTrue (is_some (handle_in slot)) }
-    ensures when { IfOk result.1 (λ found. IsSome found ↔ IsCallers IsInError (handle_in slot)) }
+    ensures when { IfOk result.1 (λ found. IsSome found ↔ HasWitness (handle_in slot)) }
     ensures text { IfOk result.1 (λ found. IfSome found (λ text.
         Witnesses (handle_in slot) text.items)) }
     ensures unchanged { handle_in result.0 ≡ handle_in slot }
@@ -121,9 +206,10 @@ fn witness_in(slot: Slot, alloc: Global) -> (Slot, Result<Option<Vec<u8>>, NoMem
     (Slot::of(handle), found)
 }
 
-/// The text of the book of the error that the caller's last call was whose handle is in the slot, where it was one.
+/// The text of the book of the error that the last call of the slot's caller was, or of the illegal round that the slot's
+/// monitor has made, where there is one.
 pub fn witness(alloc: Global, slot: &mut Slot) -> Result<Option<Vec<u8>>, NoMemory>
-    ensures when { IfOk result (λ found. IsSome found ↔ IsCallers IsInError (handle_in slot.old)) }
+    ensures when { IfOk result (λ found. IsSome found ↔ HasWitness (handle_in slot.old)) }
     ensures text { IfOk result (λ found. IfSome found (λ text.
         Witnesses (handle_in slot.old) text.items)) }
     ensures unchanged { handle_in slot.new ≡ handle_in slot.old }

@@ -5,9 +5,11 @@ mod calls;
 mod held;
 mod loose;
 mod opening;
+mod role;
 mod slot;
 
-pub use calls::{announce, answered, close, witness};
+pub use calls::{announce, answered, close, judge, publish, witness};
 pub use held::Held;
-pub use opening::{caller, open};
+pub use opening::{give, open};
+pub use role::Role;
 pub use slot::Slot;

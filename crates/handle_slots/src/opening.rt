@@ -1,11 +1,12 @@
-ghost use Rattle.std.specs.Prelude.{◌≡◌, ◌↔◌, IsTrue, IsSome, IfSome, IfNone, IfOk, IfErr, Some, None, is_some};
-ghost use Rattle.call_handles.specs.Callers.{IsSoundCaller};
+ghost use Rattle.std.specs.Prelude.{◌≡◌, ◌↔◌, ◌+◌, IsTrue, IsSome, IsNone, IfSome, IfNone, IfOk, IfErr, Some, None, is_some};
 ghost use Rattle.call_handles.specs.Handles.{IsSound};
-ghost use Rattle.handle_slots.specs.Slots.{handle_in, IsSized, IsOpened, MayGive, HasGiven};
+ghost use Rattle.call_handles.specs.Tables.{rows_in, next_of, IsSoundTable, GivesNext};
+ghost use Rattle.handle_slots.specs.Slots.{handle_in, IsSized, IsOpened, MayGive, IsFreshAs, HasGiven};
 
+use crate::role::Role;
 use crate::slot::Slot;
 use book_base::{MAX_CALLERS, MAX_CALLS, NoMemory};
-use call_handles::{CallerHandle, Handle, TableHandle};
+use call_handles::{Handle, TableHandle};
 use core::mem::replace_with;
 use seq_objects::Kind;
 use std::alloc::Global;
@@ -43,56 +44,83 @@ pub fn open(
     Ok(true)
 }
 
-// What the table gives whose handle this is: its next caller, where it has one left.
-fn given_by(handle: Handle, alloc: Global) -> (Handle, Result<Option<CallerHandle>, NoMemory>)
+// The handle of the next caller of a table in this role, while there is one.
+fn next_in(table: &mut TableHandle, given: (Global, Role)) -> Result<Option<Handle>, NoMemory>
+    requires sound { IsSoundTable table.old }
+    ensures sound { IsSoundTable table.new }
+    ensures when { IfOk result (λ found.
+        IsNone found ↔ (next_of table.old ≡ (rows_in table.old).callers)) }
+    ensures given { IfOk result (λ found. IfSome found
+        (IsFreshAs given.1 table.old (next_of table.old))) }
+    ensures given_sound { IfOk result (λ found. IfSome found IsSound) }
+    ensures next { IfOk result (λ found. IfSome found (λ _.
+        GivesNext (next_of table.old + 1) table.old table.new)) }
+    ensures none { IfOk result (λ found. IfNone found (table.new ≡ table.old)) }
+    ensures unchanged { IfErr result (λ _. table.new ≡ table.old) }
+{
+    let (alloc, role) = given;
+    match role {
+        Role::Caller => match table.caller(alloc)? {
+            Some(caller) => Ok(Some(Handle::Caller(caller))),
+            None => Ok(None),
+        },
+        Role::Monitor => match table.monitor(alloc)? {
+            Some(monitor) => Ok(Some(Handle::Monitor(monitor))),
+            None => Ok(None),
+        },
+    }
+}
+
+// What the table gives whose handle this is: its next caller in this role, where it has one left.
+fn given_by(handle: Handle, given: (Global, Role)) -> (Handle, Result<Option<Handle>, NoMemory>)
     requires sound { IsSound handle }
     ensures sound { IsSound result.0 }
     ensures when { IfOk result.1 (λ found. IsSome found ↔ MayGive (Some handle)) }
-    ensures given { IfOk result.1 (λ found. IfSome found (λ caller.
-        HasGiven (Some handle) (Some result.0) (Some (Handle.Caller caller)))) }
-    ensures given_sound { IfOk result.1 (λ found. IfSome found IsSoundCaller) }
+    ensures given { IfOk result.1 (λ found. IfSome found (λ next.
+        HasGiven given.1 (Some handle) (Some result.0) (Some next))) }
+    ensures given_sound { IfOk result.1 (λ found. IfSome found IsSound) }
     ensures unchanged { IfOk result.1 (λ found. IfNone found (result.0 ≡ handle)) }
     ensures no_memory { IfErr result.1 (λ _. result.0 ≡ handle) }
 {
     match handle {
         Handle::Table(mut table) => {
-            let given = table.caller(alloc);
-            (Handle::Table(table), given)
+            let next = next_in(&mut table, given);
+            (Handle::Table(table), next)
         }
         handle => (handle, Ok(None)),
     }
 }
 
-fn given_in(slot: Slot, alloc: Global) -> (Slot, Result<Option<CallerHandle>, NoMemory>)
+fn given_in(slot: Slot, given: (Global, Role)) -> (Slot, Result<Option<Handle>, NoMemory>)
     requires taken { IsTrue (is_some (handle_in slot)) }
     ensures when { IfOk result.1 (λ found. IsSome found ↔ MayGive (handle_in slot)) }
-    ensures given { IfOk result.1 (λ found. IfSome found (λ caller.
-        HasGiven (handle_in slot) (handle_in result.0) (Some (Handle.Caller caller)))) }
-    ensures given_sound { IfOk result.1 (λ found. IfSome found IsSoundCaller) }
+    ensures given { IfOk result.1 (λ found. IfSome found (λ next.
+        HasGiven given.1 (handle_in slot) (handle_in result.0) (Some next))) }
+    ensures given_sound { IfOk result.1 (λ found. IfSome found IsSound) }
     ensures unchanged { IfOk result.1 (λ found.
         IfNone found (handle_in result.0 ≡ handle_in slot)) }
     ensures no_memory { IfErr result.1 (λ _. handle_in result.0 ≡ handle_in slot) }
 {
-    let (mut handle, _) = slot.take(alloc);
-    let given = replace_with(&mut *handle, alloc, given_by);
-    (Slot::of(handle), given)
+    let (mut handle, _) = slot.take(given.0);
+    let next = replace_with(&mut *handle, given, given_by);
+    (Slot::of(handle), next)
 }
 
-// The box with the handle of a caller in it.
-fn filled(mut place: Box<Handle>, caller: CallerHandle) -> Box<Handle>
-    ensures { result.value ≡ Handle.Caller caller }
+// The box with this handle in it.
+fn filled(mut place: Box<Handle>, handle: Handle) -> Box<Handle>
+    ensures { result.value ≡ handle }
 {
-    *place = Handle::Caller(caller);
+    *place = handle;
     place
 }
 
-/// Puts the handle of the next caller of a table into the slot: whether it does. It doesn't where the first slot has no
-/// table, where this has given all its callers, or where the second slot has a handle.
-pub fn caller(alloc: Global, table: &mut Slot, slot: &mut Slot) -> Result<bool, NoMemory>
+/// Puts the handle of the next caller of a table into the slot, in this role: whether it does. It doesn't where the
+/// first slot has no table, where this has given all its callers, or where the second slot has a handle.
+pub fn give(alloc: Global, role: Role, table: &mut Slot, slot: &mut Slot) -> Result<bool, NoMemory>
     ensures when { IfOk result (λ done. IsTrue done ↔
         MayGive (handle_in table.old) × (handle_in slot.old ≡ None)) }
     ensures given { IfOk result (λ done. IsTrue done →
-        HasGiven (handle_in table.old) (handle_in table.new) (handle_in slot.new)) }
+        HasGiven role (handle_in table.old) (handle_in table.new) (handle_in slot.new)) }
     ensures unchanged { IfOk result (λ done. ¬ IsTrue done →
         (handle_in table.new ≡ handle_in table.old) × (slot.new ≡ slot.old)) }
     ensures no_memory { IfErr result (λ _.
@@ -102,9 +130,9 @@ pub fn caller(alloc: Global, table: &mut Slot, slot: &mut Slot) -> Result<bool, 
         return Ok(false);
     }
     let place = Box::new(alloc, Handle::Spare)?;
-    match replace_with(table, alloc, given_in) {
-        Ok(Some(caller)) => {
-            *slot = Slot::of(filled(place, caller));
+    match replace_with(table, (alloc, role), given_in) {
+        Ok(Some(handle)) => {
+            *slot = Slot::of(filled(place, handle));
             Ok(true)
         }
         Ok(None) => Ok(false),

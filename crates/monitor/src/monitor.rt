@@ -17,6 +17,7 @@ use world_core::{Outside, Program, Region};
 /// It keeps the book that it gathered last, so that a round peeks what is new. The rounds of a
 /// watch are for one object: there a search goes on after the places that still stand of the last
 /// order.
+#[derive(Drop)]
 pub struct Monitor<P = Outside> {
     caller: Caller<P>,
     gathered: Option<Gathered>,
@@ -141,7 +142,7 @@ impl<P: Program> Monitor<P> {
     /// A round as [`Monitor::round`] makes it, whose search goes on after the places that still
     /// stand of an order of the book that is kept, for this object; and afterwards what stands in
     /// the book that is kept then.
-    pub(crate) fn round_after<S: SeqObject, L: Ledger>(
+    pub fn round_after<S: SeqObject, L: Ledger>(
         &mut self,
         alloc: Global,
         object: &S,

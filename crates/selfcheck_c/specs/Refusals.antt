@@ -3,6 +3,7 @@ use Rattle.std.specs.Prelude.{◌≡◌, ℕ, List}
 use Rattle.book_base.specs.declared.fault.TextFault.{TextFault}
 use Rattle.book_text.specs.BookRules.{IsFirstBookFault}
 use Rattle.certificate_text.specs.CertificateRules.{IsFirstCertificateFault}
+use Rattle.given_book.specs.Given.{IsFirstGivenFault}
 use Rattle.text_fields.specs.declared.version.Version.TheVariants.{Second}
 use Rattle.selfcheck_c.specs.declared.refusal.Refusal.{Refusal}
 use Rattle.selfcheck_c.specs.FaultNumber.{fault_number}
@@ -22,3 +23,7 @@ IsBookRefusal bytes refusal = IsRefusalOf (IsFirstBookFault Second bytes) refusa
 -- the bytes are no certificate's text, and the refusal tells their first fault
 abbrev pub IsCertificateRefusal : List ℕ → Refusal → Type 0
 IsCertificateRefusal bytes refusal = IsRefusalOf (IsFirstCertificateFault bytes) refusal
+
+-- the bytes give no book, and the refusal tells their first fault, with its line counted from the title of the book
+abbrev pub IsGivenRefusal : List ℕ → Refusal → Type 0
+IsGivenRefusal bytes refusal = IsRefusalOf (IsFirstGivenFault bytes) refusal

@@ -1,14 +1,15 @@
 ghost use Rattle.std.specs.Prelude.{◌≡◌, ◌↔◌, ◌⊎◌, ℕ, ◌<◌, ◌≤◌, List, None, IsTrue, is_some, length, take};
 ghost use Rattle.book_base.specs.OperationWord.{joined};
-ghost use Rattle.call_handles.specs.Callers.{MayAnnounce, HasAnnounced, IsInError};
-ghost use Rattle.handle_slots.specs.Slots.{handle_in, IsSized, IsOpened, MayGive, HasGiven, IsCallers, Begins, Ends, Witnesses};
-ghost use Rattle.selfcheck_c.specs.declared.TheConstants.{ILLEGAL, NO_MEMORY, NO_ROOM};
+ghost use Rattle.call_handles.specs.Callers.{MayAnnounce, HasAnnounced};
+ghost use Rattle.call_handles.specs.Monitors.{MayJudge};
+ghost use Rattle.handle_slots.specs.Slots.{handle_in, IsSized, IsOpened, MayGive, HasGiven, IsCallers, Begins, Ends, Publishes, IsMonitors, Judges, HasWitness, Witnesses};
+ghost use Rattle.selfcheck_c.specs.declared.TheConstants.{LEGAL, ILLEGAL, NO_MEMORY, NO_ROOM};
 
 use crate::buffer::put;
-use crate::{ILLEGAL, NO_MEMORY, NO_ROOM};
+use crate::{ILLEGAL, LEGAL, NO_MEMORY, NO_ROOM};
 use book_base::{NoMemory, join};
-use call_handles::Answer;
-use handle_slots::{Slot, announce, answered, caller, close, open, witness};
+use call_handles::{Answer, Judgement};
+use handle_slots::{Role, Slot, announce, answered, close, give, judge, open, publish, witness};
 use std::alloc::Global;
 
 /// The call did what it is for; a reply is delivered.
@@ -45,13 +46,32 @@ pub extern "C" fn selfcheck_open(
 pub extern "C" fn selfcheck_caller(alloc: Global, table: &mut Slot, slot: &mut Slot) -> u32
     ensures fit { result ≡ DONE → MayGive (handle_in table.old) × (handle_in slot.old ≡ None) }
     ensures given { result ≡ DONE →
-        HasGiven (handle_in table.old) (handle_in table.new) (handle_in slot.new) }
+        HasGiven Role.Caller (handle_in table.old) (handle_in table.new) (handle_in slot.new) }
     ensures unfit { result ≡ UNFIT → ¬ (MayGive (handle_in table.old) × (handle_in slot.old ≡ None)) }
     ensures unchanged { ¬ (result ≡ DONE) →
         (handle_in table.new ≡ handle_in table.old) × (slot.new ≡ slot.old) }
     ensures ends { (result ≡ DONE) ⊎ (result ≡ NO_MEMORY) ⊎ (result ≡ UNFIT) }
 {
-    match caller(alloc, table, slot) {
+    match give(alloc, Role::Caller, table, slot) {
+        Ok(true) => DONE,
+        Ok(false) => UNFIT,
+        Err(NoMemory) => NO_MEMORY,
+    }
+}
+
+/// Puts the handle of the next caller of a table, which has callers left, as a monitor into the slot, which has no
+/// handle.
+#[unsafe(no_mangle)]
+pub extern "C" fn selfcheck_monitor(alloc: Global, table: &mut Slot, slot: &mut Slot) -> u32
+    ensures fit { result ≡ DONE → MayGive (handle_in table.old) × (handle_in slot.old ≡ None) }
+    ensures given { result ≡ DONE →
+        HasGiven Role.Monitor (handle_in table.old) (handle_in table.new) (handle_in slot.new) }
+    ensures unfit { result ≡ UNFIT → ¬ (MayGive (handle_in table.old) × (handle_in slot.old ≡ None)) }
+    ensures unchanged { ¬ (result ≡ DONE) →
+        (handle_in table.new ≡ handle_in table.old) × (slot.new ≡ slot.old) }
+    ensures ends { (result ≡ DONE) ⊎ (result ≡ NO_MEMORY) ⊎ (result ≡ UNFIT) }
+{
+    match give(alloc, Role::Monitor, table, slot) {
         Ok(true) => DONE,
         Ok(false) => UNFIT,
         Err(NoMemory) => NO_MEMORY,
@@ -96,8 +116,46 @@ pub extern "C" fn selfcheck_answered(alloc: Global, slot: &mut Slot, reply: u64)
     }
 }
 
-/// Writes into a buffer the text of the book of the error that the last call of the slot's caller was. `written` is its
-/// length, also where the buffer can't hold it and nothing is written.
+/// Hands in the object's reply to the call that the slot's caller has announced, and publishes the call. Nobody judges it
+/// here: that is for monitors of the table.
+#[unsafe(no_mangle)]
+pub extern "C" fn selfcheck_publish(alloc: Global, slot: &mut Slot, reply: u64) -> u32
+    ensures when { (result ≡ DONE) ↔ IsCallers HasAnnounced (handle_in slot.old) }
+    ensures published { result ≡ DONE → Publishes reply (handle_in slot.old) (handle_in slot.new) }
+    ensures unchanged { ¬ (result ≡ DONE) → handle_in slot.new ≡ handle_in slot.old }
+    ensures ends { (result ≡ DONE) ⊎ (result ≡ UNFIT) }
+{
+    if publish(alloc, slot, reply) {
+        DONE
+    } else {
+        UNFIT
+    }
+}
+
+/// Makes a round of the slot's monitor, which has found no error yet: judges what is published. With `NO_MEMORY` nothing
+/// is judged, and a further round may be made.
+#[unsafe(no_mangle)]
+pub extern "C" fn selfcheck_judge(alloc: Global, slot: &mut Slot) -> u32
+    ensures legal { result ≡ LEGAL →
+        Judges Judgement.Legal (handle_in slot.old) (handle_in slot.new) }
+    ensures illegal { result ≡ ILLEGAL →
+        Judges Judgement.Illegal (handle_in slot.old) (handle_in slot.new) }
+    ensures unjudged { result ≡ NO_MEMORY →
+        Judges Judgement.Unjudged (handle_in slot.old) (handle_in slot.new) }
+    ensures unfit { (result ≡ UNFIT) ↔ ¬ IsMonitors MayJudge (handle_in slot.old) }
+    ensures unchanged { result ≡ UNFIT → handle_in slot.new ≡ handle_in slot.old }
+    ensures ends { (result ≡ LEGAL) ⊎ (result ≡ ILLEGAL) ⊎ (result ≡ NO_MEMORY) ⊎ (result ≡ UNFIT) }
+{
+    match judge(alloc, slot) {
+        Some(Judgement::Legal) => LEGAL,
+        Some(Judgement::Illegal) => ILLEGAL,
+        Some(Judgement::Unjudged) => NO_MEMORY,
+        None => UNFIT,
+    }
+}
+
+/// Writes into a buffer the text of the book of the error that the last call of the slot's caller was, or of the illegal
+/// round of the slot's monitor. `written` is its length, also where the buffer can't hold it and nothing is written.
 #[unsafe(no_mangle)]
 pub extern "C" fn selfcheck_witness(
     alloc: Global,
@@ -110,7 +168,7 @@ pub extern "C" fn selfcheck_witness(
     ensures no_room { result ≡ NO_ROOM → length buffer.old < written.new }
     ensures unheld { result ≡ NO_ROOM → (wanted : List ℕ) × Witnesses (handle_in slot.old) wanted
         × (length wanted ≡ written.new) }
-    ensures unfit { result ≡ UNFIT → ¬ IsCallers IsInError (handle_in slot.old) }
+    ensures unfit { result ≡ UNFIT → ¬ HasWitness (handle_in slot.old) }
     ensures unwritten { ¬ (result ≡ DONE) → buffer.new ≡ buffer.old }
     ensures uncounted { ¬ (result ≡ DONE) → ¬ (result ≡ NO_ROOM) → written.new ≡ written.old }
     ensures kept { handle_in slot.new ≡ handle_in slot.old }

@@ -1,5 +1,5 @@
-//! Verdicts on texts, and calls that check themselves, for programs in other languages: exports over numbers, slices of
-//! bytes, and places for handles.
+//! Verdicts on texts, smaller books and pictures, and calls that check themselves or that monitors judge, for programs in
+//! other languages: exports over numbers, slices of bytes, and places for handles.
 #![tactic(auto)]
 
 ghost use Rattle.std.specs.Prelude.{◌≡◌, ◌⊎◌, ℕ, ◌<◌, ◌≤◌, List, length, take};
@@ -15,6 +15,7 @@ mod buffer;
 mod crossing;
 mod handles;
 mod refusal;
+mod witnesses;
 
 use crate::buffer::put;
 pub use crate::refusal::Refusal;
@@ -30,7 +31,7 @@ pub const ILLEGAL: u32 = 1;
 pub const REFUSED: u32 = 3;
 /// Want of memory.
 pub const NO_MEMORY: u32 = 6;
-/// The book is legal, but the buffer can't hold its certificate.
+/// There is such a text, but the buffer can't hold it.
 pub const NO_ROOM: u32 = 8;
 
 /// Judges the book that the bytes are the text of. Where it is refused, `refusal` tells why; else it stays

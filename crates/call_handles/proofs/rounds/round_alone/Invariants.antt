@@ -1,0 +1,4 @@
+use Rattle.call_handles.proofs.rounds.round_alone.Given as goal
+
+abbrev pub ghosts-round_counted : goal.ghosts-round_counted
+ghosts-round_counted a = record { name = a.blank.name; parts = a.blank.parts }

@@ -1,0 +1,20 @@
+use Rattle.std.proofs.Common.{◌∙◌, ap, arith}
+use Rattle.world_core.specs.declared.program.Outside.{Outside}
+use Rattle.row_table.specs.declared.caller.Caller.{Caller}
+use Rattle.row_table.specs.declared.rows.Rows.{Rows}
+use Rattle.row_table.specs.Callers.{who_of, local_with}
+use Rattle.call_handles.proofs.table_handle.TableHandle.monitor.Goals as goal
+
+pub take_next-caller-requires-clause-left : goal.take_next-caller-requires-clause-left
+take_next-caller-requires-clause-left c =
+    omega (arith, c.requires.sound.few, c.if-self-callers.false, c.callers.ensures, ap (λ (r : Rows _). r.callers) c.deref.ensures)
+
+pub returns-clause-given : goal.returns-clause-given
+returns-clause-given c =
+    let taken = c.take_next-caller in (
+      c.new.ensures.table.0 ∙ c.in_ok-rows.ensures,
+      c.new.ensures.table.1 ∙ taken.ensures.next.1,
+      ap (λ (d : Caller Outside). who_of d) c.new.ensures.caller ∙ taken.ensures.who,
+      ap (λ (d : Caller Outside). local_with d) c.new.ensures.caller ∙ taken.ensures.fresh.0,
+      c.new.ensures.nothing,
+    )

@@ -1,0 +1,103 @@
+ghost use Rattle.std.specs.Prelude.{◌≡◌, ◌↔◌, None, IsSome, IfSome, IfNone, IfOk, is_some};
+ghost use Rattle.std.specs.Arc.{arc_value};
+ghost use Rattle.row_table.specs.Callers.{IsCallerOf, IsFree};
+
+use crate::rounds::round_alone;
+use book_base::NoMemory;
+use book_writer::write_book;
+use frontier_check::Standing;
+use monitor::{Board, Monitor};
+use row_table::{Caller, Rows};
+use seq_objects::Kind;
+use std::alloc::Global;
+use std::sync::Arc;
+
+/// A caller of a table that makes no calls, with all that its rounds need: it judges what the others have published.
+///
+/// It makes rounds by [`judge`](MonitorHandle::judge) until one is illegal, and has its witness then.
+#[derive(Drop)]
+pub struct MonitorHandle {
+    pub(crate) rows: Arc<Rows, Global>,
+    pub(crate) kind: Kind,
+    pub(crate) board: Board,
+    pub(crate) monitor: Monitor,
+    pub(crate) standing: Option<Standing>,
+}
+
+/// What a round of a monitor came to.
+#[derive(Clone, Copy, Debug, PartialEq, Eq)]
+pub enum Judgement {
+    /// The published records at the round's cut have a legal order.
+    Legal,
+    /// The object is wrong: they have none.
+    Illegal,
+    /// Memory was refused, and nobody has judged them.
+    Unjudged,
+}
+
+impl MonitorHandle {
+    ghost use Rattle.monitor.specs.Monitors.{caller_of, own_of};
+    ghost use Rattle.call_handles.specs.Callers.{every_reply};
+    ghost use Rattle.call_handles.specs.Monitors.{rows_watched, kind_watched, monitor_in, IsSoundMonitor, IsOfSameWatch, MayJudge, HasFoundWrong, HasJudged, IsFoundWitness};
+
+    /// The handle of a caller of this table, which is between two calls, as a monitor. It judges by this kind, and has
+    /// made no round. It takes no memory.
+    pub fn new(alloc: Global, rows: Arc<Rows, Global>, kind: Kind, caller: Caller) -> MonitorHandle
+        requires caller { IsCallerOf every_reply (arc_value rows) caller }
+        requires free { IsFree caller }
+        ensures sound { IsSoundMonitor result }
+        ensures table { (rows_watched result ≡ arc_value rows) × (kind_watched result ≡ kind) }
+        ensures caller { caller_of (monitor_in result) ≡ caller }
+        ensures nothing { own_of (monitor_in result) ≡ None }
+    {
+        let board = Board::new(alloc);
+        let monitor = Monitor::new(caller, &board);
+        MonitorHandle {
+            rows,
+            kind,
+            board,
+            monitor,
+            standing: None,
+        }
+    }
+
+    // Whether a round was illegal.
+    fn has_found(&self) -> bool
+        ensures { result ≡ is_some (own_of (monitor_in self.now)) }
+    {
+        match self.monitor.own() {
+            Some(_) => true,
+            None => false,
+        }
+    }
+
+    /// Makes a round, where none was illegal yet: scans what is published, and judges the book at that cut. There is no
+    /// answer after an illegal round, and then the handle is as it was. After want of memory it may make a further one.
+    pub fn judge(self, alloc: Global) -> (MonitorHandle, Option<Judgement>)
+        requires sound { IsSoundMonitor self }
+        ensures sound { IsSoundMonitor result.0 }
+        ensures same { IsOfSameWatch self result.0 }
+        ensures when { IsSome result.1 ↔ MayJudge self }
+        ensures judged { IfSome result.1 (λ found. HasJudged self found result.0) }
+        ensures unchanged { IfNone result.1 (result.0 ≡ self) }
+    {
+        if self.has_found() {
+            return (self, None);
+        }
+        let mut handle = self;
+        let found = round_alone(alloc, &mut handle);
+        (handle, Some(found))
+    }
+
+    /// The text of the book of the illegal round, where there was one.
+    pub fn witness(&self, alloc: Global) -> Result<Option<Vec<u8>>, NoMemory>
+        requires sound { IsSoundMonitor self.now }
+        ensures when { IfOk result (λ found. IsSome found ↔ HasFoundWrong self.now) }
+        ensures text { IfOk result (λ found. IfSome found (λ text. IsFoundWitness self.now text.items)) }
+    {
+        match self.monitor.own() {
+            Some(witness) => Ok(Some(write_book(alloc, self.kind, &witness.book)?)),
+            None => Ok(None),
+        }
+    }
+}

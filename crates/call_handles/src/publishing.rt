@@ -1,0 +1,54 @@
+ghost use Rattle.std.specs.Prelude.{◌≡◌, ◌<◌, List, ℕ};
+ghost use Rattle.book_base.specs.declared.call.Record.{Record};
+ghost use Rattle.row_table.specs.Callers.{IsCallerOf, IsFree};
+ghost use Rattle.drv_wrapper.specs.States.{caller_announced};
+ghost use Rattle.enforcer.specs.States.{caller_seen, cut_seen};
+ghost use Rattle.call_handles.specs.Ends.{record_seen, IsPublishedBy};
+
+use crate::handed::hand_in;
+use drv_wrapper::{Announced, view};
+use enforcer::{Seen, publish, seen};
+use row_table::{Caller, Rows, Steps};
+use std::marker::Brand;
+use std::sync::ledger::{Blank, Ledger};
+use world_core::{Outside, Program};
+
+/// What an announced call comes to whose reply is handed in, before anybody judges it: the view is taken, reply and
+/// view are published, and the published records are seen.
+pub(crate) fn publish_reply<L: Ledger>(
+    rows: &Rows,
+    announced: Announced,
+    reply: u64,
+    steps: &mut Steps<L>,
+) -> Seen
+    requires rows { IsCallerOf ⟦<Outside as Program>⟧.meaning rows.now (caller_announced announced) }
+    ensures published { IsPublishedBy ⟦<Outside as Program>⟧.meaning rows.now announced reply
+        (caller_seen result) (record_seen result) (cut_seen result) }
+{
+    let answered = hand_in(announced, reply);
+    let viewed = view(answered, rows, steps);
+    let published = publish(viewed, rows, steps);
+    seen(published, rows, steps)
+}
+
+// Publishes a call whose reply is handed in, and judges nothing. Its steps are counted by themselves.
+fn publish_counted<L: Ledger>(rows: &Rows, call: Announced, reply: u64, blank: Blank) -> Caller
+    requires blank { (blank.name ≡ L.name) × (blank.parts ≡ L.parts) × (0 < blank.parts) }
+    requires rows { IsCallerOf ⟦<Outside as Program>⟧.meaning rows.now (caller_announced call) }
+    ensures published { (told : Record) × (seen : List ℕ)
+        × IsPublishedBy ⟦<Outside as Program>⟧.meaning rows.now call reply result told seen }
+    ensures free { IsFree result }
+{
+    let mut steps = Steps::<L>::new(blank);
+    publish_reply(rows, call, reply, &mut steps).defer()
+}
+
+/// Publishes a call whose reply is handed in, and judges nothing: its caller, which may make its next call.
+pub(crate) fn publish_alone(rows: &Rows, call: Announced, reply: u64) -> Caller
+    requires rows { IsCallerOf ⟦<Outside as Program>⟧.meaning rows.now (caller_announced call) }
+    ensures published { (told : Record) × (seen : List ℕ)
+        × IsPublishedBy ⟦<Outside as Program>⟧.meaning rows.now call reply result told seen }
+    ensures free { IsFree result }
+{
+    publish_counted::<Brand>(rows, call, reply, Blank::new(1))
+}

@@ -1,0 +1,106 @@
+ghost use Rattle.std.specs.Prelude.{◌≡◌, ◌⊎◌, ℕ, ◌<◌, ◌≤◌, List, length, take};
+ghost use Rattle.book_base.specs.declared.fault.TextFault.{TextFault};
+ghost use Rattle.book_base.specs.Book.{Page};
+ghost use Rattle.seq_objects.specs.declared.kind.Kind.{Kind};
+ghost use Rattle.given_book.specs.Given.{IsGiven, IsFirstGivenFault};
+ghost use Rattle.witness_texts.specs.Texts.{IsLegalGiven, IsIllegalGiven, IsSmallerWitness, IsPictureOf};
+ghost use Rattle.selfcheck_c.specs.declared.TheConstants.{LEGAL, ILLEGAL, REFUSED, NO_MEMORY, NO_ROOM};
+ghost use Rattle.selfcheck_c.specs.declared.handles.TheConstants.{DONE};
+ghost use Rattle.selfcheck_c.specs.Refusals.{IsGivenRefusal};
+
+use crate::buffer::put;
+use crate::handles::DONE;
+use crate::refusal::Refusal;
+use crate::{ILLEGAL, LEGAL, NO_MEMORY, NO_ROOM, REFUSED};
+use book_base::ReadFault;
+use std::alloc::Global;
+use witness_texts::{picture_text, smaller_text};
+
+/// Writes into a buffer the text of a smaller book of the book that the bytes give, which is illegal as that is: the
+/// bytes are a book's text in either version, or what a run or monitors have written with its witness. `written` is its
+/// length, also where the buffer can't hold it and nothing is written. Where the text is refused, `refusal` tells why.
+#[unsafe(no_mangle)]
+pub extern "C" fn selfcheck_smaller(
+    alloc: Global,
+    text: &[u8],
+    buffer: &mut [u8],
+    written: &mut usize,
+    refusal: &mut Refusal,
+) -> u32
+    ensures legal { result ≡ LEGAL → IsLegalGiven text.now }
+    ensures held { result ≡ ILLEGAL → written.new ≤ length buffer.new }
+    ensures smaller { result ≡ ILLEGAL → IsSmallerWitness text.now (take written.new buffer.new) }
+    ensures refused { result ≡ REFUSED → IsGivenRefusal text.now refusal.new }
+    ensures no_room { result ≡ NO_ROOM → length buffer.old < written.new }
+    ensures unheld { result ≡ NO_ROOM → (wanted : List ℕ) × IsSmallerWitness text.now wanted
+        × (length wanted ≡ written.new) }
+    ensures ends { (result ≡ LEGAL) ⊎ (result ≡ ILLEGAL) ⊎ (result ≡ REFUSED) ⊎ (result ≡ NO_MEMORY)
+        ⊎ (result ≡ NO_ROOM) }
+    ensures unwritten { ¬ (result ≡ ILLEGAL) → buffer.new ≡ buffer.old }
+    ensures kept { ¬ (result ≡ REFUSED) → refusal.new ≡ refusal.old }
+    ensures uncounted { ¬ (result ≡ ILLEGAL) → ¬ (result ≡ NO_ROOM) → written.new ≡ written.old }
+    // Each text has its one status, but for the buffer and unless memory runs out.
+    ensures legal_told { IsLegalGiven text.now → (result ≡ LEGAL) ⊎ (result ≡ NO_MEMORY) }
+    ensures illegal_told { IsIllegalGiven text.now →
+        (result ≡ ILLEGAL) ⊎ (result ≡ NO_ROOM) ⊎ (result ≡ NO_MEMORY) }
+    ensures fault_told { (fault : TextFault) → IsFirstGivenFault text.now fault →
+        (result ≡ REFUSED) ⊎ (result ≡ NO_MEMORY) }
+{
+    match smaller_text(alloc, text) {
+        Ok(Some(smaller)) => {
+            *written = smaller.len();
+            if put(buffer, &smaller) {
+                ILLEGAL
+            } else {
+                NO_ROOM
+            }
+        }
+        Ok(None) => LEGAL,
+        Err(ReadFault::Text(fault)) => {
+            *refusal = Refusal::from(fault);
+            REFUSED
+        }
+        Err(ReadFault::NoMemory) => NO_MEMORY,
+    }
+}
+
+/// Writes into a buffer the picture, as SVG, of the book that the bytes give, as `selfcheck_smaller` reads them. `written`
+/// is its length, also where the buffer can't hold it and nothing is written. Where the text is refused, `refusal` tells
+/// why.
+#[unsafe(no_mangle)]
+pub extern "C" fn selfcheck_picture(
+    alloc: Global,
+    text: &[u8],
+    buffer: &mut [u8],
+    written: &mut usize,
+    refusal: &mut Refusal,
+) -> u32
+    ensures held { result ≡ DONE → written.new ≤ length buffer.new }
+    ensures shown { result ≡ DONE → IsPictureOf text.now (take written.new buffer.new) }
+    ensures refused { result ≡ REFUSED → IsGivenRefusal text.now refusal.new }
+    ensures no_room { result ≡ NO_ROOM → length buffer.old < written.new }
+    ensures unheld { result ≡ NO_ROOM → (wanted : List ℕ) × IsPictureOf text.now wanted
+        × (length wanted ≡ written.new) }
+    ensures ends { (result ≡ DONE) ⊎ (result ≡ REFUSED) ⊎ (result ≡ NO_MEMORY) ⊎ (result ≡ NO_ROOM) }
+    ensures unwritten { ¬ (result ≡ DONE) → buffer.new ≡ buffer.old }
+    ensures kept { ¬ (result ≡ REFUSED) → refusal.new ≡ refusal.old }
+    ensures uncounted { ¬ (result ≡ DONE) → ¬ (result ≡ NO_ROOM) → written.new ≡ written.old }
+    // Each text has its one status, but for the buffer and unless memory runs out.
+    ensures drawn_told { (kind : Kind) (book : List Page) → IsGiven text.now kind book →
+        (result ≡ DONE) ⊎ (result ≡ NO_ROOM) ⊎ (result ≡ NO_MEMORY) }
+    ensures fault_told { (fault : TextFault) → IsFirstGivenFault text.now fault →
+        (result ≡ REFUSED) ⊎ (result ≡ NO_MEMORY) }
+{
+    match picture_text(alloc, text) {
+        Ok(picture) => {
+            let drawn = picture.as_bytes();
+            *written = drawn.len();
+            if put(buffer, drawn) { DONE } else { NO_ROOM }
+        }
+        Err(ReadFault::Text(fault)) => {
+            *refusal = Refusal::from(fault);
+            REFUSED
+        }
+        Err(ReadFault::NoMemory) => NO_MEMORY,
+    }
+}

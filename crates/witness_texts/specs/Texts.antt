@@ -1,0 +1,57 @@
+-- What is written of the book that an input gives.
+use Rattle.std.specs.Prelude.{◌≡◌, ℕ, Bool, true, false, List}
+use Rattle.book_base.specs.Book.{Page}
+use Rattle.book_base.specs.Order.{HasLegalOrder}
+use Rattle.seq_objects.specs.declared.kind.Kind.{Kind}
+use Rattle.seq_objects.specs.Objects.{kind_init, kind_next}
+use Rattle.text_fields.specs.declared.version.Version.TheVariants.{Second}
+use Rattle.book_text.specs.BookRules.{IsBookText}
+use Rattle.given_book.specs.Given.{IsGiven}
+use Rattle.smaller_book.specs.Part.{IsPart}
+use Rattle.smaller_book.specs.Keys.{IsEvidence}
+use Rattle.smaller_book.specs.Minimal.{IsMinimal}
+use Rattle.book_picture.specs.Elements.{ShowsEachCall}
+use Rattle.book_picture.specs.Titles.{SaysVerdict}
+
+-- the bytes give a book that has a legal order
+pub record IsLegalGiven (bytes : List ℕ) : Type 0 where
+  pub kind : Kind
+  pub book : List Page
+  pub told : IsGiven bytes kind book
+  pub legal : HasLegalOrder (kind_init kind) (kind_next kind) book
+
+-- the bytes give a book that has no legal order
+pub record IsIllegalGiven (bytes : List ℕ) : Type 0 where
+  pub kind : Kind
+  pub book : List Page
+  pub told : IsGiven bytes kind book
+  pub illegal : ¬ (HasLegalOrder (kind_init kind) (kind_next kind) book)
+
+-- The bytes give a book, and the text is that of a part of it without a legal order, which shows that the book has none either
+-- and which no rule makes smaller.
+pub record IsSmallerWitness (bytes text : List ℕ) : Type 0 where
+  pub kind : Kind
+  pub book : List Page
+  pub part : List Page
+  pub names : List (List ℕ)
+  pub told : IsGiven bytes kind book
+  pub is_part : IsPart book names part
+  pub evidence : IsEvidence kind book part
+  pub illegal : ¬ (HasLegalOrder (kind_init kind) (kind_next kind) part)
+  pub minimal : IsMinimal kind part
+  pub written : IsBookText Second text kind part
+
+-- a book of this kind is legal, or it isn't
+abbrev pub IsJudged : Kind → List Page → Bool → Type 0
+IsJudged kind book true = HasLegalOrder (kind_init kind) (kind_next kind) book
+IsJudged kind book false = ¬ (HasLegalOrder (kind_init kind) (kind_next kind) book)
+
+-- The bytes give a book, and the text is a picture of it: its first line of text says whether the book is legal.
+pub record IsPictureOf (bytes text : List ℕ) : Type 0 where
+  pub kind : Kind
+  pub book : List Page
+  pub told : IsGiven bytes kind book
+  pub shown : ShowsEachCall book text
+  pub legal : Bool
+  pub judged : IsJudged kind book legal
+  pub says : SaysVerdict legal text

@@ -1,0 +1,40 @@
+ghost use Rattle.std.specs.Prelude.{◌≡◌, ◌⊎◌, List, string_bytes, IfOk, IfErr, MatchResult};
+ghost use Rattle.book_base.specs.declared.fault.TextFault.{TextFault};
+ghost use Rattle.book_base.specs.Book.{Page};
+ghost use Rattle.seq_objects.specs.declared.kind.Kind.{Kind};
+ghost use Rattle.given_book.specs.Given.{IsGiven, IsFirstGivenFault, IsNotGiven};
+ghost use Rattle.witness_texts.specs.Texts.{IsPictureOf};
+
+use book_base::ReadFault;
+use book_picture::draw_book;
+use frontier_check::check;
+use given_book::read_given;
+use std::alloc::Global;
+
+/// The picture, as SVG, of the book that the bytes give.
+///
+/// A text fault names the first line that is wrong, counted from the title of the book, and of its tests the first that
+/// it fails.
+pub fn picture_text(alloc: Global, bytes: &[u8]) -> Result<String, ReadFault>
+    ensures shown { IfOk result (λ text. IsPictureOf bytes.now (string_bytes text)) }
+    ensures refused { IfErr result (IsNotGiven bytes.now) }
+    // A given book is drawn, unless memory runs out.
+    ensures drawn { (kind : Kind) (book : List Page) → IsGiven bytes.now kind book
+        → IfErr result (λ e. e ≡ ReadFault.NoMemory) }
+    // Where the bytes have a first fault, the answer is that fault, unless memory runs out.
+    ensures first { (fault : TextFault) → IsFirstGivenFault bytes.now fault
+        → MatchResult result (λ _. ⊥)
+        (λ e. (e ≡ ReadFault.Text fault) ⊎ (e ≡ ReadFault.NoMemory)) }
+{
+    drawn(alloc, bytes)
+}
+
+// What the reader, the search and the drawing make of the bytes.
+fn drawn(alloc: Global, bytes: &[u8]) -> Result<String, ReadFault>
+    ensures shown { IfOk result (λ text. IsPictureOf bytes.now (string_bytes text)) }
+    ensures refused { IfErr result (IsNotGiven bytes.now) }
+{
+    let (kind, book) = read_given(alloc, bytes)?;
+    let verdict = check(alloc, &kind, &book)?;
+    Ok(draw_book(alloc, kind, &book, &verdict)?)
+}

@@ -1,0 +1,44 @@
+ghost use Rattle.std.specs.Prelude.{◌≡◌, ◌⊎◌, IfOk, IfErr, IsSome, IsNone, MatchOption, MatchResult};
+ghost use Rattle.book_base.specs.declared.fault.TextFault.{TextFault};
+ghost use Rattle.given_book.specs.Given.{IsFirstGivenFault, IsNotGiven};
+ghost use Rattle.witness_texts.specs.Texts.{IsLegalGiven, IsIllegalGiven, IsSmallerWitness};
+
+use book_base::ReadFault;
+use book_writer::write_book;
+use given_book::read_given;
+use smaller_book::shrink;
+use std::alloc::Global;
+
+/// The text of the smaller book of the book that the bytes give, where that has no legal order.
+///
+/// A text fault names the first line that is wrong, counted from the title of the book, and of its tests the first that
+/// it fails.
+pub fn smaller_text(alloc: Global, bytes: &[u8]) -> Result<Option<Vec<u8>>, ReadFault>
+    ensures smaller { IfOk result (λ found.
+        MatchOption found (IsLegalGiven bytes.now) (λ text. IsSmallerWitness bytes.now text.items)) }
+    ensures refused { IfErr result (IsNotGiven bytes.now) }
+    // A given book is answered so, unless memory runs out.
+    ensures legal { IsLegalGiven bytes.now
+        → MatchResult result IsNone (λ e. e ≡ ReadFault.NoMemory) }
+    ensures illegal { IsIllegalGiven bytes.now
+        → MatchResult result IsSome (λ e. e ≡ ReadFault.NoMemory) }
+    // Where the bytes have a first fault, the answer is that fault, unless memory runs out.
+    ensures first { (fault : TextFault) → IsFirstGivenFault bytes.now fault
+        → MatchResult result (λ _. ⊥)
+        (λ e. (e ≡ ReadFault.Text fault) ⊎ (e ≡ ReadFault.NoMemory)) }
+{
+    written(alloc, bytes)
+}
+
+// What the reader, the rules and the writer make of the bytes.
+fn written(alloc: Global, bytes: &[u8]) -> Result<Option<Vec<u8>>, ReadFault>
+    ensures smaller { IfOk result (λ found.
+        MatchOption found (IsLegalGiven bytes.now) (λ text. IsSmallerWitness bytes.now text.items)) }
+    ensures refused { IfErr result (IsNotGiven bytes.now) }
+{
+    let (kind, book) = read_given(alloc, bytes)?;
+    match shrink(alloc, kind, &book)? {
+        Some(smaller) => Ok(Some(write_book(alloc, kind, &smaller.book)?)),
+        None => Ok(None),
+    }
+}
