@@ -3,43 +3,14 @@ use Rattle.std.specs.Prelude.{◌≡◌, ◌⊎◌, ℕ, ◌<◌, ◌≤◌, Lis
 use Rattle.std.specs.Io.KnownBytes.{Keeps}
 use Rattle.book_base.specs.declared.fault.TextFault.{TextFault}
 use Rattle.book_base.specs.declared.fault.What.TheVariants.{Long}
-use Rattle.book_base.specs.Book.{Page}
-use Rattle.book_base.specs.Order.{HasLegalOrder}
-use Rattle.book_text.specs.BookRules.{IsBookText}
 use Rattle.byte_streams.specs.declared.TheConstants.{INPUT_LIMIT}
 use Rattle.byte_streams.specs.declared.status.Status.{Status}
 use Rattle.byte_streams.specs.declared.status.Status.TheVariants.{Fine, Found, Refused, ReadFault, NoMemory}
 use Rattle.byte_streams.specs.Told.{HasRead}
 use Rattle.byte_streams.specs.Writing.{EndsWriting}
-use Rattle.given_book.specs.Given.{IsGiven, IsFirstGivenFault}
-use Rattle.seq_objects.specs.declared.kind.Kind.{Kind}
-use Rattle.seq_objects.specs.Objects.{kind_init, kind_next}
-use Rattle.smaller_book.specs.Part.{IsPart}
-use Rattle.smaller_book.specs.Keys.{IsEvidence}
-use Rattle.smaller_book.specs.Minimal.{IsMinimal}
-use Rattle.text_fields.specs.declared.version.Version.TheVariants.{Second}
+use Rattle.given_book.specs.Given.{IsFirstGivenFault}
 use Rattle.text_refusals.specs.Refusal.{refusal_text}
-
--- the bytes give a book that has a legal order
-pub record IsLegalGiven (bytes : List ℕ) : Type 0 where
-  pub kind : Kind
-  pub book : List Page
-  pub told : IsGiven bytes kind book
-  pub legal : HasLegalOrder (kind_init kind) (kind_next kind) book
-
--- The bytes give a book, and the text is that of a part of it without a legal order, which shows that the book has none either
--- and which no rule makes smaller.
-pub record IsSmallerWitness (bytes text : List ℕ) : Type 0 where
-  pub kind : Kind
-  pub book : List Page
-  pub part : List Page
-  pub names : List (List ℕ)
-  pub told : IsGiven bytes kind book
-  pub is_part : IsPart book names part
-  pub evidence : IsEvidence kind book part
-  pub illegal : ¬ (HasLegalOrder (kind_init kind) (kind_next kind) part)
-  pub minimal : IsMinimal kind part
-  pub written : IsBookText Second text kind part
+use Rattle.witness_texts.specs.Texts.{IsLegalGiven, IsSmallerWitness}
 
 -- The input is refused for this fault: there are too many bytes, or else it is the first fault of the input.
 abbrev pub IsRefusedFor : List ℕ → TextFault → Type 0

@@ -5,15 +5,14 @@ ghost use Rattle.book_verdicts.specs.Faults.{IsFaultOf};
 ghost use Rattle.byte_streams.specs.declared.TheConstants.{INPUT_LIMIT};
 ghost use Rattle.byte_streams.specs.Fault.{Rose};
 ghost use Rattle.byte_streams.specs.Writing.{EndsWriting};
-ghost use Rattle.smaller_witness.specs.Output.{IsOutput, IsLegalGiven, IsSmallerWitness, IsRefusedFor};
+ghost use Rattle.witness_texts.specs.Texts.{IsLegalGiven, IsSmallerWitness};
+ghost use Rattle.smaller_witness.specs.Output.{IsOutput, IsRefusedFor};
 
 use book_base::{NoMemory, ReadFault, TextFault, What};
-use book_writer::write_book;
 use byte_streams::{INPUT_LIMIT, Sink, Status, write_text};
-use given_book::read_given;
-use smaller_book::shrink;
 use std::alloc::Global;
 use text_refusals::refusal;
+use witness_texts::smaller_text;
 
 /// A text, and the status behind it.
 #[derive(Drop)]
@@ -56,11 +55,8 @@ fn smaller(alloc: Global, bytes: &[u8]) -> Result<Option<Vec<u8>>, ReadFault>
             what: What::Long,
         }));
     }
-    let (kind, book) = read_given(alloc, bytes)?;
-    match shrink(alloc, kind, &book)? {
-        Some(smaller) => Ok(Some(write_book(alloc, kind, &smaller.book)?)),
-        None => Ok(None),
-    }
+    let found = smaller_text(alloc, bytes)?;
+    Ok(found)
 }
 
 /// Writes the output for these bytes, where there was memory for it.

@@ -1,47 +1,17 @@
 -- What the program writes of an input.
-use Rattle.std.specs.Prelude.{◌≡◌, ◌⊎◌, ℕ, ◌<◌, ◌≤◌, Bool, true, false, List, length, Option, Some, None}
-use Rattle.book_base.specs.declared.call.Call.{Call}
+use Rattle.std.specs.Prelude.{◌≡◌, ◌⊎◌, ℕ, ◌<◌, ◌≤◌, List, length}
 use Rattle.book_base.specs.declared.fault.TextFault.{TextFault}
 use Rattle.book_base.specs.declared.fault.ReadFault.{ReadFault}
 use Rattle.book_base.specs.declared.fault.ReadFault.TheVariants.{Text, NoMemory}
 use Rattle.book_base.specs.declared.fault.What.TheVariants.{Long}
-use Rattle.book_base.specs.Book.{Page}
-use Rattle.book_base.specs.Order.{HasLegalOrder}
-use Rattle.seq_objects.specs.declared.kind.Kind.{Kind}
-use Rattle.seq_objects.specs.Objects.{kind_init, kind_next}
-use Rattle.given_book.specs.Given.{IsGiven, IsFirstGivenFault}
-use Rattle.given_book.specs.FirstError.{IsFirstErrorGiven}
+use Rattle.given_book.specs.Given.{IsFirstGivenFault}
 use Rattle.byte_streams.specs.declared.TheConstants.{INPUT_LIMIT}
-use Rattle.book_picture.specs.Elements.{ShowsEachCall}
-use Rattle.book_picture.specs.Titles.{first_lines, SaysFirst}
-use Rattle.book_picture.specs.declared.marks.Marks.{Marks}
-use Rattle.witness_picture.specs.Marking.{AreMarksFor}
+use Rattle.witness_texts.specs.Texts.{IsPictureOf}
 
--- a book of this kind is legal, or it isn't
-abbrev pub IsJudged : Kind → List Page → Bool → Type 0
-IsJudged kind book true = HasLegalOrder (kind_init kind) (kind_next kind) book
-IsJudged kind book false = HasLegalOrder (kind_init kind) (kind_next kind) book → ⊥
-
--- The call is that of the first error line of the report that the input begins with, if it begins with one that has an error.
-abbrev pub IsErrorTold : List ℕ → Option Call → Type 0
-IsErrorTold bytes (Some call) = IsFirstErrorGiven bytes call
-IsErrorTold bytes None = (call : Call) → ¬ (IsFirstErrorGiven bytes call)
-
--- The bytes give a book, and the text is a picture of it: its first lines say whether the book is legal, whether calls are marked, and
--- which error line of a run was the first. In a book without a legal order the calls of a smaller one are marked.
-pub record IsPictureOf (bytes text : List ℕ) : Type 0 where
-  pub kind : Kind
-  pub book : List Page
+-- There are not too many bytes, and the text is a picture of the book that they give.
+pub record IsShownPicture (bytes text : List ℕ) : Type 0 where
   pub short : length bytes ≤ INPUT_LIMIT
-  pub told : IsGiven bytes kind book
-  pub legal : Bool
-  pub judged : IsJudged kind book legal
-  pub marks : Marks
-  pub marked : AreMarksFor kind book legal marks
-  pub error : Option Call
-  pub first : IsErrorTold bytes error
-  pub shown : ShowsEachCall kind book marks text
-  pub says : SaysFirst (first_lines legal marks error) text
+  pub picture : IsPictureOf bytes text
 
 -- The input is refused for this fault: there are too many bytes, or else it is the first fault of the input.
 abbrev pub IsRefusedFor : List ℕ → TextFault → Type 0

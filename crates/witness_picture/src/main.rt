@@ -1,27 +1,22 @@
 //! The program: it reads a book, or the whole output of a run, and writes the picture of the book or of the witness.
 #![tactic(auto)]
 
-mod marking;
-
 ghost use Rattle.std.specs.Prelude.{◌≡◌, ◌⊎◌, string_bytes, IfOk, IfErr};
 ghost use Rattle.byte_streams.specs.Fault.{Rose};
-ghost use Rattle.witness_picture.specs.Output.{IsPictureOf, IsNoPicture};
+ghost use Rattle.witness_picture.specs.Output.{IsShownPicture, IsNoPicture};
 
-use crate::marking::marks_for;
 use book_base::{NoMemory, ReadFault, TextFault, What};
-use book_picture::draw_book;
 use byte_streams::{
     INPUT_LIMIT, ReadAllError, Sink, Source, Status, StdSink, StdSource, read_all, write_text,
 };
-use frontier_check::check;
-use given_book::{first_error, read_given};
 use std::alloc::Global;
 use std::process::ExitCode;
 use text_refusals::refusal;
+use witness_texts::picture_text;
 
 // The picture of the book that the bytes give.
 fn picture(alloc: Global, bytes: &[u8]) -> Result<String, ReadFault>
-    ensures shown { IfOk result (λ text. IsPictureOf bytes.now (string_bytes text)) }
+    ensures shown { IfOk result (λ text. IsShownPicture bytes.now (string_bytes text)) }
     ensures refused { IfErr result (IsNoPicture bytes.now) }
 {
     if bytes.len() > INPUT_LIMIT {
@@ -30,11 +25,8 @@ fn picture(alloc: Global, bytes: &[u8]) -> Result<String, ReadFault>
             what: What::Long,
         }));
     }
-    let (kind, book) = read_given(alloc, bytes)?;
-    let error = first_error(alloc, bytes)?;
-    let verdict = check(alloc, &kind, &book)?;
-    let marks = marks_for(alloc, kind, &book, &verdict);
-    Ok(draw_book(alloc, kind, &book, &verdict, &marks, error)?)
+    let text = picture_text(alloc, bytes)?;
+    Ok(text)
 }
 
 // Reads the source, and writes the picture of its book, or why it gives none.

@@ -1,5 +1,6 @@
 -- What is written of the book that an input gives.
-use Rattle.std.specs.Prelude.{◌≡◌, ℕ, Bool, true, false, List}
+use Rattle.std.specs.Prelude.{ℕ, Bool, true, false, List, Option, Some, None}
+use Rattle.book_base.specs.declared.call.Call.{Call}
 use Rattle.book_base.specs.Book.{Page}
 use Rattle.book_base.specs.Order.{HasLegalOrder}
 use Rattle.seq_objects.specs.declared.kind.Kind.{Kind}
@@ -7,11 +8,14 @@ use Rattle.seq_objects.specs.Objects.{kind_init, kind_next}
 use Rattle.text_fields.specs.declared.version.Version.TheVariants.{Second}
 use Rattle.book_text.specs.BookRules.{IsBookText}
 use Rattle.given_book.specs.Given.{IsGiven}
+use Rattle.given_book.specs.FirstError.{IsFirstErrorGiven}
 use Rattle.smaller_book.specs.Part.{IsPart}
 use Rattle.smaller_book.specs.Keys.{IsEvidence}
 use Rattle.smaller_book.specs.Minimal.{IsMinimal}
 use Rattle.book_picture.specs.Elements.{ShowsEachCall}
-use Rattle.book_picture.specs.Titles.{SaysVerdict}
+use Rattle.book_picture.specs.Titles.{first_lines, SaysFirst}
+use Rattle.book_picture.specs.declared.marks.Marks.{Marks}
+use Rattle.witness_texts.specs.Marking.{AreMarksFor}
 
 -- the bytes give a book that has a legal order
 pub record IsLegalGiven (bytes : List ℕ) : Type 0 where
@@ -46,12 +50,22 @@ abbrev pub IsJudged : Kind → List Page → Bool → Type 0
 IsJudged kind book true = HasLegalOrder (kind_init kind) (kind_next kind) book
 IsJudged kind book false = ¬ (HasLegalOrder (kind_init kind) (kind_next kind) book)
 
--- The bytes give a book, and the text is a picture of it: its first line of text says whether the book is legal.
+-- The call is that of the first error line of the report that the bytes begin with, if they begin with one that has an error.
+abbrev pub IsErrorTold : List ℕ → Option Call → Type 0
+IsErrorTold bytes (Some call) = IsFirstErrorGiven bytes call
+IsErrorTold bytes None = (call : Call) → ¬ (IsFirstErrorGiven bytes call)
+
+-- The bytes give a book, and the text is a picture of it: its first lines say whether the book is legal, whether calls are marked, and
+-- which error line of a run was the first. In a book without a legal order the calls of a smaller one are marked.
 pub record IsPictureOf (bytes text : List ℕ) : Type 0 where
   pub kind : Kind
   pub book : List Page
   pub told : IsGiven bytes kind book
-  pub shown : ShowsEachCall book text
   pub legal : Bool
   pub judged : IsJudged kind book legal
-  pub says : SaysVerdict legal text
+  pub marks : Marks
+  pub marked : AreMarksFor kind book legal marks
+  pub error : Option Call
+  pub first : IsErrorTold bytes error
+  pub shown : ShowsEachCall kind book marks text
+  pub says : SaysFirst (first_lines legal marks error) text

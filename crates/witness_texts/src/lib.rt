@@ -1,6 +1,7 @@
 //! What is written of the book that an input gives: a smaller book, where it has no legal order, and its picture.
 #![tactic(auto)]
 
+mod marking;
 mod picture;
 mod smaller;
 

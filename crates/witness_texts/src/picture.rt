@@ -5,10 +5,11 @@ ghost use Rattle.seq_objects.specs.declared.kind.Kind.{Kind};
 ghost use Rattle.given_book.specs.Given.{IsGiven, IsFirstGivenFault, IsNotGiven};
 ghost use Rattle.witness_texts.specs.Texts.{IsPictureOf};
 
+use crate::marking::marks_for;
 use book_base::ReadFault;
 use book_picture::draw_book;
 use frontier_check::check;
-use given_book::read_given;
+use given_book::{first_error, read_given};
 use std::alloc::Global;
 
 /// The picture, as SVG, of the book that the bytes give.
@@ -35,6 +36,8 @@ fn drawn(alloc: Global, bytes: &[u8]) -> Result<String, ReadFault>
     ensures refused { IfErr result (IsNotGiven bytes.now) }
 {
     let (kind, book) = read_given(alloc, bytes)?;
+    let error = first_error(alloc, bytes)?;
     let verdict = check(alloc, &kind, &book)?;
-    Ok(draw_book(alloc, kind, &book, &verdict)?)
+    let marks = marks_for(alloc, kind, &book, &verdict);
+    Ok(draw_book(alloc, kind, &book, &verdict, &marks, error)?)
 }

@@ -1,27 +1,5 @@
 use Rattle.std.proofs.Common.{arith}
-use Rattle.book_picture.specs.Titles.{is_legal}
-use Rattle.witness_picture.proofs.Judging.{judged_by, told_by}
 use Rattle.witness_picture.proofs.picture.Goals as goal
 
-pub marks_for-marks-requires : goal.marks_for-marks-requires
-marks_for-marks-requires c = c.in_ok-verdict.ensures.verdict
-
 pub returns-clause-shown : goal.returns-clause-shown
-returns-clause-shown c =
-    let kind = c.in_ok-kind.kind in
-    let book = c.in_ok-kind.book in
-    let verdict = c.in_ok-verdict.verdict in
-    record {
-      kind = kind;
-      book = book;
-      short = omega arith;
-      told = c.in_ok-kind.ensures.found;
-      legal = is_legal verdict;
-      judged = judged_by kind book verdict c.in_ok-verdict.ensures.verdict;
-      marks = c.marks_for-marks.result;
-      marked = c.marks_for-marks.ensures;
-      error = c.in_ok-error.error;
-      first = told_by c.args.bytes.now c.in_ok-error.error c.in_ok-error.ensures.found c.in_ok-error.ensures.none;
-      shown = c.in_ok-draw_book.ensures.calls;
-      says = c.in_ok-draw_book.ensures.says;
-    }
+returns-clause-shown c = record { short = omega arith; picture = c.in_ok-text.ensures.shown }

@@ -1,6 +1,9 @@
 use Rattle.book_picture.specs.Titles.{is_legal}
-use Rattle.witness_texts.proofs.Judging.{judged_by}
+use Rattle.witness_texts.proofs.Judging.{judged_by, told_by}
 use Rattle.witness_texts.proofs.picture.drawn.Goals as goal
+
+pub marks_for-marks-requires : goal.marks_for-marks-requires
+marks_for-marks-requires c = c.in_ok-verdict.ensures.verdict
 
 pub returns-clause-shown : goal.returns-clause-shown
 returns-clause-shown c =
@@ -11,8 +14,12 @@ returns-clause-shown c =
       kind = kind;
       book = book;
       told = c.in_ok-kind.ensures.found;
-      shown = c.in_ok-draw_book.ensures.calls;
       legal = is_legal verdict;
       judged = judged_by kind book verdict c.in_ok-verdict.ensures.verdict;
-      says = c.in_ok-draw_book.ensures.verdict;
+      marks = c.marks_for-marks.result;
+      marked = c.marks_for-marks.ensures;
+      error = c.in_ok-error.error;
+      first = told_by c.args.bytes.now c.in_ok-error.error c.in_ok-error.ensures.found c.in_ok-error.ensures.none;
+      shown = c.in_ok-draw_book.ensures.calls;
+      says = c.in_ok-draw_book.ensures.says;
     }

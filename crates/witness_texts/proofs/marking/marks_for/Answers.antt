@@ -3,8 +3,8 @@ use Rattle.frontier_check.specs.Verdict.{IsRight}
 use Rattle.frontier_check.specs.declared.verdict.Verdict.{Verdict}
 use Rattle.seq_objects.specs.Objects.{kind_init, kind_next}
 use Rattle.book_picture.specs.Titles.{is_legal}
-use Rattle.witness_picture.specs.Marking.{AreMarksFor}
-use Rattle.witness_picture.proofs.marking.marks_for.Goals as goal
+use Rattle.witness_texts.specs.Marking.{AreMarksFor}
+use Rattle.witness_texts.proofs.marking.marks_for.Goals as goal
 
 pub marks_of-requires : goal.marks_of-requires
 marks_of-requires c =

@@ -10,7 +10,7 @@ use Rattle.book_picture.specs.Marks.{numbers_in}
 use Rattle.smaller_book.specs.Part.{IsPart}
 use Rattle.smaller_book.specs.Keys.{IsEvidence}
 use Rattle.smaller_book.specs.Minimal.{IsMinimal, size_of}
-use Rattle.witness_picture.specs.declared.marking.TheConstants.{MOST_CALLS}
+use Rattle.witness_texts.specs.declared.marking.TheConstants.{MOST_CALLS}
 
 -- These are the numbers of the calls of a smaller book: a part of the book without a legal order, which shows that the book has none
 -- either, and which no rule makes smaller.

@@ -1,8 +1,8 @@
 use Rattle.std.proofs.Common.{◌≡◌, ◌∙◌, ◌≤◌, ℕ, List, length, sum, take, take_all, ap, arith}
 use Rattle.book_base.specs.Book.{Page, announced, calls_of}
 use Rattle.std.proofs.lemmas.List.{length-map}
-use Rattle.witness_picture.proofs.Judging.{calls_more}
-use Rattle.witness_picture.proofs.marking.calls_of_all.Goals as goal
+use Rattle.witness_texts.proofs.Judging.{calls_more}
+use Rattle.witness_texts.proofs.marking.calls_of_all.Goals as goal
 
 pub overflow_add-total : goal.overflow_add-total
 overflow_add-total c =

@@ -1,6 +1,6 @@
 use Rattle.std.proofs.Common.{◌≡◌, ◌*◌, ◌≤◌, sum, take}
 use Rattle.book_base.specs.Book.{announced}
-use Rattle.witness_picture.proofs.marking.calls_of_all.Given as goal
+use Rattle.witness_texts.proofs.marking.calls_of_all.Given as goal
 
 abbrev pub invariant-loop-caller : goal.invariant-loop-caller
 invariant-loop-caller l = record {
