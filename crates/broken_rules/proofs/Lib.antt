@@ -1,0 +1,10 @@
+pub mod Acts
+pub mod Searching
+pub mod Standing
+pub mod Holding
+pub mod Queues
+pub mod Stacks
+pub mod Least
+pub mod Counts
+pub mod Writes
+pub mod Refuting

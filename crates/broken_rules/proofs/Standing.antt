@@ -1,0 +1,54 @@
+-- The calls of the steps of a legal order.
+use Rattle.std.proofs.Common.{◌≡◌, ◌⊎◌, ◌∙◌, ℕ, List, unwrap_or, Option, Some, refl, sym, ap, inl, inr, slice_get}
+use Rattle.std.proofs.lemmas.Option.{same_Some, none-some}
+use Rattle.list_laws.proofs.Options.{cases_Option}
+use Rattle.book_base.specs.declared.call.Call.{Call}
+use Rattle.book_base.specs.declared.call.Place.{Place}
+use Rattle.book_base.specs.Book.{Page, IsCall, operation_of, record_of}
+use Rattle.book_base.specs.Order.{call_at, StandsAt, IsLegalOrder}
+use Rattle.history_rules.specs.Container.{Deed, Puts, Takes, Neither, Reading, value_taken, put_by, taken_by}
+use Rattle.history_rules.proofs.Orders.{steps_of, place_of_step, has_operation, call_of_put}
+use Rattle.object_foresight.specs.declared.deal.Deal.TheVariants as deals
+use Rattle.object_foresight.specs.Deals.{shown_deal, recorded_deal, deal_by_deed, deal_by_operation, deal_of}
+use Rattle.object_foresight.proofs.Dealing.{deal_of_put}
+
+-- the deed of a step that takes out a value, and what its reply shows
+taken_from_value : (deed : Deed) (shown : Option ℕ) (v : ℕ) → value_taken deed shown ≡ Some v → (deed ≡ Takes) × (shown ≡ Some v)
+taken_from_value (Puts w) shown v e = absurd (none-some v e)
+taken_from_value Takes shown v e = (refl, e)
+taken_from_value Neither shown v e = absurd (none-some v e)
+
+-- A step that takes out a value is of a call that takes it, or of a take without an answer.
+pub taker_of_step : (reading : Reading) (init : List ℕ) (next : List ℕ → ℕ → List ℕ × ℕ) (book : List Page) (order : List Place) → IsLegalOrder init next book order
+    → (k v : ℕ) (step : ℕ × ℕ) → slice_get (steps_of book order) k ≡ Some step → taken_by reading step ≡ Some v
+    → (call : Call) × StandsAt order k call × IsCall book call × ((deal_of reading book call ≡ deals.Took v) ⊎ (deal_of reading book call ≡ deals.OpenTake))
+taker_of_step reading init next book order legal k v step e is =
+    let place = place_of_step book order k step e in
+    let call : Call = call_at place.0 in
+    let stands : StandsAt order k call = (place.0, place.1, refl) in
+    let made : IsCall book call = legal.calls k call stands in
+    let word : ℕ = unwrap_or (operation_of book call) 0 in
+    let known : operation_of book call ≡ Some word = has_operation book call made in
+    let parts = taken_from_value (reading.deed step.0) (reading.shown step.1) v is in
+    let deed : reading.deed word ≡ Takes = ap (λ (s : ℕ × ℕ). reading.deed s.0) place.2 ∙ parts.0 in
+    let deal : deal_of reading book call ≡ recorded_deal reading (record_of book call)
+    = ap (deal_by_operation reading book call) known ∙ ap (deal_by_deed reading book call) deed in
+    elim (cases_Option (record_of book call)) [
+      | inl none ↦ (call, stands, made, inr (deal ∙ ap (recorded_deal reading) none))
+      | inr answer ↦
+          let it : Place = record { caller = call.caller; number = call.number; reply = answer.0.reply } in
+          let found = legal.answered call answer.0 answer.1 in
+          let same_place : found.0 ≡ k = legal.once found.0 k call (it, found.1, refl) stands in
+          let one : it ≡ place.0 = same_Some it place.0 (sym found.1 ∙ (ap (slice_get order) same_place ∙ place.1)) in
+          let reply : answer.0.reply ≡ step.1 = ap (λ (p : Place). p.reply) one ∙ ap (λ (s : ℕ × ℕ). s.1) place.2 in
+          let shown : reading.shown answer.0.reply ≡ Some v = ap reading.shown reply ∙ parts.1 in
+          (call, stands, made, inl (deal ∙ (ap (recorded_deal reading) answer.1 ∙ ap shown_deal shown)))
+    ]
+
+-- A step that puts in a value is of a call that does.
+pub putter_of_step : (reading : Reading) (init : List ℕ) (next : List ℕ → ℕ → List ℕ × ℕ) (book : List Page) (order : List Place) → IsLegalOrder init next book order
+    → (k v : ℕ) (step : ℕ × ℕ) → slice_get (steps_of book order) k ≡ Some step → put_by reading step ≡ Some v
+    → (call : Call) × StandsAt order k call × IsCall book call × (deal_of reading book call ≡ deals.Put v)
+putter_of_step reading init next book order legal k v step e is =
+    let putter = call_of_put reading init next book order legal k v step e is in
+    (putter.0, putter.1, legal.calls k putter.0 putter.1, deal_of_put reading book putter.0 v putter.2)

@@ -1,0 +1,4 @@
+pub mod Deeds
+pub mod Demands
+pub mod Rules
+pub mod Texts

@@ -1,0 +1,192 @@
+-- The rules that objects keep, and how two calls of a book break them.
+use Rattle.std.specs.Prelude.{◌≡◌, ◌≢◌, ◌==◌, ◌&&◌, nat_lt, not, Bool, true, false, List, [], ◌∷◌}
+use Rattle.book_base.specs.declared.call.Call.{Call}
+use Rattle.book_base.specs.Book.{Page, IsCall, IsSmall, Precedes}
+use Rattle.book_base.specs.Order.{HasLegalOrder}
+use Rattle.object_foresight.specs.declared.deal.Deal.{Deal}
+use Rattle.seq_objects.specs.declared.kind.Kind.{Kind}
+use Rattle.seq_objects.specs.declared.kind.Kind.TheVariants as kinds
+use Rattle.seq_objects.specs.Objects.{kind_init, kind_next}
+use Rattle.broken_rules.specs.declared.demand.Demand.{Demand}
+use Rattle.broken_rules.specs.declared.demand.Demand.TheVariants as demands
+use Rattle.broken_rules.specs.declared.rule.Relation.{Relation}
+use Rattle.broken_rules.specs.declared.rule.Relation.TheVariants as relations
+use Rattle.broken_rules.specs.declared.rule.Rule.{Rule}
+use Rattle.broken_rules.specs.declared.rule.Rule.TheVariants as rules
+use Rattle.broken_rules.specs.declared.rule.BrokenRule.{BrokenRule}
+use Rattle.broken_rules.specs.Deeds.{did, value_by, is_put, is_take, is_nothing}
+use Rattle.broken_rules.specs.Demands.{AllMeet}
+
+-- Whether a kind's objects hold what is put in until it is taken out.
+abbrev pub holds_values : Kind → Bool
+holds_values kinds.Queue = true
+holds_values kinds.Stack = true
+holds_values kinds.Pqueue = true
+holds_values kinds.Register = false
+holds_values kinds.Counter = false
+holds_values kinds.IntSet = false
+holds_values kinds.CasRegister = false
+holds_values kinds.Map = false
+
+abbrev pub is_queue : Kind → Bool
+is_queue kinds.Queue = true
+is_queue kinds.Stack = false
+is_queue kinds.Pqueue = false
+is_queue kinds.Register = false
+is_queue kinds.Counter = false
+is_queue kinds.IntSet = false
+is_queue kinds.CasRegister = false
+is_queue kinds.Map = false
+
+abbrev pub is_stack : Kind → Bool
+is_stack kinds.Queue = false
+is_stack kinds.Stack = true
+is_stack kinds.Pqueue = false
+is_stack kinds.Register = false
+is_stack kinds.Counter = false
+is_stack kinds.IntSet = false
+is_stack kinds.CasRegister = false
+is_stack kinds.Map = false
+
+abbrev pub is_pqueue : Kind → Bool
+is_pqueue kinds.Queue = false
+is_pqueue kinds.Stack = false
+is_pqueue kinds.Pqueue = true
+is_pqueue kinds.Register = false
+is_pqueue kinds.Counter = false
+is_pqueue kinds.IntSet = false
+is_pqueue kinds.CasRegister = false
+is_pqueue kinds.Map = false
+
+abbrev pub is_counter : Kind → Bool
+is_counter kinds.Queue = false
+is_counter kinds.Stack = false
+is_counter kinds.Pqueue = false
+is_counter kinds.Register = false
+is_counter kinds.Counter = true
+is_counter kinds.IntSet = false
+is_counter kinds.CasRegister = false
+is_counter kinds.Map = false
+
+abbrev pub is_register : Kind → Bool
+is_register kinds.Queue = false
+is_register kinds.Stack = false
+is_register kinds.Pqueue = false
+is_register kinds.Register = true
+is_register kinds.Counter = false
+is_register kinds.IntSet = false
+is_register kinds.CasRegister = false
+is_register kinds.Map = false
+
+-- Whether the objects of a kind keep a rule.
+abbrev pub keeps : Kind → Rule → Bool
+keeps kind rules.TakenUnput = holds_values kind
+keeps kind rules.TakenTwice = holds_values kind
+keeps kind rules.FoundNothing = holds_values kind
+keeps kind rules.PassedOver = is_queue kind
+keeps kind rules.TakenFromUnder = is_stack kind
+keeps kind rules.LesserLeft = is_pqueue kind
+keeps kind rules.CountedTwice = is_counter kind
+keeps kind rules.CountedDown = is_counter kind
+keeps kind rules.ReadUnwritten = is_register kind
+keeps kind rules.ReadOverwritten = is_register kind
+
+-- Whether two calls with these deals may break a rule.
+abbrev pub fits : Rule → Deal → Deal → Bool
+-- the first one takes
+fits rules.TakenUnput first second = is_take first
+-- the second one takes what the first one puts in
+fits rules.TakenTwice first second = is_put first && is_take second && (value_by first == value_by second)
+-- the first one puts in, and the second one finds nothing
+fits rules.FoundNothing first second = is_put first && is_nothing second
+-- the first one puts in, and the second one takes
+fits rules.PassedOver first second = is_put first && is_take second
+fits rules.TakenFromUnder first second = is_put first && is_take second
+-- the first one puts in a value that is less than the one that the second one takes
+fits rules.LesserLeft first second = is_put first && is_take second && nat_lt (value_by first) (value_by second)
+-- both reply one count
+fits rules.CountedTwice first second = is_take first && is_take second && (value_by first == value_by second)
+-- the second one replies a lower count
+fits rules.CountedDown first second = is_take first && is_take second && nat_lt (value_by second) (value_by first)
+-- the first one reads another value than 0
+fits rules.ReadUnwritten first second = is_take first && not (value_by first == 0)
+-- the first one writes, and the second one reads
+fits rules.ReadOverwritten first second = is_put first && is_take second
+
+-- What a rule asks of all calls that put in.
+abbrev pub puts_demand : Rule → Demand
+puts_demand rules.TakenUnput = demands.OwnPutsFollow
+puts_demand rules.TakenTwice = demands.OnlyPut
+puts_demand rules.FoundNothing = demands.Nothing
+puts_demand rules.PassedOver = demands.OtherPutsFollow
+puts_demand rules.TakenFromUnder = demands.OtherPutsOutside
+puts_demand rules.LesserLeft = demands.Nothing
+puts_demand rules.CountedTwice = demands.Nothing
+puts_demand rules.CountedDown = demands.Nothing
+puts_demand rules.ReadUnwritten = demands.OwnPutsFollow
+puts_demand rules.ReadOverwritten = demands.OtherPutsOutside
+
+-- What a rule asks of all calls that take.
+abbrev pub takes_demand : Rule → Demand
+takes_demand rules.TakenUnput = demands.Nothing
+takes_demand rules.TakenTwice = demands.Nothing
+takes_demand rules.FoundNothing = demands.TakesFollow
+takes_demand rules.PassedOver = demands.TakesFollow
+takes_demand rules.TakenFromUnder = demands.TakesFollow
+takes_demand rules.LesserLeft = demands.TakesFollow
+takes_demand rules.CountedTwice = demands.Nothing
+takes_demand rules.CountedDown = demands.Nothing
+takes_demand rules.ReadUnwritten = demands.Nothing
+takes_demand rules.ReadOverwritten = demands.Nothing
+
+-- How the two calls of a rule are related.
+abbrev pub relation_of : Rule → Relation
+relation_of rules.TakenUnput = relations.Same
+relation_of rules.TakenTwice = relations.TakenByAnother
+relation_of rules.FoundNothing = relations.Before
+relation_of rules.PassedOver = relations.Any
+relation_of rules.TakenFromUnder = relations.Before
+relation_of rules.LesserLeft = relations.Before
+relation_of rules.CountedTwice = relations.Apart
+relation_of rules.CountedDown = relations.Before
+relation_of rules.ReadUnwritten = relations.Same
+relation_of rules.ReadOverwritten = relations.Before
+
+-- Two calls are so related.
+abbrev pub Related : Kind → List Page → Relation → Call → Call → Type 0
+-- they are one call
+Related kind book relations.Same first second = first ≡ second
+-- they are two calls
+Related kind book relations.Apart first second = first ≢ second
+-- the first one precedes the second one
+Related kind book relations.Before first second = Precedes book first second
+-- another call takes what the second one takes
+Related kind book relations.TakenByAnother first second = ¬ AllMeet kind book demands.OnlyTake first second
+-- nothing is asked
+Related kind book relations.Any first second = Unit {0}
+
+-- A book of an object of a kind breaks a rule by two of its calls.
+pub record Breaks (kind : Kind) (book : List Page) (broken : BrokenRule) : Type 0 where
+  -- they are calls of the book
+  pub first : IsCall book broken.first
+  pub second : IsCall book broken.second
+  -- the objects of the kind keep the rule
+  pub kept : keeps kind broken.rule ≡ true
+  -- the calls did what the rule is about
+  pub fit : fits broken.rule (did kind book broken.first) (did kind book broken.second) ≡ true
+  -- they are related as the rule says
+  pub related : Related kind book (relation_of broken.rule) broken.first broken.second
+  -- the calls that put in, and those that take, are where the rule says
+  pub puts : AllMeet kind book (puts_demand broken.rule) broken.first broken.second
+  pub takes : AllMeet kind book (takes_demand broken.rule) broken.first broken.second
+
+-- A book that breaks a rule has no legal order.
+abbrev pub WhatBreaksIsIllegal : Type 0
+WhatBreaksIsIllegal = (kind : Kind) (book : List Page) (broken : BrokenRule) → IsSmall book → Breaks kind book broken
+    → ¬ HasLegalOrder (kind_init kind) (kind_next kind) book
+
+-- All rules, in the order in which they are tried.
+abbrev pub all_rules : List Rule
+all_rules =
+    rules.TakenUnput ∷ rules.TakenTwice ∷ rules.PassedOver ∷ rules.TakenFromUnder ∷ rules.LesserLeft ∷ rules.FoundNothing ∷ rules.CountedTwice
+    ∷ rules.CountedDown ∷ rules.ReadUnwritten ∷ rules.ReadOverwritten ∷ []

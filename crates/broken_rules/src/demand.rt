@@ -1,0 +1,208 @@
+//! What a rule asks of all calls of a book.
+
+ghost use Rattle.std.specs.Prelude.{◌≡◌, ◌↔◌, ◌⊎◌, ℕ, ◌<◌, length, IsTrue};
+ghost use Rattle.book_base.specs.Book.{calls_of, IsCall, Precedes};
+ghost use Rattle.broken_rules.specs.Deeds.{value_at};
+ghost use Rattle.broken_rules.specs.Demands.{Puts, Took, MayTake, Meets, AllMeet};
+
+use crate::act::act_of;
+use book_base::{Book, Call};
+use seq_objects::Kind;
+
+/// What is asked of each call of a book, about two calls.
+#[derive(Clone, Copy, Debug)]
+pub(crate) enum Demand {
+    /// The puts of the first call's value come after the first call.
+    OwnPutsFollow,
+    /// The puts of the second call's value come after the first call.
+    OtherPutsFollow,
+    /// The puts of the second call's value come before the first call, or after the second one.
+    OtherPutsOutside,
+    /// The first call alone puts its value in.
+    OnlyPut,
+    /// The second call alone takes its value.
+    OnlyTake,
+    /// The takes that may take the first call's value come after the second call.
+    TakesFollow,
+    /// Nothing.
+    Nothing,
+}
+
+/// Whether all calls of a book meet a demand about two calls.
+pub(crate) fn all_meet(kind: Kind, book: &Book, demand: Demand, first: Call, second: Call) -> bool
+    requires first { IsCall book.now first }
+    requires second { IsCall book.now second }
+    ensures { IsTrue result ↔ AllMeet kind book.now demand first second }
+{
+    for caller in 0..book.callers() {
+        if !caller_meets(kind, book, demand, first, second, caller) {
+            return false;
+        }
+    }
+    true
+}
+
+// Whether all calls of a caller meet a demand.
+fn caller_meets(
+    kind: Kind,
+    book: &Book,
+    demand: Demand,
+    first: Call,
+    second: Call,
+    caller: u32,
+) -> bool
+    requires caller { caller < length book.now }
+    requires first { IsCall book.now first }
+    requires second { IsCall book.now second }
+    ensures { IsTrue result ↔ ((number : ℕ) → number < calls_of book.now caller
+        → Meets kind book.now demand first second (record { caller = caller; number = number })) }
+{
+    for number in 0..book.calls(caller) {
+        if !meets(kind, book, demand, first, second, Call { caller, number }) {
+            return false;
+        }
+    }
+    true
+}
+
+// Whether a call meets a demand.
+fn meets(kind: Kind, book: &Book, demand: Demand, first: Call, second: Call, call: Call) -> bool
+    requires first { IsCall book.now first }
+    requires second { IsCall book.now second }
+    requires call { IsCall book.now call }
+    ensures { IsTrue result ↔ Meets kind book.now demand first second call }
+{
+    match demand {
+        Demand::OwnPutsFollow => put_follows(kind, book, first, first, call),
+        Demand::OtherPutsFollow => put_follows(kind, book, second, first, call),
+        Demand::OtherPutsOutside => put_is_outside(kind, book, first, second, call),
+        Demand::OnlyPut => put_is_only(kind, book, first, call),
+        Demand::OnlyTake => take_is_only(kind, book, second, call),
+        Demand::TakesFollow => take_follows(kind, book, first, second, call),
+        Demand::Nothing => true,
+    }
+}
+
+// Whether a call comes after another one, where it puts in the value of a third one.
+fn put_follows(kind: Kind, book: &Book, valued: Call, first: Call, call: Call) -> bool
+    requires valued { IsCall book.now valued }
+    requires first { IsCall book.now first }
+    requires call { IsCall book.now call }
+    ensures { IsTrue result
+        ↔ (Puts kind book.now (value_at kind book.now valued) call → Precedes book.now first call) }
+{
+    if puts_value(kind, book, valued, call) {
+        book.precedes(first, call)
+    } else {
+        true
+    }
+}
+
+// Whether a call comes before a first call or after a second one, where it puts in the value of the second one.
+fn put_is_outside(kind: Kind, book: &Book, first: Call, second: Call, call: Call) -> bool
+    requires first { IsCall book.now first }
+    requires second { IsCall book.now second }
+    requires call { IsCall book.now call }
+    ensures { IsTrue result ↔ (Puts kind book.now (value_at kind book.now second) call
+        → Precedes book.now call first ⊎ Precedes book.now second call) }
+{
+    if puts_value(kind, book, second, call) {
+        is_outside(book, first, second, call)
+    } else {
+        true
+    }
+}
+
+// Whether a call comes before a first call or after a second one.
+fn is_outside(book: &Book, first: Call, second: Call, call: Call) -> bool
+    requires first { IsCall book.now first }
+    requires second { IsCall book.now second }
+    requires call { IsCall book.now call }
+    ensures { IsTrue result ↔ (Precedes book.now call first ⊎ Precedes book.now second call) }
+{
+    if book.precedes(call, first) {
+        true
+    } else {
+        book.precedes(second, call)
+    }
+}
+
+// Whether a call is another one, where it puts in the value of that one.
+fn put_is_only(kind: Kind, book: &Book, only: Call, call: Call) -> bool
+    requires only { IsCall book.now only }
+    requires call { IsCall book.now call }
+    ensures { IsTrue result
+        ↔ (Puts kind book.now (value_at kind book.now only) call → call ≡ only) }
+{
+    if puts_value(kind, book, only, call) {
+        is_same(call, only)
+    } else {
+        true
+    }
+}
+
+// Whether a call is another one, where it takes the value of that one.
+fn take_is_only(kind: Kind, book: &Book, only: Call, call: Call) -> bool
+    requires only { IsCall book.now only }
+    requires call { IsCall book.now call }
+    ensures { IsTrue result
+        ↔ (Took kind book.now (value_at kind book.now only) call → call ≡ only) }
+{
+    if takes_value(kind, book, only, call) {
+        is_same(call, only)
+    } else {
+        true
+    }
+}
+
+// Whether a call comes after a second call, where it may take the value of a first one.
+fn take_follows(kind: Kind, book: &Book, first: Call, second: Call, call: Call) -> bool
+    requires first { IsCall book.now first }
+    requires second { IsCall book.now second }
+    requires call { IsCall book.now call }
+    ensures { IsTrue result
+        ↔ (MayTake kind book.now (value_at kind book.now first) call → Precedes book.now second call) }
+{
+    if may_take_value(kind, book, first, call) {
+        book.precedes(second, call)
+    } else {
+        true
+    }
+}
+
+// Whether a call puts in the value of another one.
+fn puts_value(kind: Kind, book: &Book, valued: Call, call: Call) -> bool
+    requires valued { IsCall book.now valued }
+    requires call { IsCall book.now call }
+    ensures { IsTrue result ↔ Puts kind book.now (value_at kind book.now valued) call }
+{
+    let value = act_of(kind, book, valued).value();
+    act_of(kind, book, call).puts(value)
+}
+
+// Whether a call takes the value of another one.
+fn takes_value(kind: Kind, book: &Book, valued: Call, call: Call) -> bool
+    requires valued { IsCall book.now valued }
+    requires call { IsCall book.now call }
+    ensures { IsTrue result ↔ Took kind book.now (value_at kind book.now valued) call }
+{
+    let value = act_of(kind, book, valued).value();
+    act_of(kind, book, call).took(value)
+}
+
+// Whether a call may take the value of another one.
+fn may_take_value(kind: Kind, book: &Book, valued: Call, call: Call) -> bool
+    requires valued { IsCall book.now valued }
+    requires call { IsCall book.now call }
+    ensures { IsTrue result ↔ MayTake kind book.now (value_at kind book.now valued) call }
+{
+    let value = act_of(kind, book, valued).value();
+    act_of(kind, book, call).may_take(value)
+}
+
+/// Whether two calls are one.
+pub(crate) fn is_same(a: Call, b: Call) -> bool
+    ensures { IsTrue result ↔ (a ≡ b) }
+{
+    a.caller == b.caller && a.number == b.number
+}

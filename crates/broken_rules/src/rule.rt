@@ -1,0 +1,167 @@
+//! The rules that objects keep.
+
+ghost use Rattle.std.specs.Prelude.{◌≡◌};
+ghost use Rattle.broken_rules.specs.Deeds.{deal_of_act};
+ghost use Rattle.broken_rules.specs.Rules as rules;
+
+use crate::act::Act;
+use crate::demand::Demand;
+use book_base::Call;
+use seq_objects::Kind;
+
+/// A rule that the objects of a kind keep. It is broken by two calls, or by one that is named twice.
+#[derive(Clone, Copy, Debug, PartialEq, Eq)]
+pub enum Rule {
+    /// What is taken was put in before: the first call takes a value that no call puts in but after it.
+    TakenUnput,
+    /// A value that is put in once is taken once: the first call alone puts a value in, and the second call
+    /// isn't the only one that takes it.
+    TakenTwice,
+    /// A take finds what is there: the first call puts a value in that no call takes but after the second
+    /// call, which finds nothing.
+    FoundNothing,
+    /// A queue gives the oldest value: the first call puts a value in, and the second one takes another
+    /// value, which is put in later, while the first value is there.
+    PassedOver,
+    /// A stack gives the newest value: the first call puts a value in, and the second one takes another
+    /// value, which was put in earlier, while the first value is there.
+    TakenFromUnder,
+    /// A priority queue gives the least value: the second call takes a value while a lesser one is there,
+    /// which the first call puts in.
+    LesserLeft,
+    /// A counter gives each count once: two calls reply the same one.
+    CountedTwice,
+    /// A counter goes up: the second call replies a lower count than the first one, which precedes it.
+    CountedDown,
+    /// What is read was written before: the first call reads a value that no call writes but after it, and
+    /// that isn't 0.
+    ReadUnwritten,
+    /// A register holds the value written last: the first call writes a value over the one that the second
+    /// call reads.
+    ReadOverwritten,
+}
+
+/// A rule that a book breaks, and the two calls by which it does.
+#[derive(Clone, Copy, Debug, PartialEq, Eq)]
+pub struct BrokenRule {
+    pub rule: Rule,
+    pub first: Call,
+    pub second: Call,
+}
+
+/// How two calls that break a rule are related.
+#[derive(Clone, Copy, Debug)]
+pub(crate) enum Relation {
+    /// They are one call.
+    Same,
+    /// They are two calls.
+    Apart,
+    /// The first call precedes the second one.
+    Before,
+    /// Another call takes what the second one takes.
+    TakenByAnother,
+    /// Nothing is asked.
+    Any,
+}
+
+impl Rule {
+    /// Whether the objects of a kind keep the rule.
+    pub(crate) fn is_kept_by(self, kind: Kind) -> bool
+        ensures { result ≡ rules.keeps kind self }
+    {
+        match self {
+            Rule::TakenUnput => holds_values(kind),
+            Rule::TakenTwice => holds_values(kind),
+            Rule::FoundNothing => holds_values(kind),
+            Rule::PassedOver => matches!(kind, Kind::Queue),
+            Rule::TakenFromUnder => matches!(kind, Kind::Stack),
+            Rule::LesserLeft => matches!(kind, Kind::Pqueue),
+            Rule::CountedTwice => matches!(kind, Kind::Counter),
+            Rule::CountedDown => matches!(kind, Kind::Counter),
+            Rule::ReadUnwritten => matches!(kind, Kind::Register),
+            Rule::ReadOverwritten => matches!(kind, Kind::Register),
+        }
+    }
+
+    /// Whether two calls that did so may break the rule.
+    pub(crate) fn fits(self, first: Act, second: Act) -> bool
+        ensures { result ≡ rules.fits self (deal_of_act first) (deal_of_act second) }
+    {
+        match self {
+            Rule::TakenUnput => first.is_take(),
+            Rule::TakenTwice => {
+                first.is_put() && second.is_take() && first.value() == second.value()
+            }
+            Rule::FoundNothing => first.is_put() && second.is_nothing(),
+            Rule::PassedOver => first.is_put() && second.is_take(),
+            Rule::TakenFromUnder => first.is_put() && second.is_take(),
+            Rule::LesserLeft => {
+                first.is_put() && second.is_take() && first.value() < second.value()
+            }
+            Rule::CountedTwice => {
+                first.is_take() && second.is_take() && first.value() == second.value()
+            }
+            Rule::CountedDown => {
+                first.is_take() && second.is_take() && second.value() < first.value()
+            }
+            Rule::ReadUnwritten => first.is_take() && first.value() != 0,
+            Rule::ReadOverwritten => first.is_put() && second.is_take(),
+        }
+    }
+
+    /// What the rule asks of all calls that put in.
+    pub(crate) fn puts_demand(self) -> Demand
+        ensures { result ≡ rules.puts_demand self }
+    {
+        match self {
+            Rule::TakenUnput | Rule::ReadUnwritten => Demand::OwnPutsFollow,
+            Rule::TakenTwice => Demand::OnlyPut,
+            Rule::PassedOver => Demand::OtherPutsFollow,
+            Rule::TakenFromUnder | Rule::ReadOverwritten => Demand::OtherPutsOutside,
+            Rule::FoundNothing | Rule::LesserLeft | Rule::CountedTwice | Rule::CountedDown => {
+                Demand::Nothing
+            }
+        }
+    }
+
+    /// What the rule asks of all calls that take.
+    pub(crate) fn takes_demand(self) -> Demand
+        ensures { result ≡ rules.takes_demand self }
+    {
+        match self {
+            Rule::FoundNothing | Rule::PassedOver | Rule::TakenFromUnder | Rule::LesserLeft => {
+                Demand::TakesFollow
+            }
+            Rule::TakenUnput
+            | Rule::TakenTwice
+            | Rule::CountedTwice
+            | Rule::CountedDown
+            | Rule::ReadUnwritten
+            | Rule::ReadOverwritten => Demand::Nothing,
+        }
+    }
+
+    /// How the two calls are related.
+    pub(crate) fn relation(self) -> Relation
+        ensures { result ≡ rules.relation_of self }
+    {
+        match self {
+            Rule::TakenUnput | Rule::ReadUnwritten => Relation::Same,
+            Rule::TakenTwice => Relation::TakenByAnother,
+            Rule::PassedOver => Relation::Any,
+            Rule::CountedTwice => Relation::Apart,
+            Rule::FoundNothing
+            | Rule::TakenFromUnder
+            | Rule::LesserLeft
+            | Rule::CountedDown
+            | Rule::ReadOverwritten => Relation::Before,
+        }
+    }
+}
+
+// Whether a kind's objects hold what is put in until it is taken out.
+fn holds_values(kind: Kind) -> bool
+    ensures { result ≡ rules.holds_values kind }
+{
+    matches!(kind, Kind::Queue | Kind::Stack | Kind::Pqueue)
+}

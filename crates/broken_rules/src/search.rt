@@ -1,0 +1,132 @@
+//! A rule that a book breaks.
+
+ghost use Rattle.std.specs.Prelude.{◌≡◌, ℕ, ◌<◌, length, slice_get, Some, IfSome, IfNone};
+ghost use Rattle.book_base.specs.declared.call.Call.{Call};
+ghost use Rattle.book_base.specs.Book.{calls_of, IsCall};
+ghost use Rattle.book_base.specs.Order.{HasLegalOrder};
+ghost use Rattle.seq_objects.specs.Objects.{kind_init, kind_next};
+ghost use Rattle.broken_rules.specs.declared.rule.BrokenRule.{BrokenRule};
+ghost use Rattle.broken_rules.specs.declared.rule.Rule.{Rule};
+ghost use Rattle.broken_rules.specs.Rules.{Breaks};
+
+use crate::breaking::is_broken;
+use crate::rule::{BrokenRule, Rule};
+use book_base::{Book, Call};
+use seq_objects::Kind;
+
+/// The rules, in the order in which they are tried.
+const RULES: [Rule; 10] = [
+    Rule::TakenUnput,
+    Rule::TakenTwice,
+    Rule::PassedOver,
+    Rule::TakenFromUnder,
+    Rule::LesserLeft,
+    Rule::FoundNothing,
+    Rule::CountedTwice,
+    Rule::CountedDown,
+    Rule::ReadUnwritten,
+    Rule::ReadOverwritten,
+];
+
+/// A rule that a book breaks, with the two calls by which it does; none, where it breaks none of the rules of
+/// [`Rule`]. A book that breaks one has no legal order. One that breaks none may have one or not.
+///
+/// All pairs of calls are tried, and for some of them all calls: it is made for small books.
+pub fn broken_rule(kind: Kind, book: &Book) -> Option<BrokenRule>
+    ensures broken { IfSome result (λ broken. Breaks kind book.now broken) }
+    ensures illegal { IfSome result (λ _.
+        ¬ HasLegalOrder (kind_init kind) (kind_next kind) book.now) }
+    ensures none { IfNone result ((broken : BrokenRule) → Breaks kind book.now broken → ⊥) }
+{
+    let _callers = book.callers();
+    first_broken(kind, book, &RULES)
+}
+
+// The first of some rules that a book breaks.
+fn first_broken(kind: Kind, book: &Book, rules: &[Rule]) -> Option<BrokenRule>
+    ensures broken { IfSome result (λ broken. Breaks kind book.now broken) }
+    ensures none { IfNone result ((k : ℕ) (broken : BrokenRule)
+        → slice_get rules.now k ≡ Some broken.rule → Breaks kind book.now broken → ⊥) }
+{
+    for rule in rules {
+        match broken_by(kind, book, *rule) {
+            Some(broken) => return Some(broken),
+            None => {}
+        }
+    }
+    None
+}
+
+// Two calls by which a book breaks a rule.
+fn broken_by(kind: Kind, book: &Book, rule: Rule) -> Option<BrokenRule>
+    ensures broken { IfSome result (λ broken. Breaks kind book.now broken) }
+    ensures none { IfNone result ((first second : Call) → Breaks kind book.now
+        (record { rule = rule; first = first; second = second }) → ⊥) }
+{
+    for caller in 0..book.callers() {
+        match broken_by_caller(kind, book, rule, caller) {
+            Some(broken) => return Some(broken),
+            None => {}
+        }
+    }
+    None
+}
+
+// A call of a caller, and another one, by which a book breaks a rule.
+fn broken_by_caller(kind: Kind, book: &Book, rule: Rule, caller: u32) -> Option<BrokenRule>
+    requires { caller < length book.now }
+    ensures broken { IfSome result (λ broken. Breaks kind book.now broken) }
+    ensures none { IfNone result ((number : ℕ) (second : Call)
+        → Breaks kind book.now (record { rule = rule; first = record { caller = caller; number = number }; second = second }) → ⊥) }
+{
+    for number in 0..book.calls(caller) {
+        match broken_with(kind, book, rule, Call { caller, number }) {
+            Some(broken) => return Some(broken),
+            None => {}
+        }
+    }
+    None
+}
+
+// A call by which and this one a book breaks a rule.
+fn broken_with(kind: Kind, book: &Book, rule: Rule, first: Call) -> Option<BrokenRule>
+    requires { IsCall book.now first }
+    ensures broken { IfSome result (λ broken. Breaks kind book.now broken) }
+    ensures none { IfNone result ((second : Call) → Breaks kind book.now
+        (record { rule = rule; first = first; second = second }) → ⊥) }
+{
+    for caller in 0..book.callers() {
+        match broken_with_caller(kind, book, rule, first, caller) {
+            Some(broken) => return Some(broken),
+            None => {}
+        }
+    }
+    None
+}
+
+// A call of a caller by which and a first one a book breaks a rule.
+fn broken_with_caller(
+    kind: Kind,
+    book: &Book,
+    rule: Rule,
+    first: Call,
+    caller: u32,
+) -> Option<BrokenRule>
+    requires first { IsCall book.now first }
+    requires caller { caller < length book.now }
+    ensures broken { IfSome result (λ broken. Breaks kind book.now broken) }
+    ensures none { IfNone result ((number : ℕ) → Breaks kind book.now
+        (record { rule = rule; first = first; second = record { caller = caller; number = number } }) → ⊥) }
+{
+    for number in 0..book.calls(caller) {
+        let broken = BrokenRule {
+            rule,
+            first,
+            second: Call { caller, number },
+        };
+        if is_broken(kind, book, broken) {
+            return Some(broken);
+        }
+    }
+    None
+}
