@@ -1,5 +1,6 @@
-/* judge verify|order|certify: reads a text from standard input, and writes what is said of it, as the program selfcheck
- * writes it, or the book's certificate. Ends with the library's status, and with 2 where the word isn't right. */
+/* judge verify|order|certify|smaller|picture: reads a text from standard input, and writes what is said of it, as the
+ * program selfcheck writes it, or the book's certificate, a smaller book or its picture. Ends with the library's status,
+ * and with 2 where the word isn't right. */
 #include "selfcheck.h"
 #include <stdio.h>
 #include <stdlib.h>
@@ -21,13 +22,19 @@ static uint8_t *read_all(FILE *stream, size_t *length) {
     return text;
 }
 
-static uint32_t certify(const uint8_t *text, size_t length, struct selfcheck_refusal *refusal) {
+/* An export that writes into a buffer. */
+typedef uint32_t writer(const uint8_t *text, size_t length, uint8_t *buffer, size_t room, size_t *written,
+                        struct selfcheck_refusal *refusal);
+
+/* Writes what the export writes of the text, where its status is this one. */
+static uint32_t write_by(writer *write, uint32_t wanted, const uint8_t *text, size_t length,
+                         struct selfcheck_refusal *refusal) {
     size_t room = 2 * length + 64, written = 0;
     for (;;) {
         uint8_t *buffer = malloc(room);
         if (buffer == NULL) return SELFCHECK_NO_MEMORY;
-        uint32_t status = selfcheck_certify(text, length, buffer, room, &written, refusal);
-        if (status == SELFCHECK_LEGAL) fwrite(buffer, 1, written, stdout);
+        uint32_t status = write(text, length, buffer, room, &written, refusal);
+        if (status == wanted) fwrite(buffer, 1, written, stdout);
         free(buffer);
         if (status != SELFCHECK_NO_ROOM) return status;
         room = written;
@@ -37,22 +44,31 @@ static uint32_t certify(const uint8_t *text, size_t length, struct selfcheck_ref
 int main(int count, char **words) {
     const char *word = count == 2 ? words[1] : "";
     struct selfcheck_refusal refusal = {0, 0};
+    int says = 0; /* whether the verdict is told by a word */
     uint32_t status;
     size_t length;
     uint8_t *text = read_all(stdin, &length);
     if (text == NULL) return SELFCHECK_NO_MEMORY;
     if (strcmp(word, "verify") == 0) {
+        says = 1;
         status = selfcheck_verify(text, length, &refusal);
     } else if (strcmp(word, "order") == 0) {
+        says = 1;
         status = selfcheck_order(text, length, &refusal);
     } else if (strcmp(word, "certify") == 0) {
-        status = certify(text, length, &refusal);
+        status = write_by(selfcheck_certify, SELFCHECK_LEGAL, text, length, &refusal);
+        says = status == SELFCHECK_ILLEGAL;
+    } else if (strcmp(word, "smaller") == 0) {
+        status = write_by(selfcheck_smaller, SELFCHECK_ILLEGAL, text, length, &refusal);
+        says = status == SELFCHECK_LEGAL;
+    } else if (strcmp(word, "picture") == 0) {
+        status = write_by(selfcheck_picture, SELFCHECK_DONE, text, length, &refusal);
     } else {
         status = 2;
     }
     free(text);
-    if (status == SELFCHECK_LEGAL && strcmp(word, "certify") != 0) puts("legal");
-    if (status == SELFCHECK_ILLEGAL) puts("illegal");
+    if (says && status == SELFCHECK_LEGAL) puts("legal");
+    if (says && status == SELFCHECK_ILLEGAL) puts("illegal");
     if (status == SELFCHECK_REFUSED)
         printf("refused %llu %s\n", (unsigned long long)refusal.line, selfcheck_name(refusal.what));
     return (int)status;

@@ -1,5 +1,5 @@
-/* Verdicts on the texts of books and certificates, and calls that check themselves, by a proved library.
- * docs/FORMATS.md has the texts.
+/* Verdicts on the texts of books and certificates, smaller books and pictures, and calls that check themselves or that
+ * monitors judge, by a proved library. docs/FORMATS.md has the texts.
  *
  * Link libselfcheck_c.a, and behind it liblibc_c.a, by which it takes memory from malloc.
  *
@@ -19,7 +19,7 @@ extern "C" {
 
 enum selfcheck_status {
     SELFCHECK_LEGAL = 0,     /* the book has a legal order; the certificate's list is one */
-    SELFCHECK_DONE = 0,      /* the call on a slot did what it is for; a reply is delivered */
+    SELFCHECK_DONE = 0,      /* the call did what it is for; a reply is delivered */
     SELFCHECK_ILLEGAL = 1,   /* the book has none; the certificate's list isn't one; the object is wrong */
     SELFCHECK_REFUSED = 3,   /* the text isn't one of the wanted form: the refusal says why */
     SELFCHECK_NO_MEMORY = 6, /* nothing is said of the text, or of the reply */
@@ -54,10 +54,26 @@ uint32_t selfcheck_order(const uint8_t *text, size_t length, struct selfcheck_re
 uint32_t selfcheck_certify(const uint8_t *text, size_t length, uint8_t *buffer, size_t room, size_t *written,
                            struct selfcheck_refusal *refusal);
 
+/* Writes into the buffer the text of a smaller book, and its length into `written`: a part of the book that the text gives,
+ * which has no legal order and shows that the whole book has none, and which no rule makes smaller. The text is that of
+ * a book, in version 1 or 2, or all that `run` or `monitor` have written with a witness; a refusal's line is counted from
+ * the title of the book. ILLEGAL where the smaller book is in the buffer, LEGAL where the book has a legal order and there
+ * is none, REFUSED, NO_MEMORY or NO_ROOM; but for ILLEGAL the buffer is as it was. It is no longer than the book in
+ * version 2. */
+uint32_t selfcheck_smaller(const uint8_t *text, size_t length, uint8_t *buffer, size_t room, size_t *written,
+                           struct selfcheck_refusal *refusal);
+
+/* Writes into the buffer the picture, as SVG, of the book that such a text gives, and its length into `written`. DONE,
+ * REFUSED, NO_MEMORY or NO_ROOM; but for DONE the buffer is as it was. */
+uint32_t selfcheck_picture(const uint8_t *text, size_t length, uint8_t *buffer, size_t room, size_t *written,
+                           struct selfcheck_refusal *refusal);
+
 /* Calls that check themselves. A table of callers stands beside an object: each caller announces a call there, makes the
- * object's own call, and hands in its reply, which is delivered, or is an error with a witness.
+ * object's own call, and hands in its reply, which is delivered, or is an error with a witness. Or callers hand in replies
+ * that are published without a judgement, and monitors, which are callers of the table that make no calls, judge them in
+ * rounds.
  *
- * A slot is a place for one handle: of a table, or of one of its callers. It is all zero before its first use, and then
+ * A slot is a place for one handle: of a table, of one of its callers, or of one of its monitors. It is all zero before its first use, and then
  * the library alone writes to it. It isn't copied, but may be moved, and is given to one call at a time: threads that
  * pass it on order their calls by a lock, by a start or a join. While it has a handle, `in_use` is 1. */
 struct selfcheck_slot {
@@ -73,6 +89,9 @@ uint32_t selfcheck_open(const uint8_t *kind, size_t length, uint32_t callers, ui
  * slot is dropped. DONE, NO_MEMORY or UNFIT. */
 uint32_t selfcheck_caller(struct selfcheck_slot *table, struct selfcheck_slot *slot);
 
+/* Puts the next caller of a table as a monitor into an empty slot: else as selfcheck_caller. DONE, NO_MEMORY or UNFIT. */
+uint32_t selfcheck_monitor(struct selfcheck_slot *table, struct selfcheck_slot *slot);
+
 /* Announces a call of the caller: to be written right before the object's own. `low` is selfcheck_word of the operation
  * and its first argument, `high` its second argument, or 0. UNFIT where a call is announced already, where the caller
  * has made all its calls, and after an error; then the object isn't to be asked. DONE or UNFIT. */
@@ -84,10 +103,19 @@ uint32_t selfcheck_announce(struct selfcheck_slot *caller, uint64_t low, uint64_
  * two the caller makes no further call. UNFIT where no call is announced. */
 uint32_t selfcheck_answered(struct selfcheck_slot *caller, uint64_t reply);
 
-/* Writes into the buffer the witness of a caller's error, the text of a book that has no legal order, and its length into
- * `written`. DONE, NO_MEMORY, NO_ROOM, or UNFIT where the caller's last call wasn't ILLEGAL; but for DONE the buffer is
- * as it was. */
-uint32_t selfcheck_witness(struct selfcheck_slot *caller, uint8_t *buffer, size_t room, size_t *written);
+/* Hands in the object's reply to the announced call, in place of selfcheck_answered, and publishes the call without a
+ * judgement: that is for monitors. The caller may then make its next call. DONE, or UNFIT where no call is announced. */
+uint32_t selfcheck_publish(struct selfcheck_slot *caller, uint64_t reply);
+
+/* Makes a round of a monitor: judges all calls that are published. LEGAL: they have a legal order. ILLEGAL: they have none,
+ * the object is wrong, and the monitor has the witness. NO_MEMORY: nothing is judged, and a further round may judge it.
+ * UNFIT where the slot has no monitor, and after ILLEGAL. */
+uint32_t selfcheck_judge(struct selfcheck_slot *monitor);
+
+/* Writes into the buffer the witness of a caller's or a monitor's error, the text of a book that has no legal order, and its
+ * length into `written`. DONE, NO_MEMORY, NO_ROOM, or UNFIT where the caller's last call, or the monitor's last round,
+ * wasn't ILLEGAL; but for DONE the buffer is as it was. */
+uint32_t selfcheck_witness(struct selfcheck_slot *holder, uint8_t *buffer, size_t room, size_t *written);
 
 /* Lets the slot's handle go; an announced call stays unanswered. The slot is then empty. A table's memory is freed with
  * the last of its slots. DONE, or UNFIT where it was empty. */

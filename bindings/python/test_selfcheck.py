@@ -36,8 +36,23 @@ class Texts(unittest.TestCase):
         self.assertFalse(selfcheck.order(book + "order 2\n0 1 =5\n0 0 done\nend\n"))
         self.assertIsNone(selfcheck.certify(LOST_VALUE))
 
+    def test_smaller_books(self):
+        begun = "book 2\nobject queue\ncallers 2\ncalls 3 1\n0 0 enq 5 done view 0:1\n"
+        book = begun + "0 1 enq 6 done view 0:2\n0 2 deq =6 view 0:3\n1 0 deq none view 0:3 1:1\nend\n"
+        small = selfcheck.smaller(book)
+        self.assertLess(small.count("\n"), book.count("\n"))
+        self.assertFalse(selfcheck.verify(small))
+        self.assertEqual(selfcheck.smaller("illegal\n" + book), small)
+        self.assertIsNone(selfcheck.smaller("book 2\nobject queue\ncallers 1\ncalls 1\n0 0 deq none view 0:1\nend\n"))
+
+    def test_pictures(self):
+        picture = selfcheck.picture(LOST_VALUE)
+        self.assertTrue(picture.startswith("<svg ") and picture.endswith("</svg>\n"))
+        for call in "call-0-0", "call-1-0":
+            self.assertEqual(picture.count(f'id="{call}"'), 1)
+
     def test_refusals(self):
-        for judge in selfcheck.verify, selfcheck.certify, selfcheck.order:
+        for judge in selfcheck.verify, selfcheck.certify, selfcheck.order, selfcheck.smaller, selfcheck.picture:
             with self.assertRaises(selfcheck.Refused) as it:
                 judge("book 2\nobject queue\ncallers 1\ncalls 1\n0 0 deq none view 0:2\nend\n")
             self.assertEqual((it.exception.line, it.exception.what), (5, "ViewOutside"))

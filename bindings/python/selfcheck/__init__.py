@@ -20,7 +20,7 @@ import os
 import sys
 import threading
 
-__all__ = ["Caller", "Incomplete", "Recorder", "Refused", "certify", "order", "verify"]
+__all__ = ["Caller", "Incomplete", "Recorder", "Refused", "certify", "order", "picture", "smaller", "verify"]
 
 MAX_CALLERS = 16
 MAX_CALLS = 256
@@ -52,12 +52,15 @@ class _Refusal(ctypes.Structure):
 
 # The library's exports. `crates/selfcheck_c/src/lib.rt` has them.
 _TEXT = [ctypes.c_char_p, ctypes.c_size_t]
+_BUFFER = [ctypes.c_char_p, ctypes.c_size_t, ctypes.POINTER(ctypes.c_size_t)]
 _HERE = os.path.join(os.path.dirname(os.path.abspath(__file__)), "libselfcheck.so")
 _library = ctypes.CDLL(os.environ.get("SELFCHECK_SO", _HERE))
 for _name, _more in [
     ("selfcheck_verify", []),
     ("selfcheck_order", []),
-    ("selfcheck_certify", [ctypes.c_char_p, ctypes.c_size_t, ctypes.POINTER(ctypes.c_size_t)]),
+    ("selfcheck_certify", _BUFFER),
+    ("selfcheck_smaller", _BUFFER),
+    ("selfcheck_picture", _BUFFER),
 ]:
     getattr(_library, _name).restype = ctypes.c_uint32
     getattr(_library, _name).argtypes = [*_TEXT, *_more, ctypes.POINTER(_Refusal)]
@@ -88,16 +91,39 @@ def order(certificate):
     return _is_legal(_library.selfcheck_order(text, len(text), refusal), refusal)
 
 
-def certify(book):
-    """The text of the book with a legal order of its calls, or None where it has none. Raises as `verify` does."""
-    text, refusal, written = _bytes(book), _Refusal(), ctypes.c_size_t()
-    room = 2 * len(text) + 64
+def _written_by(export, text, room):
+    """What an export writes of a text, and whether its status is that of what is legal."""
+    refusal, written = _Refusal(), ctypes.c_size_t()
     while True:
         buffer = ctypes.create_string_buffer(room)
-        status = _library.selfcheck_certify(text, len(text), buffer, room, written, refusal)
+        status = export(text, len(text), buffer, room, written, refusal)
         if status != _NO_ROOM:
-            return buffer.raw[: written.value].decode() if _is_legal(status, refusal) else None
+            return buffer.raw[: written.value].decode(), _is_legal(status, refusal)
         room = written.value
+
+
+def certify(book):
+    """The text of the book with a legal order of its calls, or None where it has none. Raises as `verify` does."""
+    text = _bytes(book)
+    certificate, is_legal = _written_by(_library.selfcheck_certify, text, 2 * len(text) + 64)
+    return certificate if is_legal else None
+
+
+def smaller(book):
+    """The text of a smaller book that has no legal order and shows that the book has none; None where it has one.
+
+    The text is that of a book, or what `run` or `monitor` have written with a witness. Raises as `verify` does, with a line
+    that is counted from the title of the book.
+    """
+    text = _bytes(book)
+    small, is_legal = _written_by(_library.selfcheck_smaller, text, len(text) + 64)
+    return None if is_legal else small
+
+
+def picture(book):
+    """The picture, as SVG, of the book that the text gives, as `smaller` reads it. Raises as `smaller` does."""
+    text = _bytes(book)
+    return _written_by(_library.selfcheck_picture, text, 8 * len(text) + 4096)[0]
 
 
 def _number(value):

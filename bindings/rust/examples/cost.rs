@@ -1,7 +1,7 @@
-//! What a call of a counter costs bare, recorded, and where it checks itself, with 1, 2 and 4 threads, and what a verdict
-//! costs: `cargo run --release --example cost BOOK..`.
+//! What a call of a counter costs bare, recorded, where it is published for monitors, and where it checks itself, with 1, 2
+//! and 4 threads, and what a verdict costs: `cargo run --release --example cost BOOK..`.
 
-use selfcheck::{Counter, CounterObject, Enforced, Recorder, verify};
+use selfcheck::{Counter, CounterObject, Enforced, Monitored, Recorder, verify};
 use std::error::Error;
 use std::hint::{black_box, spin_loop};
 use std::sync::atomic::{AtomicU32, AtomicUsize, Ordering::SeqCst};
@@ -63,6 +63,18 @@ fn recorded(threads: usize, calls: u32) -> f64 {
     )
 }
 
+// With no monitor at work beside the callers.
+fn published(threads: usize, calls: u32) -> f64 {
+    let counter =
+        Monitored::<Counter, _>::new(Word::default(), threads, 0, calls as usize).unwrap();
+    timed(
+        threads,
+        calls,
+        || counter.caller().unwrap(),
+        |me| me.inc().unwrap(),
+    )
+}
+
 fn enforced(threads: usize, calls: u32) -> f64 {
     let counter = Enforced::<Counter, _>::new(Word::default(), threads, calls as usize).unwrap();
     timed(
@@ -87,6 +99,7 @@ fn main() -> Result<(), Box<dyn Error>> {
         write_cost("bare", threads, 256, bare);
         write_cost("recorded", threads, 256, recorded);
         for calls in [16, 64, 256] {
+            write_cost("published", threads, calls, published);
             write_cost("checking itself", threads, calls, enforced);
         }
     }

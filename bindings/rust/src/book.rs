@@ -2,7 +2,7 @@
 
 use crate::fault::{Fault, Verdict};
 use crate::kind::Kind;
-use crate::library::{certify, verify};
+use crate::library::{certify, picture, smaller, verify};
 use crate::reply::Reply;
 use std::fmt;
 use std::marker::PhantomData;
@@ -75,6 +75,26 @@ impl<K: Kind> Book<K> {
     /// For want of memory. The text of a book is never refused.
     pub fn certify(&self) -> Result<Option<String>, Fault> {
         certify(&self.text)
+    }
+
+    /// A smaller book of the same kind, which is a part of this one: it has no legal order and shows that this one has none,
+    /// and no rule makes it smaller. `None` where the calls have a legal order.
+    ///
+    /// # Errors
+    ///
+    /// For want of memory. The text of a book is never refused.
+    pub fn smaller(&self) -> Result<Option<Book<K>>, Fault> {
+        Ok(smaller(&self.text)?.map(Book::of_text))
+    }
+
+    /// The picture of the book, as SVG: a lane for each caller, a bar for each call, and the numbers of a legal order, where
+    /// the calls have one.
+    ///
+    /// # Errors
+    ///
+    /// For want of memory. The text of a book is never refused.
+    pub fn picture(&self) -> Result<String, Fault> {
+        picture(&self.text)
     }
 }
 

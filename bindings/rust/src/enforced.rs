@@ -1,15 +1,8 @@
 //! Calls that check themselves: an object with a table beside it, in which each call is announced and judged.
 
 use crate::book::Book;
-use crate::kind::{
-    CasRegister, CasRegisterOp, Counter, CounterOp, Kind, Map, MapOp, Operation, PriorityQueue,
-    PriorityQueueOp, Queue, QueueOp, Register, RegisterOp, Set, SetOp, Stack, StackOp,
-};
-use crate::library::{Answer, Idle, Lack, Table};
-use crate::objects::{
-    CasRegisterObject, CounterObject, MapObject, PriorityQueueObject, QueueObject, RegisterObject,
-    SetObject, StackObject,
-};
+use crate::kind::{Kind, Operation};
+use crate::library::{Announced, Answer, Idle, Lack, Table};
 use crate::reply::Reply;
 use std::error::Error;
 use std::fmt;
@@ -62,7 +55,7 @@ use std::sync::{Arc, Mutex, PoisonError};
 /// **What it costs.** A call looks at all callers of the table several times, and judges: some microseconds, more the more
 /// callers and calls there are. A table is full after its calls, 16 callers by 256 at the most. A recorder costs less
 /// and sees more; what is here is an error at the call itself, and a reply that is held back. Each caller judges its own
-/// calls; callers that only announce and publish, with monitors that judge beside them, are only to be had in Rattle.
+/// calls; of a [`Monitored`](crate::Monitored) object the calls are only published, and monitors judge them.
 pub struct Enforced<K: Kind, O> {
     object: Arc<O>,
     table: Mutex<Table>,
@@ -155,13 +148,78 @@ impl<K: Kind> fmt::Display for CallError<K> {
             CallError::Illegal(book) => write!(f, "these calls have no legal order:\n{book}"),
             CallError::IllegalUntold => f.write_str("the calls have no legal order"),
             CallError::Unjudged(reply) => write!(f, "out of memory: {reply} isn't checked"),
-            CallError::NoCallLeft => f.write_str("the caller has made all its calls"),
-            CallError::Halted => f.write_str("the caller is halted"),
+            CallError::NoCallLeft => NotMade::NoCallLeft.fmt(f),
+            CallError::Halted => NotMade::Halted.fmt(f),
         }
     }
 }
 
 impl<K: Kind> Error for CallError<K> {}
+
+/// Why a call wasn't made: the object wasn't asked.
+#[derive(Clone, Copy, Debug, PartialEq, Eq)]
+#[non_exhaustive]
+pub enum NotMade {
+    /// The caller has made all the calls that its table has for it.
+    NoCallLeft,
+    /// An earlier call of the caller was an error, or panicked.
+    Halted,
+}
+
+impl fmt::Display for NotMade {
+    fn fmt(&self, f: &mut fmt::Formatter<'_>) -> fmt::Result {
+        f.write_str(match self {
+            NotMade::NoCallLeft => "the caller has made all its calls",
+            NotMade::Halted => "the caller is halted",
+        })
+    }
+}
+
+impl Error for NotMade {}
+
+impl<K: Kind> From<NotMade> for CallError<K> {
+    fn from(not_made: NotMade) -> CallError<K> {
+        match not_made {
+            NotMade::NoCallLeft => CallError::NoCallLeft,
+            NotMade::Halted => CallError::Halted,
+        }
+    }
+}
+
+impl From<Lack> for OpenError {
+    fn from(lack: Lack) -> OpenError {
+        match lack {
+            Lack::Unfit => OpenError::NoSuchTable,
+            Lack::Memory => OpenError::NoMemory,
+        }
+    }
+}
+
+impl From<Lack> for CallerError {
+    fn from(lack: Lack) -> CallerError {
+        match lack {
+            Lack::Unfit => CallerError::NoneLeft,
+            Lack::Memory => CallerError::NoMemory,
+        }
+    }
+}
+
+// A table for so many callers, with so many calls each.
+pub(crate) fn open<K: Kind>(callers: usize, calls: usize) -> Result<Table, OpenError> {
+    let (Ok(callers), Ok(calls)) = (u32::try_from(callers), u64::try_from(calls)) else {
+        return Err(OpenError::NoSuchTable);
+    };
+    Ok(Table::open(K::NAME, callers, calls)?)
+}
+
+// The announced call of a caller. There is no caller where it makes no further call.
+pub(crate) fn announce(caller: &mut Option<Idle>, op: u128) -> Result<Announced, NotMade> {
+    let idle = caller.take().ok_or(NotMade::Halted)?;
+    idle.announce(op).map_err(|idle| {
+        *caller = Some(idle);
+        NotMade::NoCallLeft
+    })
+}
 
 impl<K: Kind, O> Enforced<K, O> {
     /// The object with a table for so many callers, with so many calls each.
@@ -170,13 +228,7 @@ impl<K: Kind, O> Enforced<K, O> {
     ///
     /// Where there is no such table, and for want of memory.
     pub fn new(object: O, callers: usize, calls: usize) -> Result<Enforced<K, O>, OpenError> {
-        let (Ok(callers), Ok(calls)) = (u32::try_from(callers), u64::try_from(calls)) else {
-            return Err(OpenError::NoSuchTable);
-        };
-        let table = Table::open(K::NAME, callers, calls).map_err(|lack| match lack {
-            Lack::Unfit => OpenError::NoSuchTable,
-            Lack::Memory => OpenError::NoMemory,
-        })?;
+        let table = open::<K>(callers, calls)?;
         Ok(Enforced {
             object: Arc::new(object),
             table: Mutex::new(table),
@@ -192,10 +244,7 @@ impl<K: Kind, O> Enforced<K, O> {
     pub fn caller(&self) -> Result<EnforcedCaller<K, O>, CallerError> {
         // a caller that panics leaves the table whole
         let mut table = self.table.lock().unwrap_or_else(PoisonError::into_inner);
-        let idle = table.caller().map_err(|lack| match lack {
-            Lack::Unfit => CallerError::NoneLeft,
-            Lack::Memory => CallerError::NoMemory,
-        })?;
+        let idle = table.caller()?;
         Ok(EnforcedCaller {
             object: Arc::clone(&self.object),
             idle: Some(idle),
@@ -218,21 +267,14 @@ impl<K: Kind, O> EnforcedCaller<K, O> {
         op: K::Op,
         ask: impl FnOnce(&O) -> R,
     ) -> Result<R, CallError<K>> {
-        let idle = self.idle.take().ok_or(CallError::Halted)?;
-        let announced = match idle.announce(op.word()) {
-            Ok(announced) => announced,
-            Err(idle) => {
-                self.idle = Some(idle);
-                return Err(CallError::NoCallLeft);
-            }
-        };
+        let announced = announce(&mut self.idle, op.word())?;
         let reply = ask(&self.object);
         match announced.answered(reply.into().word()) {
             Answer::Delivered(idle) => {
                 self.idle = Some(idle);
                 Ok(reply)
             }
-            Answer::Illegal(wrong) => Err(match wrong.witness() {
+            Answer::Illegal(mut wrong) => Err(match wrong.witness() {
                 Some(text) => CallError::Illegal(Book::of_text(text)),
                 None => CallError::IllegalUntold,
             }),
@@ -255,82 +297,5 @@ impl<K: Kind, O> fmt::Debug for EnforcedCaller<K, O> {
             .field("kind", &K::NAME)
             .field("halted", &self.idle.is_none())
             .finish_non_exhaustive()
-    }
-}
-
-// The calls of a kind: each asks the object by its method of the same name.
-macro_rules! calls {
-    ($($kind:ident $object:ident $operations:ident {
-        $($(#[$does:meta])* $op:ident $call:ident($($argument:ident),*) $(-> $reply:ty)?;)+
-    })+) => {$(
-        impl<O: $object> EnforcedCaller<$kind, O> {$(
-            $(#[$does])*
-            ///
-            /// # Errors
-            ///
-            /// See [`CallError`].
-            pub fn $call(&mut self, $($argument: u32),*) -> Result<calls!(@reply $($reply)?), CallError<$kind>> {
-                self.call(calls!(@op $operations $op $($argument)*), |object| object.$call($($argument),*))
-            }
-        )+}
-    )+};
-    (@reply) => { () };
-    (@reply $reply:ty) => { $reply };
-    (@op $operations:ident $op:ident) => { $operations::$op };
-    (@op $operations:ident $op:ident $($argument:ident)+) => { $operations::$op($($argument),+) };
-}
-
-calls! {
-    Queue QueueObject QueueOp {
-        /// Puts a value at the end.
-        Enq enq(value);
-        /// Takes the first value.
-        Deq deq() -> Option<u32>;
-    }
-    Stack StackObject StackOp {
-        /// Puts a value on top.
-        Push push(value);
-        /// Takes the top value.
-        Pop pop() -> Option<u32>;
-    }
-    Register RegisterObject RegisterOp {
-        /// Sets the value.
-        Write write(value);
-        /// Reads the value.
-        Read read() -> u32;
-    }
-    Counter CounterObject CounterOp {
-        /// Adds 1, and gives the number before.
-        Inc inc() -> u32;
-    }
-    Set SetObject SetOp {
-        /// Puts a value in: whether it wasn't in the set.
-        Add add(value) -> bool;
-        /// Takes a value out: whether it was in the set.
-        Remove remove(value) -> bool;
-        /// Whether a value is in the set.
-        Has has(value) -> bool;
-    }
-    PriorityQueue PriorityQueueObject PriorityQueueOp {
-        /// Puts a value in.
-        Insert insert(value);
-        /// Takes the least value.
-        Min min() -> Option<u32>;
-    }
-    CasRegister CasRegisterObject CasRegisterOp {
-        /// Sets the value.
-        Write write(value);
-        /// Reads the value.
-        Read read() -> u32;
-        /// Sets the value to `to` where it is `from`: whether it was.
-        Cas cas(from, to) -> bool;
-    }
-    Map MapObject MapOp {
-        /// Sets a key's value, and gives the old one.
-        Put put(key, value) -> Option<u32>;
-        /// A key's value.
-        Get get(key) -> Option<u32>;
-        /// Takes a key out, and gives its value.
-        Del del(key) -> Option<u32>;
     }
 }

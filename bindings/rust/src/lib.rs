@@ -26,7 +26,8 @@
 //! ```
 //!
 //! An [`Enforced`] object checks itself: each call is judged when it has its reply, which is delivered, or is an error
-//! with a book that has no legal order.
+//! with a book that has no legal order. The calls of a [`Monitored`] object are only published, and a [`Monitor`] judges
+//! them in rounds. An illegal book is made small by [`Book::smaller`], and drawn by [`Book::picture`].
 //!
 //! **What it says.** The verdict on a book is proved. The recorder is tested: a book that it makes is always a
 //! text of a book, and where the book has no legal order, the recorded run wasn't linearizable. A run of a wrong
@@ -48,6 +49,10 @@ mod kind;
 #[allow(unsafe_code)]
 mod library;
 #[forbid(unsafe_code)]
+mod monitored;
+#[forbid(unsafe_code)]
+mod object_calls;
+#[forbid(unsafe_code)]
 mod objects;
 #[forbid(unsafe_code)]
 mod recorder;
@@ -55,13 +60,14 @@ mod recorder;
 mod reply;
 
 pub use book::Book;
-pub use enforced::{CallError, CallerError, Enforced, EnforcedCaller, OpenError};
+pub use enforced::{CallError, CallerError, Enforced, EnforcedCaller, NotMade, OpenError};
 pub use fault::{Fault, Verdict, What};
 pub use kind::{
     CasRegister, CasRegisterOp, Counter, CounterOp, Kind, Map, MapOp, Operation, PriorityQueue,
     PriorityQueueOp, Queue, QueueOp, Register, RegisterOp, Set, SetOp, Stack, StackOp,
 };
-pub use library::{certify, order, verify};
+pub use library::{certify, order, picture, smaller, verify};
+pub use monitored::{JudgeError, Monitor, Monitored, MonitoredCaller};
 pub use objects::{
     CasRegisterObject, CounterObject, MapObject, PriorityQueueObject, QueueObject, RegisterObject,
     SetObject, StackObject,

@@ -12,8 +12,8 @@ struct Refusal {
     what: u32,
 }
 
-/// A place for one handle of the library: of a table, or of one of its callers. It has one where `in_use` is 1, and then
-/// a pointer to what it owns. The library alone writes to it.
+/// A place for one handle of the library: of a table, of one of its callers, or of one of its monitors. It has one where
+/// `in_use` is 1, and then a pointer to what it owns. The library alone writes to it.
 #[repr(C)]
 #[derive(Debug)]
 struct Slot {
@@ -35,6 +35,22 @@ unsafe extern "C" {
         written: &mut usize,
         refusal: &mut Refusal,
     ) -> u32;
+    fn selfcheck_smaller(
+        text: *const u8,
+        length: usize,
+        buffer: *mut u8,
+        room: usize,
+        written: &mut usize,
+        refusal: &mut Refusal,
+    ) -> u32;
+    fn selfcheck_picture(
+        text: *const u8,
+        length: usize,
+        buffer: *mut u8,
+        room: usize,
+        written: &mut usize,
+        refusal: &mut Refusal,
+    ) -> u32;
     fn selfcheck_open(
         kind: *const u8,
         length: usize,
@@ -43,8 +59,11 @@ unsafe extern "C" {
         slot: &mut Slot,
     ) -> u32;
     fn selfcheck_caller(table: &mut Slot, slot: &mut Slot) -> u32;
+    fn selfcheck_monitor(table: &mut Slot, slot: &mut Slot) -> u32;
     fn selfcheck_announce(slot: &mut Slot, low: u64, high: u64) -> u32;
     fn selfcheck_answered(slot: &mut Slot, reply: u64) -> u32;
+    fn selfcheck_publish(slot: &mut Slot, reply: u64) -> u32;
+    fn selfcheck_judge(slot: &mut Slot) -> u32;
     fn selfcheck_witness(slot: &mut Slot, buffer: *mut u8, room: usize, written: &mut usize)
     -> u32;
     fn selfcheck_drop(slot: &mut Slot) -> u32;
@@ -62,16 +81,22 @@ fn no_such_status(status: u32) -> ! {
     unreachable!("the library has no status {status} here")
 }
 
+fn fault(status: u32, refusal: &Refusal) -> Fault {
+    match status {
+        REFUSED => Fault::Refused {
+            line: refusal.line,
+            what: What::from_number(refusal.what),
+        },
+        NO_MEMORY => Fault::NoMemory,
+        status => no_such_status(status),
+    }
+}
+
 fn verdict(status: u32, refusal: &Refusal) -> Result<Verdict, Fault> {
     match status {
         LEGAL => Ok(Verdict::Legal),
         ILLEGAL => Ok(Verdict::Illegal),
-        REFUSED => Err(Fault::Refused {
-            line: refusal.line,
-            what: What::from_number(refusal.what),
-        }),
-        NO_MEMORY => Err(Fault::NoMemory),
-        status => no_such_status(status),
+        status => Err(fault(status, refusal)),
     }
 }
 
@@ -111,6 +136,41 @@ pub fn order(text: impl AsRef<[u8]>) -> Result<Verdict, Fault> {
     verdict(status, &refusal)
 }
 
+/// An export that writes of a text into a buffer.
+type Writer = unsafe extern "C" fn(
+    text: *const u8,
+    length: usize,
+    buffer: *mut u8,
+    room: usize,
+    written: &mut usize,
+    refusal: &mut Refusal,
+) -> u32;
+
+// What an export writes of a text, with its status. The buffer has so many bytes at first, and then as many as are wanted.
+fn written_by(writer: Writer, text: &[u8], room: usize) -> (u32, Refusal, String) {
+    let mut buffer = vec![0; room];
+    loop {
+        let (mut written, mut refusal) = (0, Refusal::default());
+        // SAFETY: as in `verify`; the buffer and the count are this function's own too, and none overlaps another.
+        let status = unsafe {
+            writer(
+                text.as_ptr(),
+                text.len(),
+                buffer.as_mut_ptr(),
+                buffer.len(),
+                &mut written,
+                &mut refusal,
+            )
+        };
+        if status != NO_ROOM {
+            buffer.truncate(written);
+            let text = String::from_utf8(buffer).expect("what is written is UTF-8");
+            return (status, refusal, text);
+        }
+        buffer.resize(written, 0);
+    }
+}
+
 /// The certificate of the book with this text: the text, with a legal order of its calls, which [`order`] judges
 /// without a search. `None` where the book has no legal order.
 ///
@@ -131,33 +191,53 @@ pub fn order(text: impl AsRef<[u8]>) -> Result<Verdict, Fault> {
 pub fn certify(text: impl AsRef<[u8]>) -> Result<Option<String>, Fault> {
     let text = text.as_ref();
     // mostly enough, since a place has a line as its call has, and a shorter one
-    let mut buffer = vec![0; 2 * text.len() + 64];
-    loop {
-        let (mut written, mut refusal) = (0, Refusal::default());
-        // SAFETY: as in `verify`; the buffer and the count are this function's own too, and none overlaps another.
-        let status = unsafe {
-            selfcheck_certify(
-                text.as_ptr(),
-                text.len(),
-                buffer.as_mut_ptr(),
-                buffer.len(),
-                &mut written,
-                &mut refusal,
-            )
-        };
-        if status == NO_ROOM {
-            buffer.resize(written, 0);
-            continue;
-        }
-        return match verdict(status, &refusal)? {
-            Verdict::Illegal => Ok(None),
-            Verdict::Legal => {
-                buffer.truncate(written);
-                Ok(Some(
-                    String::from_utf8(buffer).expect("a certificate is ASCII"),
-                ))
-            }
-        };
+    let (status, refusal, certificate) = written_by(selfcheck_certify, text, 2 * text.len() + 64);
+    match verdict(status, &refusal)? {
+        Verdict::Illegal => Ok(None),
+        Verdict::Legal => Ok(Some(certificate)),
+    }
+}
+
+/// The text of a smaller book, which is a part of the book with this text: it has no legal order and shows that the
+/// whole book has none, and no rule makes it smaller. `None` where the book has a legal order.
+///
+/// The text may be that of a book in either version too, or all that a run or monitors have written with their witness.
+///
+/// ```
+/// use selfcheck::smaller;
+///
+/// let book = "book 2\nobject queue\ncallers 2\ncalls 2 1\n\
+///     0 0 enq 5 done view 0:1\n0 1 enq 6 done view 0:2\n1 0 deq none view 0:2 1:1\nend\n";
+/// let small = "book 2\nobject queue\ncallers 2\ncalls 1 1\n\
+///     0 0 enq 6 done view 0:1\n1 0 deq none view 0:1 1:1\nend\n";
+/// assert_eq!(smaller(book)?.as_deref(), Some(small));
+/// # Ok::<_, selfcheck::Fault>(())
+/// ```
+///
+/// # Errors
+///
+/// Where the text gives no book, with the line counted from the book's title, and for want of memory.
+pub fn smaller(text: impl AsRef<[u8]>) -> Result<Option<String>, Fault> {
+    let text = text.as_ref();
+    let (status, refusal, small) = written_by(selfcheck_smaller, text, text.len());
+    match verdict(status, &refusal)? {
+        Verdict::Illegal => Ok(Some(small)),
+        Verdict::Legal => Ok(None),
+    }
+}
+
+/// The picture, as SVG, of the book that the text gives, as [`smaller`] reads it: a lane for each caller, a bar for each
+/// call, and the numbers of a legal order, where there is one.
+///
+/// # Errors
+///
+/// Where the text gives no book, with the line counted from the book's title, and for want of memory.
+pub fn picture(text: impl AsRef<[u8]>) -> Result<String, Fault> {
+    let text = text.as_ref();
+    let (status, refusal, picture) = written_by(selfcheck_picture, text, 8 * text.len() + 4096);
+    match status {
+        DONE => Ok(picture),
+        status => Err(fault(status, &refusal)),
     }
 }
 
@@ -194,9 +274,13 @@ pub(crate) struct Idle(Slot);
 #[derive(Debug)]
 pub(crate) struct Announced(Slot);
 
-/// A caller whose last call was an error.
+/// A caller whose last call was an error, or a monitor that has found one.
 #[derive(Debug)]
 pub(crate) struct Wrong(Slot);
+
+/// A monitor of a table, which has found no error.
+#[derive(Debug)]
+pub(crate) struct Watching(Slot);
 
 /// What became of a call whose reply was handed in.
 #[derive(Debug)]
@@ -205,6 +289,15 @@ pub(crate) enum Answer {
     Illegal(Wrong),
     /// For want of memory nobody has checked the reply.
     Unjudged,
+}
+
+/// What a round of a monitor found.
+#[derive(Debug)]
+pub(crate) enum Judged {
+    Legal(Watching),
+    Illegal(Wrong),
+    /// For want of memory nothing is judged.
+    Unjudged(Watching),
 }
 
 /// Why there is no table, and no caller.
@@ -241,6 +334,13 @@ impl Table {
         let status = unsafe { selfcheck_caller(&mut self.0, &mut slot) };
         Ok(Idle(filled(status, slot)?))
     }
+
+    pub(crate) fn monitor(&mut self) -> Result<Watching, Lack> {
+        let mut slot = Slot::empty();
+        // SAFETY: as in `caller`.
+        let status = unsafe { selfcheck_monitor(&mut self.0, &mut slot) };
+        Ok(Watching(filled(status, slot)?))
+    }
 }
 
 impl Idle {
@@ -266,15 +366,35 @@ impl Announced {
             status => no_such_status(status),
         }
     }
+
+    pub(crate) fn publish(mut self, reply: u64) -> Idle {
+        // SAFETY: the slot is this caller's own.
+        match unsafe { selfcheck_publish(&mut self.0, reply) } {
+            DONE => Idle(self.0),
+            status => no_such_status(status),
+        }
+    }
+}
+
+impl Watching {
+    pub(crate) fn judge(mut self) -> Judged {
+        // SAFETY: the slot is this monitor's own.
+        match unsafe { selfcheck_judge(&mut self.0) } {
+            LEGAL => Judged::Legal(self),
+            ILLEGAL => Judged::Illegal(Wrong(self.0)),
+            NO_MEMORY => Judged::Unjudged(self),
+            status => no_such_status(status),
+        }
+    }
 }
 
 impl Wrong {
     /// The text of the book of the error; none for want of memory.
-    pub(crate) fn witness(mut self) -> Option<String> {
+    pub(crate) fn witness(&mut self) -> Option<String> {
         let mut buffer = vec![0; 1024];
         loop {
             let mut written = 0;
-            // SAFETY: the slot is this caller's own; the pointer and the length are those of a buffer of this function's
+            // SAFETY: the slot is this value's own; the pointer and the length are those of a buffer of this function's
             // own, as the count is, and none overlaps another.
             let status = unsafe {
                 selfcheck_witness(&mut self.0, buffer.as_mut_ptr(), buffer.len(), &mut written)
