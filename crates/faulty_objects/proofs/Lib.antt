@@ -1,4 +1,3 @@
 pub mod Naming
 pub mod Forming
 pub mod Raising
-pub mod Taking

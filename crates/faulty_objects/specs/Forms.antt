@@ -3,7 +3,7 @@ use Rattle.std.specs.Prelude.{◌≡◌, ◌≢◌, ℕ, zero, suc, ◌+◌, ◌
 use Rattle.book_base.specs.declared.TheConstants.{BAD}
 use Rattle.seq_objects.specs.Replies.{reply_done, reply_none, reply_value}
 use Rattle.lawful_objects.specs.Forms.{operation, increment, IsTallyReply, IsLastStored}
-use Rattle.shared_words.specs.Deeds.{Deed, Added, Stored, Loaded, Swapped, place_of, AreCalls}
+use Rattle.shared_words.specs.Deeds.{Deed, Added, Stored, Loaded, Swapped, AreCalls}
 use Rattle.shared_words.specs.Histories.{Access, access, word_at, IsLawful}
 
 -- A call of a split tally: an increment loads the word, and then stores one more than it found, in two steps; its reply is the word
@@ -85,20 +85,6 @@ pub record IsQueueReply (op reply : ℕ) : Type 0 where
 -- The pairs of its calls have this form.
 abbrev pub OnePassesAreFormed : Type 0
 OnePassesAreFormed = (places : ℕ) (pairs : List (ℕ × ℕ)) (before after : List Deed) → AreCalls (IsOnePass places) pairs before after → All (λ pair. IsQueueReply pair.0 pair.1) pairs
-
--- The last access to the word of an item place put this word there, and nobody has been at the place since.
-pub record IsPutLast (place word : ℕ) (history : List Access) : Type 0 where
-  pub before : List Access
-  pub who : ℕ
-  pub rest : List Access
-  pub put : history ≡ before ++ access who (Stored (item_index place) word) ∷ rest
-  pub untouched : All (λ a. place_of a.deed ≢ item_index place) rest
-
--- Where a swap finds an item, the last access to its place before the swap put it there: so each item that is taken out was put in, and
--- what one put stored is taken out once at most.
-abbrev pub TakesTakeWhatWasPut : Type 0
-TakesTakeWhatWasPut = (before rest : List Access) (who place found : ℕ) → IsLawful queue_may (before ++ access who (Swapped (item_index place) 0 found) ∷ rest)
-    → found ≢ 0 → IsPutLast place found before
 
 -- The flag of a caller at a meeting is up.
 abbrev pub up : ℕ

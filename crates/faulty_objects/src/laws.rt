@@ -1,5 +1,5 @@
 //! The forms of the replies of all calls of a pass, and what the last step of a call tells.
-ghost use Rattle.faulty_objects.specs.Forms.{SplitsAreFormed, OnePassesAreFormed, MeetingsAreFormed, LastLoadsTellReplies, FlagsAreRaised, TakesTakeWhatWasPut};
+ghost use Rattle.faulty_objects.specs.Forms.{SplitsAreFormed, OnePassesAreFormed, MeetingsAreFormed, LastLoadsTellReplies, FlagsAreRaised};
 
 /// The replies of a split tally have the form of a tally's.
 #[tactic(auto, using(crate::proofs::Forming::splits_are_formed))]
@@ -19,8 +19,7 @@ pub fn meetings_are_formed()
     ensures { MeetingsAreFormed }
 {}
 
-/// A reply at a meeting is done exactly where the call's last load found the other caller's flag
-/// up.
+/// A reply at a meeting is done exactly where the call's last load found the other caller's flag up.
 pub fn last_loads_tell_replies()
     ensures { LastLoadsTellReplies }
 {}
@@ -29,11 +28,4 @@ pub fn last_loads_tell_replies()
 #[tactic(auto, using(crate::proofs::Raising::flags_are_raised))]
 pub fn flags_are_raised()
     ensures { FlagsAreRaised }
-{}
-
-/// An item that a swap takes out of a place of a one-pass queue is what the last access to this place
-/// put there. So each item that is taken out was put in, and no put is taken out twice.
-#[tactic(auto, using(crate::proofs::Taking::takes_take_what_was_put))]
-pub fn takes_take_what_was_put()
-    ensures { TakesTakeWhatWasPut }
 {}

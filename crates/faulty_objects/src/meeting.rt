@@ -3,7 +3,6 @@ ghost use Rattle.std.specs.List.{range_with_len};
 ghost use Rattle.std.specs.Bool.{OnTrue, OnFalse};
 ghost use Rattle.book_base.specs.declared.TheConstants.{MAX_CALLS};
 ghost use mathlib.Core.List.{IsPrefix};
-ghost use Rattle.shared_words.specs.Histories.{Access};
 ghost use Rattle.shared_words.specs.Passes.{callers_of, cap_of, count_of};
 ghost use Rattle.seq_objects.specs.Replies.{reply_done};
 ghost use Rattle.faulty_objects.specs.Forms.{most_loads, other_caller, meeting_may, HasRaised, IsSeen, IsMissed, IsMeeting, IsMeetingReply};
@@ -30,9 +29,9 @@ impl Usage for Flags {
     ghost may = { meeting_may };
 }
 
-/// A meeting of two callers: each raises its own flag, and waits a while for the other's to be
-/// up. It serves to see whether callers are at work at the same time: one that is through before
-/// the other begins waits in vain, and its reply is bad.
+/// A meeting of two callers: each raises its own flag, and waits a while for the other's to be up. It serves to
+/// see whether callers are at work at the same time: one that is through before the other begins waits in vain,
+/// and its reply is bad.
 #[derive(Drop)]
 pub struct Meeting {
     pub(crate) words: SharedWords<Flags>,
@@ -40,11 +39,11 @@ pub struct Meeting {
 }
 
 impl Meeting {
-    ghost use Rattle.shared_words.specs.Passes.{caller_of_seat, history_of, deeds_of, caller_of_pass, made_with, cap_of_pass, pairs_in, history_in, IsSeatOf, IsFreshPass, AreOfOneHistory};
+    ghost use Rattle.shared_words.specs.Passes.{caller_of_seat, history_of, deeds_of, caller_of_pass, made_with, cap_of_pass, pairs_in, history_in, IsSeatOf, IsFreshPass};
     ghost use Rattle.faulty_objects.specs.Passes.{IsMeetingPass};
 
-    /// A meeting for `n` callers, of whom there are two, with `cap` calls each, and a pass for
-    /// each caller, in order. No flag is up.
+    /// A meeting for `n` callers, of whom there are two, with `cap` calls each, and a pass for each caller, in order.
+    /// No flag is up.
     pub fn open(alloc: Global, n: u32, cap: u64) -> Result<(Meeting, Vec<WordsPass>), NoMemory>
         // There are two callers.
         requires two_callers { n ≡ 2 }
@@ -107,8 +106,7 @@ impl Meeting {
         }
     }
 
-    /// Makes one call of the pass's caller, the same one whatever the operation. It takes no
-    /// memory.
+    /// Makes one call of the pass's caller, the same one whatever the operation. It takes no memory.
     pub fn make(&self, pass: &mut WordsPass, op: OpWord) -> u64
         // The pass is one of this meeting.
         requires own { IsMeetingPass self.now pass.old }
@@ -131,20 +129,6 @@ impl Meeting {
         let reply = self.reply(&mut pass.seat);
         pass.note(op, reply);
         reply
-    }
-
-    /// Takes the passes of all callers back, in order, and lets the flags go. The calls that they
-    /// tell are of one history of the flags.
-    pub fn close(self, passes: Vec<WordsPass>)
-        requires callers { map caller_of_pass passes.items
-            ≡ range_with_len 0 (callers_of self.words) }
-        requires own { All (IsMeetingPass self) passes.items }
-        ensures history { (history : List Access)
-            × AreOfOneHistory meeting_may (λ caller _. IsMeeting caller)
-            (callers_of self.words) history passes.items }
-    {
-        let Meeting { words } = self;
-        words.close(passes);
     }
 }
 

@@ -2,7 +2,6 @@ ghost use Rattle.std.specs.Prelude.{◌≡◌, ◌+◌, ◌*◌, ◌<◌, ◌≤
 ghost use Rattle.std.specs.List.{range_with_len};
 ghost use Rattle.book_base.specs.declared.TheConstants.{MAX_CALLERS, MAX_CALLS};
 ghost use mathlib.Core.List.{IsPrefix};
-ghost use Rattle.shared_words.specs.Histories.{Access};
 ghost use Rattle.shared_words.specs.Passes.{callers_of, cap_of, count_of};
 ghost use Rattle.faulty_objects.specs.Forms.{queue_may, IsEnqueued, IsDequeued, IsOnePass, IsQueueReply};
 
@@ -12,8 +11,8 @@ use seq_objects::{DONE, NONE, value_reply};
 use shared_words::{SharedWords, Usage, WordSeat, WordsPass};
 use std::alloc::Global;
 
-/// The operation word of the enqueue of 0, and that of the dequeue: the enqueues stand from the
-/// one up to the other.
+/// The operation word of the enqueue of 0, and that of the dequeue: the enqueues stand from the one up to the
+/// other.
 const ENQUEUE_0: OpWord = 1 << 32;
 
 const DEQUEUE: OpWord = 2 << 32;
@@ -27,8 +26,8 @@ impl Usage for QueueDeeds {
     ghost may = { queue_may };
 }
 
-/// The array queue of Herlihy and Wing (1990) with a dequeue that gives up: it goes over the
-/// places once, and says that there is none where it found each of them empty.
+/// The array queue of Herlihy and Wing (1990) with a dequeue that gives up: it goes over the places once, and
+/// says that there is none where it found each of them empty.
 #[derive(Drop)]
 pub struct OnePass {
     pub(crate) words: SharedWords<QueueDeeds>,
@@ -36,11 +35,10 @@ pub struct OnePass {
 }
 
 impl OnePass {
-    ghost use Rattle.shared_words.specs.Passes.{caller_of_seat, history_of, deeds_of, caller_of_pass, made_with, cap_of_pass, pairs_in, history_in, IsSeatOf, IsFreshPass, AreOfOneHistory};
+    ghost use Rattle.shared_words.specs.Passes.{caller_of_seat, history_of, deeds_of, caller_of_pass, made_with, cap_of_pass, pairs_in, history_in, IsSeatOf, IsFreshPass};
     ghost use Rattle.faulty_objects.specs.Passes.{IsQueuePass};
 
-    /// A queue for `n` callers with `cap` calls each, and a pass for each caller, in order. It is
-    /// empty.
+    /// A queue for `n` callers with `cap` calls each, and a pass for each caller, in order. It is empty.
     pub fn open(alloc: Global, n: u32, cap: u64) -> Result<(OnePass, Vec<WordsPass>), NoMemory>
         // There is at least one caller.
         requires some_callers { 1 ≤ n }
@@ -144,21 +142,6 @@ impl OnePass {
         let reply = self.reply(&mut pass.seat, op);
         pass.note(op, reply);
         reply
-    }
-
-    /// Takes the passes of all callers back, in order, and lets the words go. The calls that they
-    /// tell are of one history of the words.
-    pub fn close(self, passes: Vec<WordsPass>)
-        requires callers { map caller_of_pass passes.items
-            ≡ range_with_len 0 (callers_of self.words) }
-        requires own { All (IsQueuePass self) passes.items }
-        ensures history { (history : List Access)
-            × AreOfOneHistory queue_may
-            (λ _. IsOnePass (callers_of self.words * cap_of self.words))
-            (callers_of self.words) history passes.items }
-    {
-        let OnePass { words } = self;
-        words.close(passes);
     }
 }
 

@@ -2,7 +2,6 @@ ghost use Rattle.std.specs.Prelude.{◌≡◌, ◌+◌, ◌<◌, ◌≤◌, ◌+
 ghost use Rattle.std.specs.List.{range_with_len};
 ghost use Rattle.book_base.specs.declared.TheConstants.{MAX_CALLERS, MAX_CALLS};
 ghost use mathlib.Core.List.{IsPrefix};
-ghost use Rattle.shared_words.specs.Histories.{Access};
 ghost use Rattle.shared_words.specs.Passes.{callers_of, cap_of, count_of};
 ghost use Rattle.lawful_objects.specs.Forms.{increment, cell_may, IsTallyReply};
 ghost use Rattle.faulty_objects.specs.Forms.{IsSplit, IsTorn};
@@ -17,8 +16,8 @@ use std::alloc::Global;
 /// The operation word of the increment.
 const INCREMENT: OpWord = 1 << 32;
 
-/// A counter whose increment is torn: a load, and then a store of one more. So increments that
-/// overlap may be lost.
+/// A counter whose increment is torn: a load, and then a store of one more. So increments that overlap may be
+/// lost.
 #[derive(Drop)]
 pub struct SplitTally {
     pub(crate) words: SharedWords<LoadsAndStores>,
@@ -26,11 +25,10 @@ pub struct SplitTally {
 }
 
 impl SplitTally {
-    ghost use Rattle.shared_words.specs.Passes.{caller_of_seat, history_of, deeds_of, caller_of_pass, made_with, cap_of_pass, pairs_in, history_in, IsSeatOf, IsFreshPass, AreOfOneHistory};
+    ghost use Rattle.shared_words.specs.Passes.{caller_of_seat, history_of, deeds_of, caller_of_pass, made_with, cap_of_pass, pairs_in, history_in, IsSeatOf, IsFreshPass};
     ghost use Rattle.faulty_objects.specs.Passes.{IsSplitPass};
 
-    /// A split tally for `n` callers with `cap` calls each, and a pass for each caller, in order.
-    /// The count is 0.
+    /// A split tally for `n` callers with `cap` calls each, and a pass for each caller, in order. The count is 0.
     pub fn open(alloc: Global, n: u32, cap: u64) -> Result<(SplitTally, Vec<WordsPass>), NoMemory>
         // There is at least one caller.
         requires some_callers { 1 ≤ n }
@@ -93,19 +91,6 @@ impl SplitTally {
         let reply = self.reply(&mut pass.seat, op);
         pass.note(op, reply);
         reply
-    }
-
-    /// Takes the passes of all callers back, in order, and lets the word go. The calls that they
-    /// tell are of one history of the word.
-    pub fn close(self, passes: Vec<WordsPass>)
-        requires callers { map caller_of_pass passes.items
-            ≡ range_with_len 0 (callers_of self.words) }
-        requires own { All (IsSplitPass self) passes.items }
-        ensures history { (history : List Access)
-            × AreOfOneHistory cell_may (λ _. IsSplit) (callers_of self.words) history passes.items }
-    {
-        let SplitTally { words } = self;
-        words.close(passes);
     }
 }
 

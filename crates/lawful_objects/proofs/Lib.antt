@@ -4,4 +4,3 @@ pub mod Telling
 pub mod Equipping
 pub mod Forming
 pub mod Counting
-pub mod Numbering

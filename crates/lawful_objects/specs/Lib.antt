@@ -5,4 +5,3 @@ pub mod Passes
 pub mod Equipment
 pub mod Forms
 pub mod WordObjects
-pub mod Numbering

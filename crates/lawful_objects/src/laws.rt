@@ -1,10 +1,8 @@
 //! What replies and pairs are, in other words.
 
-ghost use Rattle.std.specs.Prelude.{◌≡◌, [], ◌∷◌};
 ghost use Rattle.lawful_objects.specs.Replays.{LastReplyIsNext};
 ghost use Rattle.lawful_objects.specs.Pairs.{PairsHaveTheCalls};
-ghost use Rattle.lawful_objects.specs.Forms.{increment, read, TalliesAreFormed, CellsAreFormed, TalliesCount, CellsHoldTheLast};
-ghost use Rattle.lawful_objects.specs.Numbering.{increment_replies, numbers_from};
+ghost use Rattle.lawful_objects.specs.Forms.{TalliesAreFormed, CellsAreFormed, TalliesCount, CellsHoldTheLast};
 
 /// The reply to the last operation of a log is the object's at the list that the operations before it leave.
 #[tactic(auto, using(crate::proofs::Replaying::last_reply_is_next))]
@@ -36,13 +34,4 @@ pub fn words_are_of_histories()
     ensures tallies { TalliesCount }
     // The word of a cell is the last one stored.
     ensures cells { CellsHoldTheLast }
-{}
-
-/// Of four steps by the callers 0, 1, 0 and 1, numbered from 0, the second and the fourth are those of
-/// caller 1; the replies to increments are picked out of the calls in their order.
-pub fn numbers_are_worked()
-    ensures first { numbers_from 0 0 (0 ∷ 1 ∷ 0 ∷ 1 ∷ []) ≡ 0 ∷ 2 ∷ [] }
-    ensures second { numbers_from 1 0 (0 ∷ 1 ∷ 0 ∷ 1 ∷ []) ≡ 1 ∷ 3 ∷ [] }
-    ensures replies { increment_replies ((increment, 7) ∷ (read, 8) ∷ (increment, 9) ∷ [])
-        ≡ 7 ∷ 9 ∷ [] }
 {}

@@ -2,10 +2,8 @@ ghost use Rattle.std.specs.Prelude.{◌≡◌, ◌+◌, ◌<◌, ◌≤◌, ◌+
 ghost use Rattle.std.specs.List.{range_with_len};
 ghost use Rattle.book_base.specs.declared.TheConstants.{MAX_CALLERS, MAX_CALLS};
 ghost use mathlib.Core.List.{IsPrefix};
-ghost use Rattle.shared_words.specs.Histories.{Access};
 ghost use Rattle.shared_words.specs.Passes.{count_of};
 ghost use Rattle.lawful_objects.specs.Forms.{increment, IsCounted, tally_may, IsTallied, IsTallyReply};
-ghost use Rattle.lawful_objects.specs.Numbering.{AreCountedIn};
 
 use book_base::{BAD, MAX_CALLERS, MAX_CALLS, NoMemory, OpWord};
 use drv_wrapper::{Announced, BlackBox};
@@ -33,11 +31,10 @@ pub struct Tally {
 }
 
 impl Tally {
-    ghost use Rattle.shared_words.specs.Passes.{caller_of_seat, history_of, deeds_of, callers_of, cap_of, caller_of_pass, made_with, cap_of_pass, pairs_in, history_in, IsSeatOf, IsFreshPass, AreOfOneHistory};
+    ghost use Rattle.shared_words.specs.Passes.{caller_of_seat, history_of, deeds_of, callers_of, cap_of, caller_of_pass, made_with, cap_of_pass, pairs_in, history_in, IsSeatOf, IsFreshPass};
     ghost use Rattle.lawful_objects.specs.WordObjects.{IsTallyPass};
 
-    /// A tally for `n` callers with `cap` calls each, and a pass for each caller, in order. The
-    /// count is 0.
+    /// A tally for `n` callers with `cap` calls each, and a pass for each caller, in order. The count is 0.
     pub fn open(alloc: Global, n: u32, cap: u64) -> Result<(Tally, Vec<WordsPass>), NoMemory>
         // There is at least one caller.
         requires some_callers { 1 ≤ n }
@@ -98,22 +95,6 @@ impl Tally {
         let reply = self.reply(&mut pass.seat, op);
         pass.note(op, reply);
         reply
-    }
-
-    /// Takes the passes of all callers back, in order, and lets the word go. The calls that they
-    /// tell are of one history of the word. So all increments were counted in one order, and each
-    /// was replied its number in it, modulo 2^64.
-    pub fn close(self, passes: Vec<WordsPass>)
-        requires callers { map caller_of_pass passes.items
-            ≡ range_with_len 0 (callers_of self.word) }
-        requires own { All (IsTallyPass self) passes.items }
-        ensures history { (history : List Access)
-            × AreOfOneHistory tally_may (λ _. IsTallied) (callers_of self.word) history passes.items }
-        ensures order { (order : List ℕ)
-            × AreCountedIn (callers_of self.word) order passes.items }
-    {
-        let Tally { word } = self;
-        word.close(passes);
     }
 }
 

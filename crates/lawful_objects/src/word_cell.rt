@@ -2,7 +2,6 @@ ghost use Rattle.std.specs.Prelude.{◌≡◌, ◌+◌, ◌<◌, ◌≤◌, ◌+
 ghost use Rattle.std.specs.List.{range_with_len};
 ghost use Rattle.book_base.specs.declared.TheConstants.{MAX_CALLERS, MAX_CALLS};
 ghost use mathlib.Core.List.{IsPrefix};
-ghost use Rattle.shared_words.specs.Histories.{Access};
 ghost use Rattle.shared_words.specs.Passes.{count_of};
 ghost use Rattle.lawful_objects.specs.Forms.{read, IsLastRead, cell_may, IsKept, IsCellReply};
 
@@ -12,8 +11,7 @@ use seq_objects::{DONE, value_reply};
 use shared_words::{SharedWords, Usage, WordSeat, WordsPass};
 use std::alloc::Global;
 
-/// The operation word of the write of 0, and that of the read: the writes stand from the one up
-/// to the other.
+/// The operation word of the write of 0, and that of the read: the writes stand from the one up to the other.
 const WRITE_0: OpWord = 1 << 32;
 
 const READ: OpWord = 2 << 32;
@@ -35,11 +33,10 @@ pub struct WordCell {
 }
 
 impl WordCell {
-    ghost use Rattle.shared_words.specs.Passes.{caller_of_seat, history_of, deeds_of, callers_of, cap_of, caller_of_pass, made_with, cap_of_pass, pairs_in, history_in, IsSeatOf, IsFreshPass, AreOfOneHistory};
+    ghost use Rattle.shared_words.specs.Passes.{caller_of_seat, history_of, deeds_of, callers_of, cap_of, caller_of_pass, made_with, cap_of_pass, pairs_in, history_in, IsSeatOf, IsFreshPass};
     ghost use Rattle.lawful_objects.specs.WordObjects.{IsCellPass};
 
-    /// A cell for `n` callers with `cap` calls each, and a pass for each caller, in order. Its
-    /// value is 0.
+    /// A cell for `n` callers with `cap` calls each, and a pass for each caller, in order. Its value is 0.
     pub fn open(alloc: Global, n: u32, cap: u64) -> Result<(WordCell, Vec<WordsPass>), NoMemory>
         // There is at least one caller.
         requires some_callers { 1 ≤ n }
@@ -103,19 +100,6 @@ impl WordCell {
         let reply = self.reply(&mut pass.seat, op);
         pass.note(op, reply);
         reply
-    }
-
-    /// Takes the passes of all callers back, in order, and lets the word go. The calls that they
-    /// tell are of one history of the word.
-    pub fn close(self, passes: Vec<WordsPass>)
-        requires callers { map caller_of_pass passes.items
-            ≡ range_with_len 0 (callers_of self.word) }
-        requires own { All (IsCellPass self) passes.items }
-        ensures history { (history : List Access)
-            × AreOfOneHistory cell_may (λ _. IsKept) (callers_of self.word) history passes.items }
-    {
-        let WordCell { word } = self;
-        word.close(passes);
     }
 }
 
