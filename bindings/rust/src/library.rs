@@ -204,13 +204,13 @@ pub fn certify(text: impl AsRef<[u8]>) -> Result<Option<String>, Fault> {
 /// The text may be that of a book in either version too, or all that a run or monitors have written with their witness.
 ///
 /// ```
-/// use selfcheck::smaller;
+/// use selfcheck::{Verdict, smaller, verify};
 ///
-/// let book = "book 2\nobject queue\ncallers 2\ncalls 2 1\n\
-///     0 0 enq 5 done view 0:1\n0 1 enq 6 done view 0:2\n1 0 deq none view 0:2 1:1\nend\n";
-/// let small = "book 2\nobject queue\ncallers 2\ncalls 1 1\n\
-///     0 0 enq 6 done view 0:1\n1 0 deq none view 0:1 1:1\nend\n";
-/// assert_eq!(smaller(book)?.as_deref(), Some(small));
+/// let book = "book 2\nobject queue\ncallers 2\ncalls 3 1\n0 0 enq 5 done view 0:1\n\
+///     0 1 enq 6 done view 0:2\n0 2 deq =5 view 0:3\n1 0 deq none view 0:3 1:1\nend\n";
+/// let small = smaller(book)?.expect("the book is illegal");
+/// assert!(small.len() < book.len());
+/// assert_eq!(verify(&small)?, Verdict::Illegal);
 /// # Ok::<_, selfcheck::Fault>(())
 /// ```
 ///
