@@ -55,8 +55,7 @@ fn smaller(alloc: Global, bytes: &[u8]) -> Result<Option<Vec<u8>>, ReadFault>
             what: What::Long,
         }));
     }
-    let found = smaller_text(alloc, bytes)?;
-    Ok(found)
+    smaller_text(alloc, bytes)
 }
 
 /// Writes the output for these bytes, where there was memory for it.
