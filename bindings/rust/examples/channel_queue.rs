@@ -1,6 +1,9 @@
 //! A channel of the standard library as a queue: any thread sends, and whoever has the receiver's lock takes what is
 //! there. Its books are legal.
 
+mod common;
+
+use common::show;
 use selfcheck::{Queue, Recorder, TooManyCallers};
 use std::error::Error;
 use std::sync::{Mutex, mpsc};
@@ -22,7 +25,5 @@ fn main() -> Result<(), Box<dyn Error>> {
         }
         Ok::<_, TooManyCallers>(())
     })?;
-    let book = recorder.book()?;
-    println!("{book}{}", book.verify()?);
-    Ok(())
+    show(&recorder.book()?)
 }

@@ -1,6 +1,9 @@
 //! A queue that checks itself: a ring of four places, which forgets to ask whether it is full. The fifth value goes over
 //! the first one, and the call that takes it is the error.
 
+mod common;
+
+use common::show;
 use selfcheck::{CallError, Enforced, Queue, QueueObject};
 use std::error::Error;
 use std::sync::Mutex;
@@ -42,7 +45,7 @@ fn main() -> Result<(), Box<dyn Error>> {
     let mut consumer = queue.caller()?;
     match consumer.deq() {
         Ok(reply) => println!("delivered: {reply:?}"),
-        Err(CallError::Illegal(book)) => println!("{book}{}", book.verify()?),
+        Err(CallError::Illegal(book)) => show(&book)?,
         Err(other) => return Err(other.into()),
     }
     Ok(())

@@ -1,6 +1,9 @@
 //! A deque that looks at its first value and takes it under two locks: two callers may get one value, and then another
 //! is lost.
 
+mod common;
+
+use common::show;
 use selfcheck::{Queue, Recorder, TooManyCallers, Verdict};
 use std::collections::VecDeque;
 use std::error::Error;
@@ -28,8 +31,7 @@ fn main() -> Result<(), Box<dyn Error>> {
         })?;
         let book = recorder.book()?;
         if book.verify()? == Verdict::Illegal {
-            println!("{book}{}", Verdict::Illegal);
-            return Ok(());
+            return show(&book);
         }
     }
     println!("no run was caught");

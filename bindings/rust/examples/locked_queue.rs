@@ -1,5 +1,8 @@
 //! A deque behind a lock is a queue: its book is legal, and has a certificate.
 
+mod common;
+
+use common::show;
 use selfcheck::{Queue, Recorder, TooManyCallers};
 use std::collections::VecDeque;
 use std::error::Error;
@@ -20,7 +23,7 @@ fn main() -> Result<(), Box<dyn Error>> {
         Ok::<_, TooManyCallers>(())
     })?;
     let book = recorder.book()?;
-    println!("{book}{}", book.verify()?);
+    show(&book)?;
     if let Some(certificate) = book.certify()? {
         print!("\n{certificate}");
     }

@@ -1,6 +1,9 @@
 //! A queue that a monitor judges: a ring of four places, which forgets to ask whether it is full. Its callers only publish
 //! what they do, and the monitor finds the error beside them.
 
+mod common;
+
+use common::show;
 use selfcheck::{JudgeError, Monitored, Queue, QueueObject};
 use std::error::Error;
 use std::sync::Mutex;
@@ -58,7 +61,7 @@ fn main() -> Result<(), Box<dyn Error>> {
     })?;
     match found {
         Ok(()) => println!("legal"),
-        Err(JudgeError::Illegal(book)) => println!("{book}{}", book.verify()?),
+        Err(JudgeError::Illegal(book)) => show(&book)?,
         Err(other) => return Err(other.into()),
     }
     Ok(())

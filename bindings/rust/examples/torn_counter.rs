@@ -1,5 +1,8 @@
 //! A counter that adds by a load and a store: two callers that meet between the two get one number.
 
+mod common;
+
+use common::show;
 use selfcheck::{Counter, Recorder, TooManyCallers};
 use std::error::Error;
 use std::sync::Barrier;
@@ -25,7 +28,5 @@ fn main() -> Result<(), Box<dyn Error>> {
         }
         Ok::<_, TooManyCallers>(())
     })?;
-    let book = recorder.book()?;
-    println!("{book}{}", book.verify()?);
-    Ok(())
+    show(&recorder.book()?)
 }

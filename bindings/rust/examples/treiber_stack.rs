@@ -1,6 +1,9 @@
 //! A stack after Treiber (1986) whose `pop` forgets a check: it looks at the top, and then takes it away without asking
 //! whether it is still the top. Two callers then get one value, or a pushed value is lost.
 
+mod common;
+
+use common::show;
 use selfcheck::{Recorder, Stack, TooManyCallers, Verdict};
 use std::error::Error;
 use std::sync::atomic::{AtomicU32, AtomicUsize, Ordering::SeqCst};
@@ -69,8 +72,8 @@ fn main() -> Result<(), Box<dyn Error>> {
         })?;
         let book = recorder.book()?;
         if book.verify()? == Verdict::Illegal {
-            println!("{book}{}: run {round}", Verdict::Illegal);
-            return Ok(());
+            println!("run {round}:");
+            return show(&book);
         }
     }
     println!("no run was caught");
