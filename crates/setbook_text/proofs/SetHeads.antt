@@ -1,5 +1,5 @@
 -- The head of a set book is read as one head, or has one first fault; and what it says in the text of a set book.
-use Rattle.std.proofs.Common.{◌≡◌, ℕ, List, [], ◌∷◌, length, ap, sym, subst, ◌∙◌, inl, inr}
+use Rattle.std.proofs.Common.{◌≡◌, ℕ, List, [], ◌∷◌, length, refl, ap, sym, subst, ◌∙◌, inl, inr}
 use Rattle.std.proofs.lemmas.List.{length-replicate}
 use Rattle.book_base.specs.declared.fault.TextFault.{TextFault}
 use Rattle.book_base.specs.declared.fault.ReadFault.{ReadFault}
@@ -72,7 +72,7 @@ head_sharp =
 -- a book without answers tells its numbers of calls
 announced_again : (calls : List ℕ) → announced (unanswered_book calls) ≡ calls
 announced_again [] = refl
-announced_again (count ∷ calls) = (λ i. length-replicate count 0 i ∷ announced_again calls i)
+announced_again (count ∷ calls) = (λ i. length-replicate {A = ℕ} count 0 i ∷ announced_again calls i)
 
 same_calls : (a b : List ℕ) → in_calls (no_call_read a) ≡ in_calls (no_call_read b) → a ≡ b
 same_calls a b e =
