@@ -43,10 +43,15 @@ impl CallerHandle {
     /// The handle of a caller of this table, which is between two calls. Its calls are judged by this kind, and begin the
     /// search for an order with this guide.
     pub fn new(rows: Arc<Rows, Global>, kind: Kind, caller: Caller, guide: Guide) -> CallerHandle
+        // The caller is one of these rows.
         requires caller { IsCallerOf every_reply (arc_value rows) caller }
+        // The caller stands between two calls.
         requires free { IsFree caller }
+        // The parts of the handle belong together.
         ensures sound { IsSoundCaller result }
+        // The handle is of this table and this kind.
         ensures table { (rows_of result ≡ arc_value rows) × (kind_of result ≡ kind) }
+        // The handle's caller is this one, between two calls.
         ensures idle { stage_of result ≡ Stage.Idle caller }
     {
         CallerHandle {
@@ -63,8 +68,11 @@ impl CallerHandle {
     /// The caller, which may go back to its bench. A call that is announced stays unanswered, and then the caller is
     /// halted.
     pub fn into_caller(self) -> Caller
+        // The parts of the handle belong together.
         requires sound { IsSoundCaller self }
+        // The caller is one of the table's rows.
         ensures caller { IsCallerOf every_reply (rows_of self) result }
+        // The caller has the number of the handle's caller.
         ensures who { who_of result ≡ who_of (caller_in (stage_of self)) }
     {
         let CallerHandle { kept: _, stage } = self;
@@ -87,11 +95,17 @@ impl CallerHandle {
     /// Announces a call with this operation, where the caller stands between two calls and has a call left: whether
     /// it does. Else the handle is as it was.
     pub fn announce(self, op: OpWord) -> (CallerHandle, bool)
+        // The parts of the handle belong together.
         requires sound { IsSoundCaller self }
+        // The parts of the handle that comes back belong together.
         ensures sound { IsSoundCaller result.0 }
+        // The handle that comes back is of the same table and kind.
         ensures same { IsOfSameTable self result.0 }
+        // The answer is true exactly where the caller stands between two calls and has a call left.
         ensures when { IsTrue result.1 ↔ MayAnnounce self }
+        // With true the caller has announced a call with this operation.
         ensures begun { IsTrue result.1 → HasBegun op self result.0 }
+        // With false the handle is as it was.
         ensures unchanged { ¬ IsTrue result.1 → result.0 ≡ self }
     {
         let CallerHandle { kept, stage } = self;
@@ -111,11 +125,19 @@ impl CallerHandle {
     /// Hands in the reply of the object to the call that is announced, which is judged. There is no answer where none
     /// is announced, and then the handle is as it was.
     pub fn answered(self, alloc: Global, reply: u64) -> (CallerHandle, Option<Answer>)
+        // The parts of the handle belong together.
         requires sound { IsSoundCaller self }
+        // The parts of the handle that comes back belong together.
         ensures sound { IsSoundCaller result.0 }
+        // The handle that comes back is of the same table and kind.
         ensures same { IsOfSameTable self result.0 }
+        // There is an answer exactly where the caller has announced a call.
         ensures when { IsSome result.1 ↔ HasAnnounced self }
+        // With an answer the call has this reply, and the answer is right: delivered where the book
+        // at the cut that its caller has seen has a legal order, wrong where that book has none, or
+        // published and not judged.
         ensures ended { IfSome result.1 (λ answer. HasEnded reply self answer result.0) }
+        // Without an answer the handle is as it was.
         ensures unchanged { IfNone result.1 (result.0 ≡ self) }
     {
         let CallerHandle { mut kept, stage } = self;
@@ -131,11 +153,18 @@ impl CallerHandle {
     /// Hands in the reply of the object to the call that is announced, which is published with its view, and judges
     /// nothing: whether one was announced. Else the handle is as it was.
     pub fn publish(self, reply: u64) -> (CallerHandle, bool)
+        // The parts of the handle belong together.
         requires sound { IsSoundCaller self }
+        // The parts of the handle that comes back belong together.
         ensures sound { IsSoundCaller result.0 }
+        // The handle that comes back is of the same table and kind.
         ensures same { IsOfSameTable self result.0 }
+        // The answer is true exactly where the caller has announced a call.
         ensures when { IsTrue result.1 ↔ HasAnnounced self }
+        // With true the call is published with this reply, nothing is judged, and the caller stands
+        // between two calls.
         ensures published { IsTrue result.1 → HasPublished reply self result.0 }
+        // With false the handle is as it was.
         ensures unchanged { ¬ IsTrue result.1 → result.0 ≡ self }
     {
         let CallerHandle { kept, stage } = self;
@@ -150,8 +179,11 @@ impl CallerHandle {
 
     /// The text of the book of the call that was an error, where the last call was one.
     pub fn witness(&self, alloc: Global) -> Result<Option<Vec<u8>>, NoMemory>
+        // The parts of the handle belong together.
         requires sound { IsSoundCaller self.now }
+        // There is a text exactly where the caller's last call was an error.
         ensures when { IfOk result (λ found. IsSome found ↔ IsInError self.now) }
+        // The text is that of the book of the error, which has no legal order.
         ensures text { IfOk result (λ found. IfSome found (λ text. IsWitnessOf self.now text.items)) }
     {
         match &self.stage {

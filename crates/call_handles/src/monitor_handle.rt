@@ -43,11 +43,17 @@ impl MonitorHandle {
     /// The handle of a caller of this table, which is between two calls, as a monitor. It judges by this kind, and has
     /// made no round. It takes no memory.
     pub fn new(alloc: Global, rows: Arc<Rows, Global>, kind: Kind, caller: Caller) -> MonitorHandle
+        // The caller is one of these rows.
         requires caller { IsCallerOf every_reply (arc_value rows) caller }
+        // The caller stands between two calls.
         requires free { IsFree caller }
+        // The parts of the handle belong together.
         ensures sound { IsSoundMonitor result }
+        // The handle is of this table and this kind.
         ensures table { (rows_watched result ≡ arc_value rows) × (kind_watched result ≡ kind) }
+        // The handle's monitor is this caller.
         ensures caller { caller_of (monitor_in result) ≡ caller }
+        // The handle's monitor has no witness.
         ensures nothing { own_of (monitor_in result) ≡ None }
     {
         let board = Board::new(alloc);
@@ -74,11 +80,17 @@ impl MonitorHandle {
     /// Makes a round, where none was illegal yet: scans what is published, and judges the book at that cut. There is no
     /// answer after an illegal round, and then the handle is as it was. After want of memory it may make a further one.
     pub fn judge(self, alloc: Global) -> (MonitorHandle, Option<Judgement>)
+        // The parts of the handle belong together.
         requires sound { IsSoundMonitor self }
+        // The parts of the handle that comes back belong together.
         ensures sound { IsSoundMonitor result.0 }
+        // The handle that comes back is of the same table and kind.
         ensures same { IsOfSameWatch self result.0 }
+        // There is an answer exactly where the monitor has made no illegal round.
         ensures when { IsSome result.1 ↔ MayJudge self }
+        // With an answer the monitor has made a round with this judgement, which is right.
         ensures judged { IfSome result.1 (λ found. HasJudged self found result.0) }
+        // Without an answer the handle is as it was.
         ensures unchanged { IfNone result.1 (result.0 ≡ self) }
     {
         if self.has_found() {
@@ -91,8 +103,11 @@ impl MonitorHandle {
 
     /// The text of the book of the illegal round, where there was one.
     pub fn witness(&self, alloc: Global) -> Result<Option<Vec<u8>>, NoMemory>
+        // The parts of the handle belong together.
         requires sound { IsSoundMonitor self.now }
+        // There is a text exactly where the monitor has made an illegal round.
         ensures when { IfOk result (λ found. IsSome found ↔ HasFoundWrong self.now) }
+        // The text is that of the book of the illegal round, which has no legal order.
         ensures text { IfOk result (λ found. IfSome found (λ text. IsFoundWitness self.now text.items)) }
     {
         match self.monitor.own() {

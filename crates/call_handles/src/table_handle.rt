@@ -38,14 +38,22 @@ impl TableHandle {
         callers: u32,
         calls: u64,
     ) -> Result<TableHandle, NoMemory>
+        // There is a caller.
         requires some_callers { 1 ≤ callers }
+        // There are at most 16 callers.
         requires few_callers { callers ≤ MAX_CALLERS }
+        // There is a call for each caller.
         requires some_calls { 1 ≤ calls }
+        // There are at most 256 calls for each caller.
         requires few_calls { calls ≤ MAX_CALLS }
+        // The parts of the handle belong together.
         ensures sound { IfOk result IsSoundTable }
+        // The table has these callers, with these calls each.
         ensures sized { IfOk result (λ t.
             ((rows_in t).callers ≡ callers) × ((rows_in t).cap ≡ calls)) }
+        // The table is of this kind.
         ensures kind { IfOk result (λ t. kind_in t ≡ kind) }
+        // The table gives its first caller next.
         ensures first { IfOk result (λ t. next_of t ≡ 0) }
     {
         let (rows, bench) = Rows::open(alloc, Outside, callers, calls)?;
@@ -60,14 +68,22 @@ impl TableHandle {
 
     /// The handle of the next caller, while there is one. For want of memory the table is as it was.
     pub fn caller(&mut self, alloc: Global) -> Result<Option<CallerHandle>, NoMemory>
+        // The parts of the table belong together.
         requires sound { IsSoundTable self.old }
+        // The parts of the table still belong together.
         ensures sound { IsSoundTable self.new }
+        // There is no handle exactly where the table has given all its callers.
         ensures when { IfOk result (λ found. IsNone found ↔ (next_of self.old ≡ (rows_in self.old).callers)) }
+        // The handle is of the table's next caller, which has made no call.
         ensures given { IfOk result (λ found. IfSome found (IsFreshOf self.old (next_of self.old))) }
+        // The parts of the handle belong together.
         ensures given_sound { IfOk result (λ found. IfSome found IsSoundCaller) }
+        // With a handle the table is the same one, and gives the caller after this one next.
         ensures next { IfOk result (λ found. IfSome found (λ _.
             GivesNext (next_of self.old + 1) self.old self.new)) }
+        // Without a handle the table is as it was.
         ensures none { IfOk result (λ found. IfNone found (self.new ≡ self.old)) }
+        // After want of memory the table is as it was.
         ensures unchanged { IfErr result (λ _. self.new ≡ self.old) }
     {
         if self.next == self.rows.callers() {
@@ -81,14 +97,22 @@ impl TableHandle {
 
     /// The handle of the next caller as a monitor, while there is one. For want of memory the table is as it was.
     pub fn monitor(&mut self, alloc: Global) -> Result<Option<MonitorHandle>, NoMemory>
+        // The parts of the table belong together.
         requires sound { IsSoundTable self.old }
+        // The parts of the table still belong together.
         ensures sound { IsSoundTable self.new }
+        // There is no handle exactly where the table has given all its callers.
         ensures when { IfOk result (λ found. IsNone found ↔ (next_of self.old ≡ (rows_in self.old).callers)) }
+        // The handle is of the table's next caller as a monitor, which has made no round.
         ensures given { IfOk result (λ found. IfSome found (IsFreshMonitorOf self.old (next_of self.old))) }
+        // The parts of the handle belong together.
         ensures given_sound { IfOk result (λ found. IfSome found IsSoundMonitor) }
+        // With a handle the table is the same one, and gives the caller after this one next.
         ensures next { IfOk result (λ found. IfSome found (λ _.
             GivesNext (next_of self.old + 1) self.old self.new)) }
+        // Without a handle the table is as it was.
         ensures none { IfOk result (λ found. IfNone found (self.new ≡ self.old)) }
+        // After want of memory the table is as it was.
         ensures unchanged { IfErr result (λ _. self.new ≡ self.old) }
     {
         if self.next == self.rows.callers() {

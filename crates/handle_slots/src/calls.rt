@@ -42,8 +42,12 @@ fn announced_in(slot: Slot, given: (Global, OpWord)) -> (Slot, bool)
 /// Announces a call with this operation of the caller whose handle is in the slot, where it may announce one: whether
 /// it did. Else the handle is as it was.
 pub fn announce(alloc: Global, slot: &mut Slot, op: OpWord) -> bool
+    // The answer is true exactly where the slot has a caller that stands between two calls and has
+    // a call left.
     ensures when { IsTrue result ↔ IsCallers MayAnnounce (handle_in slot.old) }
+    // With true the slot's caller has announced a call with this operation.
     ensures begun { IsTrue result → Begins op (handle_in slot.old) (handle_in slot.new) }
+    // With false the handle is as it was.
     ensures unchanged { ¬ IsTrue result → handle_in slot.new ≡ handle_in slot.old }
 {
     if !slot.is_taken() {
@@ -86,9 +90,14 @@ fn answered_in(slot: Slot, given: (Global, u64)) -> (Slot, Option<Answer>)
 /// Hands in the reply to the call that the caller has announced whose handle is in the slot, and judges the call. There
 /// is no answer where it has announced none, and then the handle is as it was.
 pub fn answered(alloc: Global, slot: &mut Slot, reply: u64) -> Option<Answer>
+    // There is an answer exactly where the slot has a caller that has announced a call.
     ensures when { IsSome result ↔ IsCallers HasAnnounced (handle_in slot.old) }
+    // With an answer the call has this reply, and the answer is right: delivered where the book at
+    // the cut that its caller has seen has a legal order, wrong where that book has none, or
+    // published and not judged.
     ensures ended { IfSome result (λ answer.
         Ends reply answer (handle_in slot.old) (handle_in slot.new)) }
+    // Without an answer the handle is as it was.
     ensures unchanged { IfNone result (handle_in slot.new ≡ handle_in slot.old) }
 {
     if !slot.is_taken() {
@@ -129,8 +138,11 @@ fn published_in(slot: Slot, given: (Global, u64)) -> (Slot, bool)
 /// Hands in the reply to the call that the caller has announced whose handle is in the slot, and publishes it without a
 /// judgement: whether it has announced one. Else the handle is as it was.
 pub fn publish(alloc: Global, slot: &mut Slot, reply: u64) -> bool
+    // The answer is true exactly where the slot has a caller that has announced a call.
     ensures when { IsTrue result ↔ IsCallers HasAnnounced (handle_in slot.old) }
+    // With true the call is published with this reply, and nobody has judged it.
     ensures published { IsTrue result → Publishes reply (handle_in slot.old) (handle_in slot.new) }
+    // With false the handle is as it was.
     ensures unchanged { ¬ IsTrue result → handle_in slot.new ≡ handle_in slot.old }
 {
     if !slot.is_taken() {
@@ -170,8 +182,11 @@ fn judged_in(slot: Slot, alloc: Global) -> (Slot, Option<Judgement>)
 /// Makes a round of the monitor whose handle is in the slot, where none was illegal yet: what it found. There is no
 /// answer where the slot has no such monitor, and then the handle is as it was.
 pub fn judge(alloc: Global, slot: &mut Slot) -> Option<Judgement>
+    // There is an answer exactly where the slot has a monitor that has made no illegal round.
     ensures when { IsSome result ↔ IsMonitors MayJudge (handle_in slot.old) }
+    // With an answer the slot's monitor has made a round with this judgement, which is right.
     ensures judged { IfSome result (λ found. Judges found (handle_in slot.old) (handle_in slot.new)) }
+    // Without an answer the handle is as it was.
     ensures unchanged { IfNone result (handle_in slot.new ≡ handle_in slot.old) }
 {
     if !slot.is_taken() {
@@ -209,9 +224,13 @@ fn witness_in(slot: Slot, alloc: Global) -> (Slot, Result<Option<Vec<u8>>, NoMem
 /// The text of the book of the error that the last call of the slot's caller was, or of the illegal round that the slot's
 /// monitor has made, where there is one.
 pub fn witness(alloc: Global, slot: &mut Slot) -> Result<Option<Vec<u8>>, NoMemory>
+    // There is a text exactly where the last call of the slot's caller was an error, or the slot's
+    // monitor has made an illegal round.
     ensures when { IfOk result (λ found. IsSome found ↔ HasWitness (handle_in slot.old)) }
+    // The text is that of the book of the error, which has no legal order.
     ensures text { IfOk result (λ found. IfSome found (λ text.
         Witnesses (handle_in slot.old) text.items)) }
+    // The handle is as it was.
     ensures unchanged { handle_in slot.new ≡ handle_in slot.old }
 {
     if !slot.is_taken() {
@@ -231,7 +250,9 @@ fn closed(slot: Slot, alloc: Global) -> (Slot, ())
 
 /// Lets the handle go that is in the slot: whether there was one. A call that is announced stays unanswered.
 pub fn close(alloc: Global, slot: &mut Slot) -> bool
+    // The answer says whether the slot had a handle.
     ensures when { result ≡ is_some (handle_in slot.old) }
+    // The slot has no handle afterwards.
     ensures gone { handle_in slot.new ≡ None }
 {
     if !slot.is_taken() {

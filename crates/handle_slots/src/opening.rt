@@ -20,11 +20,17 @@ pub fn open(
     calls: u64,
     slot: &mut Slot,
 ) -> Result<bool, NoMemory>
+    // The answer is true exactly where there is a kind of this name, the callers and the calls are
+    // within the limits, and the slot had no handle.
     ensures when { IfOk result (λ done. IsTrue done ↔
         IsSized kind.now callers calls × (handle_in slot.old ≡ None)) }
+    // With true the slot has the handle of a table of this kind with these callers and calls, which
+    // has given no caller.
     ensures opened { IfOk result (λ done. IsTrue done →
         IsOpened kind.now callers calls (handle_in slot.new)) }
+    // With false the slot is as it was.
     ensures unchanged { IfOk result (λ done. ¬ IsTrue done → slot.new ≡ slot.old) }
+    // After want of memory the slot is as it was.
     ensures no_memory { IfErr result (λ _. slot.new ≡ slot.old) }
 {
     if slot.is_taken()
@@ -117,12 +123,18 @@ fn filled(mut place: Box<Handle>, handle: Handle) -> Box<Handle>
 /// Puts the handle of the next caller of a table into the slot, in this role: whether it does. It doesn't where the
 /// first slot has no table, where this has given all its callers, or where the second slot has a handle.
 pub fn give(alloc: Global, role: Role, table: &mut Slot, slot: &mut Slot) -> Result<bool, NoMemory>
+    // The answer is true exactly where the first slot has a table with a caller left to give, and
+    // the second slot had no handle.
     ensures when { IfOk result (λ done. IsTrue done ↔
         MayGive (handle_in table.old) × (handle_in slot.old ≡ None)) }
+    // With true the second slot has the handle of the table's next caller, fresh and in this role,
+    // and the table gives the caller after it next.
     ensures given { IfOk result (λ done. IsTrue done →
         HasGiven role (handle_in table.old) (handle_in table.new) (handle_in slot.new)) }
+    // With false the table and the second slot are as they were.
     ensures unchanged { IfOk result (λ done. ¬ IsTrue done →
         (handle_in table.new ≡ handle_in table.old) × (slot.new ≡ slot.old)) }
+    // After want of memory the table and the second slot are as they were.
     ensures no_memory { IfErr result (λ _.
         (handle_in table.new ≡ handle_in table.old) × (slot.new ≡ slot.old)) }
 {

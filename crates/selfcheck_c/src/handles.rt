@@ -27,11 +27,18 @@ pub extern "C" fn selfcheck_open(
     calls: u64,
     slot: &mut Slot,
 ) -> u32
+    // With `DONE` there is a kind of this name, the callers are 1 to 16 and the calls 1 to 256, and
+    // the slot had no handle.
     ensures fit { result ≡ DONE → IsSized kind.now callers calls × (handle_in slot.old ≡ None) }
+    // With `DONE` the slot has the handle of a table of this kind with these callers and calls,
+    // which has given no caller.
     ensures opened { result ≡ DONE → IsOpened kind.now callers calls (handle_in slot.new) }
+    // With `UNFIT` there is no such table, or the slot had a handle.
     ensures unfit { result ≡ UNFIT →
         ¬ (IsSized kind.now callers calls × (handle_in slot.old ≡ None)) }
+    // With each status but `DONE` the slot is as it was.
     ensures unchanged { ¬ (result ≡ DONE) → slot.new ≡ slot.old }
+    // The status is one of these three.
     ensures ends { (result ≡ DONE) ⊎ (result ≡ NO_MEMORY) ⊎ (result ≡ UNFIT) }
 {
     match open(alloc, kind, callers, calls, slot) {
@@ -44,12 +51,18 @@ pub extern "C" fn selfcheck_open(
 /// Puts the handle of the next caller of a table, which has callers left, into the slot, which has no handle.
 #[unsafe(no_mangle)]
 pub extern "C" fn selfcheck_caller(alloc: Global, table: &mut Slot, slot: &mut Slot) -> u32
+    // With `DONE` the table had a caller left to give, and the slot had no handle.
     ensures fit { result ≡ DONE → MayGive (handle_in table.old) × (handle_in slot.old ≡ None) }
+    // With `DONE` the slot has the handle of the table's next caller, which has made no call, and
+    // the table gives the caller after it next.
     ensures given { result ≡ DONE →
         HasGiven Role.Caller (handle_in table.old) (handle_in table.new) (handle_in slot.new) }
+    // With `UNFIT` there is no table with a caller left to give, or the slot had a handle.
     ensures unfit { result ≡ UNFIT → ¬ (MayGive (handle_in table.old) × (handle_in slot.old ≡ None)) }
+    // With each status but `DONE` the table and the slot are as they were.
     ensures unchanged { ¬ (result ≡ DONE) →
         (handle_in table.new ≡ handle_in table.old) × (slot.new ≡ slot.old) }
+    // The status is one of these three.
     ensures ends { (result ≡ DONE) ⊎ (result ≡ NO_MEMORY) ⊎ (result ≡ UNFIT) }
 {
     match give(alloc, Role::Caller, table, slot) {
@@ -63,12 +76,18 @@ pub extern "C" fn selfcheck_caller(alloc: Global, table: &mut Slot, slot: &mut S
 /// handle.
 #[unsafe(no_mangle)]
 pub extern "C" fn selfcheck_monitor(alloc: Global, table: &mut Slot, slot: &mut Slot) -> u32
+    // With `DONE` the table had a caller left to give, and the slot had no handle.
     ensures fit { result ≡ DONE → MayGive (handle_in table.old) × (handle_in slot.old ≡ None) }
+    // With `DONE` the slot has the handle of the table's next caller, as a monitor that has made no
+    // round, and the table gives the caller after it next.
     ensures given { result ≡ DONE →
         HasGiven Role.Monitor (handle_in table.old) (handle_in table.new) (handle_in slot.new) }
+    // With `UNFIT` there is no table with a caller left to give, or the slot had a handle.
     ensures unfit { result ≡ UNFIT → ¬ (MayGive (handle_in table.old) × (handle_in slot.old ≡ None)) }
+    // With each status but `DONE` the table and the slot are as they were.
     ensures unchanged { ¬ (result ≡ DONE) →
         (handle_in table.new ≡ handle_in table.old) × (slot.new ≡ slot.old) }
+    // The status is one of these three.
     ensures ends { (result ≡ DONE) ⊎ (result ≡ NO_MEMORY) ⊎ (result ≡ UNFIT) }
 {
     match give(alloc, Role::Monitor, table, slot) {
@@ -82,9 +101,14 @@ pub extern "C" fn selfcheck_monitor(alloc: Global, table: &mut Slot, slot: &mut 
 /// this low and this high word.
 #[unsafe(no_mangle)]
 pub extern "C" fn selfcheck_announce(alloc: Global, slot: &mut Slot, low: u64, high: u64) -> u32
+    // The status is `DONE` exactly where the slot has a caller that stands between two calls and
+    // has a call left.
     ensures when { (result ≡ DONE) ↔ IsCallers MayAnnounce (handle_in slot.old) }
+    // With `DONE` the slot's caller has announced a call with this operation word.
     ensures begun { result ≡ DONE → Begins (joined low high) (handle_in slot.old) (handle_in slot.new) }
+    // With each status but `DONE` the handle is as it was.
     ensures unchanged { ¬ (result ≡ DONE) → handle_in slot.new ≡ handle_in slot.old }
+    // The status is `DONE` or `UNFIT`.
     ensures ends { (result ≡ DONE) ⊎ (result ≡ UNFIT) }
 {
     if announce(alloc, slot, join(low, high)) {
@@ -98,14 +122,23 @@ pub extern "C" fn selfcheck_announce(alloc: Global, slot: &mut Slot, low: u64, h
 /// nobody has checked the reply.
 #[unsafe(no_mangle)]
 pub extern "C" fn selfcheck_answered(alloc: Global, slot: &mut Slot, reply: u64) -> u32
+    // With `DONE` the call has this reply and is judged: the book at the cut that its caller has
+    // seen has a legal order.
     ensures delivered { result ≡ DONE →
         Ends reply Answer.Delivered (handle_in slot.old) (handle_in slot.new) }
+    // With `ILLEGAL` the call has this reply and is judged: the book at the cut that its caller has
+    // seen has no legal order.
     ensures illegal { result ≡ ILLEGAL →
         Ends reply Answer.Illegal (handle_in slot.old) (handle_in slot.new) }
+    // With `NO_MEMORY` the call is published with this reply, nobody has judged it, and its caller
+    // makes no further call.
     ensures unjudged { result ≡ NO_MEMORY →
         Ends reply Answer.Unjudged (handle_in slot.old) (handle_in slot.new) }
+    // The status is `UNFIT` exactly where the slot has no caller that has announced a call.
     ensures unfit { (result ≡ UNFIT) ↔ ¬ IsCallers HasAnnounced (handle_in slot.old) }
+    // With `UNFIT` the handle is as it was.
     ensures unchanged { result ≡ UNFIT → handle_in slot.new ≡ handle_in slot.old }
+    // The status is one of these four.
     ensures ends { (result ≡ DONE) ⊎ (result ≡ ILLEGAL) ⊎ (result ≡ NO_MEMORY) ⊎ (result ≡ UNFIT) }
 {
     match answered(alloc, slot, reply) {
@@ -120,9 +153,13 @@ pub extern "C" fn selfcheck_answered(alloc: Global, slot: &mut Slot, reply: u64)
 /// here: that is for monitors of the table.
 #[unsafe(no_mangle)]
 pub extern "C" fn selfcheck_publish(alloc: Global, slot: &mut Slot, reply: u64) -> u32
+    // The status is `DONE` exactly where the slot has a caller that has announced a call.
     ensures when { (result ≡ DONE) ↔ IsCallers HasAnnounced (handle_in slot.old) }
+    // With `DONE` the call is published with this reply, and nobody has judged it.
     ensures published { result ≡ DONE → Publishes reply (handle_in slot.old) (handle_in slot.new) }
+    // With each status but `DONE` the handle is as it was.
     ensures unchanged { ¬ (result ≡ DONE) → handle_in slot.new ≡ handle_in slot.old }
+    // The status is `DONE` or `UNFIT`.
     ensures ends { (result ≡ DONE) ⊎ (result ≡ UNFIT) }
 {
     if publish(alloc, slot, reply) {
@@ -136,14 +173,22 @@ pub extern "C" fn selfcheck_publish(alloc: Global, slot: &mut Slot, reply: u64) 
 /// is judged, and a further round may be made.
 #[unsafe(no_mangle)]
 pub extern "C" fn selfcheck_judge(alloc: Global, slot: &mut Slot) -> u32
+    // With `LEGAL` the slot's monitor has made a round, and the book at its cut has a legal order.
     ensures legal { result ≡ LEGAL →
         Judges Judgement.Legal (handle_in slot.old) (handle_in slot.new) }
+    // With `ILLEGAL` the slot's monitor has made a round, and the book at its cut has no legal
+    // order and is its witness.
     ensures illegal { result ≡ ILLEGAL →
         Judges Judgement.Illegal (handle_in slot.old) (handle_in slot.new) }
+    // With `NO_MEMORY` the slot's monitor has scanned once, judged nothing, and has no witness.
     ensures unjudged { result ≡ NO_MEMORY →
         Judges Judgement.Unjudged (handle_in slot.old) (handle_in slot.new) }
+    // The status is `UNFIT` exactly where the slot has no monitor, or one that has made an illegal
+    // round.
     ensures unfit { (result ≡ UNFIT) ↔ ¬ IsMonitors MayJudge (handle_in slot.old) }
+    // With `UNFIT` the handle is as it was.
     ensures unchanged { result ≡ UNFIT → handle_in slot.new ≡ handle_in slot.old }
+    // The status is one of these four.
     ensures ends { (result ≡ LEGAL) ⊎ (result ≡ ILLEGAL) ⊎ (result ≡ NO_MEMORY) ⊎ (result ≡ UNFIT) }
 {
     match judge(alloc, slot) {
@@ -163,15 +208,26 @@ pub extern "C" fn selfcheck_witness(
     buffer: &mut [u8],
     written: &mut usize,
 ) -> u32
+    // With `DONE` the text fits the buffer.
     ensures held { result ≡ DONE → written.new ≤ length buffer.new }
+    // With `DONE` the first `written` bytes of the buffer are the text of the book of the error,
+    // which has no legal order.
     ensures text { result ≡ DONE → Witnesses (handle_in slot.old) (take written.new buffer.new) }
+    // With `NO_ROOM` the length written is greater than the buffer's.
     ensures no_room { result ≡ NO_ROOM → length buffer.old < written.new }
+    // With `NO_ROOM` there is a text of the book of the error that has the length written.
     ensures unheld { result ≡ NO_ROOM → (wanted : List ℕ) × Witnesses (handle_in slot.old) wanted
         × (length wanted ≡ written.new) }
+    // With `UNFIT` the slot has neither a caller whose last call was an error nor a monitor that
+    // has made an illegal round.
     ensures unfit { result ≡ UNFIT → ¬ HasWitness (handle_in slot.old) }
+    // With each status but `DONE` the buffer is as it was.
     ensures unwritten { ¬ (result ≡ DONE) → buffer.new ≡ buffer.old }
+    // With each status but `DONE` and `NO_ROOM` the length written is as it was.
     ensures uncounted { ¬ (result ≡ DONE) → ¬ (result ≡ NO_ROOM) → written.new ≡ written.old }
+    // The slot's handle is as it was.
     ensures kept { handle_in slot.new ≡ handle_in slot.old }
+    // The status is one of these four.
     ensures ends { (result ≡ DONE) ⊎ (result ≡ NO_MEMORY) ⊎ (result ≡ NO_ROOM) ⊎ (result ≡ UNFIT) }
 {
     match witness(alloc, slot) {
@@ -187,8 +243,11 @@ pub extern "C" fn selfcheck_witness(
 /// Lets the slot's handle go. A call that is announced stays unanswered.
 #[unsafe(no_mangle)]
 pub extern "C" fn selfcheck_drop(alloc: Global, slot: &mut Slot) -> u32
+    // The status is `DONE` exactly where the slot had a handle.
     ensures when { (result ≡ DONE) ↔ IsTrue (is_some (handle_in slot.old)) }
+    // The slot has no handle afterwards.
     ensures gone { handle_in slot.new ≡ None }
+    // The status is `DONE` or `UNFIT`.
     ensures ends { (result ≡ DONE) ⊎ (result ≡ UNFIT) }
 {
     if close(alloc, slot) { DONE } else { UNFIT }

@@ -38,14 +38,22 @@ pub const NO_ROOM: u32 = 8;
 /// as it was.
 #[unsafe(no_mangle)]
 pub extern "C" fn selfcheck_verify(alloc: Global, text: &[u8], refusal: &mut Refusal) -> u32
+    // With `LEGAL` the bytes are the text of a book that has a legal order.
     ensures legal { result ≡ LEGAL → IsLegalBook text.now }
+    // With `ILLEGAL` the bytes are the text of a book that has no legal order.
     ensures illegal { result ≡ ILLEGAL → IsIllegalBook text.now }
+    // With `REFUSED` the bytes are no book's text, and the refusal has the line and the number of
+    // their first fault.
     ensures refused { result ≡ REFUSED → IsBookRefusal text.now refusal.new }
+    // The status is one of these four.
     ensures ends { (result ≡ LEGAL) ⊎ (result ≡ ILLEGAL) ⊎ (result ≡ REFUSED) ⊎ (result ≡ NO_MEMORY) }
+    // With each status but `REFUSED` the refusal is as it was.
     ensures kept { ¬ (result ≡ REFUSED) → refusal.new ≡ refusal.old }
-    // Each text has its one status, unless memory runs out.
+    // The text of a book with a legal order has the status `LEGAL`, unless memory runs out.
     ensures legal_told { IsLegalBook text.now → (result ≡ LEGAL) ⊎ (result ≡ NO_MEMORY) }
+    // The text of a book without a legal order has the status `ILLEGAL`, unless memory runs out.
     ensures illegal_told { IsIllegalBook text.now → (result ≡ ILLEGAL) ⊎ (result ≡ NO_MEMORY) }
+    // Bytes that have a first fault have the status `REFUSED`, unless memory runs out.
     ensures fault_told { (fault : TextFault) → IsFirstBookFault Second text.now fault →
         (result ≡ REFUSED) ⊎ (result ≡ NO_MEMORY) }
 {
@@ -64,14 +72,24 @@ pub extern "C" fn selfcheck_verify(alloc: Global, text: &[u8], refusal: &mut Ref
 /// stays as it was.
 #[unsafe(no_mangle)]
 pub extern "C" fn selfcheck_order(alloc: Global, text: &[u8], refusal: &mut Refusal) -> u32
+    // With `LEGAL` the bytes are the text of a certificate whose order is a legal order of its
+    // book.
     ensures legal { result ≡ LEGAL → IsLegalCertificate text.now }
+    // With `ILLEGAL` the bytes are the text of a certificate whose order is no legal order of its
+    // book.
     ensures illegal { result ≡ ILLEGAL → IsIllegalCertificate text.now }
+    // With `REFUSED` the bytes are no certificate's text, and the refusal has the line and the
+    // number of their first fault.
     ensures refused { result ≡ REFUSED → IsCertificateRefusal text.now refusal.new }
+    // The status is one of these four.
     ensures ends { (result ≡ LEGAL) ⊎ (result ≡ ILLEGAL) ⊎ (result ≡ REFUSED) ⊎ (result ≡ NO_MEMORY) }
+    // With each status but `REFUSED` the refusal is as it was.
     ensures kept { ¬ (result ≡ REFUSED) → refusal.new ≡ refusal.old }
-    // Each text has its one status, unless memory runs out.
+    // A certificate whose order is legal has the status `LEGAL`, unless memory runs out.
     ensures legal_told { IsLegalCertificate text.now → (result ≡ LEGAL) ⊎ (result ≡ NO_MEMORY) }
+    // A certificate whose order isn't legal has the status `ILLEGAL`, unless memory runs out.
     ensures illegal_told { IsIllegalCertificate text.now → (result ≡ ILLEGAL) ⊎ (result ≡ NO_MEMORY) }
+    // Bytes that have a first fault have the status `REFUSED`, unless memory runs out.
     ensures fault_told { (fault : TextFault) → IsFirstCertificateFault text.now fault →
         (result ≡ REFUSED) ⊎ (result ≡ NO_MEMORY) }
 {
@@ -97,22 +115,37 @@ pub extern "C" fn selfcheck_certify(
     written: &mut usize,
     refusal: &mut Refusal,
 ) -> u32
+    // With `LEGAL` the certificate fits the buffer.
     ensures held { result ≡ LEGAL → written.new ≤ length buffer.new }
+    // With `LEGAL` the first `written` bytes of the buffer are the text of the book with a legal
+    // order of it.
     ensures legal { result ≡ LEGAL → Certifies text.now (take written.new buffer.new) }
+    // With `ILLEGAL` the bytes are the text of a book that has no legal order.
     ensures illegal { result ≡ ILLEGAL → IsIllegalBook text.now }
+    // With `REFUSED` the bytes are no book's text, and the refusal has the line and the number of
+    // their first fault.
     ensures refused { result ≡ REFUSED → IsBookRefusal text.now refusal.new }
+    // With `NO_ROOM` the length written is greater than the buffer's.
     ensures no_room { result ≡ NO_ROOM → length buffer.old < written.new }
+    // With `NO_ROOM` there is a certificate of the book that has the length written.
     ensures unheld { result ≡ NO_ROOM → (wanted : List ℕ) × Certifies text.now wanted
         × (length wanted ≡ written.new) }
+    // The status is one of these five.
     ensures ends { (result ≡ LEGAL) ⊎ (result ≡ ILLEGAL) ⊎ (result ≡ REFUSED) ⊎ (result ≡ NO_MEMORY)
         ⊎ (result ≡ NO_ROOM) }
+    // With each status but `LEGAL` the buffer is as it was.
     ensures unwritten { ¬ (result ≡ LEGAL) → buffer.new ≡ buffer.old }
+    // With each status but `REFUSED` the refusal is as it was.
     ensures kept { ¬ (result ≡ REFUSED) → refusal.new ≡ refusal.old }
+    // With each status but `LEGAL` and `NO_ROOM` the length written is as it was.
     ensures uncounted { ¬ (result ≡ LEGAL) → ¬ (result ≡ NO_ROOM) → written.new ≡ written.old }
-    // Each text has its one status, but for the buffer and unless memory runs out.
+    // The text of a book with a legal order has the status `LEGAL` or `NO_ROOM`, unless memory runs
+    // out.
     ensures legal_told { IsLegalBook text.now →
         (result ≡ LEGAL) ⊎ (result ≡ NO_ROOM) ⊎ (result ≡ NO_MEMORY) }
+    // The text of a book without a legal order has the status `ILLEGAL`, unless memory runs out.
     ensures illegal_told { IsIllegalBook text.now → (result ≡ ILLEGAL) ⊎ (result ≡ NO_MEMORY) }
+    // Bytes that have a first fault have the status `REFUSED`, unless memory runs out.
     ensures fault_told { (fault : TextFault) → IsFirstBookFault Second text.now fault →
         (result ≡ REFUSED) ⊎ (result ≡ NO_MEMORY) }
 {

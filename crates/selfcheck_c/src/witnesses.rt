@@ -27,22 +27,37 @@ pub extern "C" fn selfcheck_smaller(
     written: &mut usize,
     refusal: &mut Refusal,
 ) -> u32
+    // With `LEGAL` the bytes give a book that has a legal order.
     ensures legal { result ≡ LEGAL → IsLegalGiven text.now }
+    // With `ILLEGAL` the text fits the buffer.
     ensures held { result ≡ ILLEGAL → written.new ≤ length buffer.new }
+    // With `ILLEGAL` the first `written` bytes of the buffer are the text of a part of the book
+    // that has no legal order and that no rule makes smaller.
     ensures smaller { result ≡ ILLEGAL → IsSmallerWitness text.now (take written.new buffer.new) }
+    // With `REFUSED` the bytes give no book, and the refusal has the line and the number of their
+    // first fault.
     ensures refused { result ≡ REFUSED → IsGivenRefusal text.now refusal.new }
+    // With `NO_ROOM` the length written is greater than the buffer's.
     ensures no_room { result ≡ NO_ROOM → length buffer.old < written.new }
+    // With `NO_ROOM` there is a text of such a part that has the length written.
     ensures unheld { result ≡ NO_ROOM → (wanted : List ℕ) × IsSmallerWitness text.now wanted
         × (length wanted ≡ written.new) }
+    // The status is one of these five.
     ensures ends { (result ≡ LEGAL) ⊎ (result ≡ ILLEGAL) ⊎ (result ≡ REFUSED) ⊎ (result ≡ NO_MEMORY)
         ⊎ (result ≡ NO_ROOM) }
+    // With each status but `ILLEGAL` the buffer is as it was.
     ensures unwritten { ¬ (result ≡ ILLEGAL) → buffer.new ≡ buffer.old }
+    // With each status but `REFUSED` the refusal is as it was.
     ensures kept { ¬ (result ≡ REFUSED) → refusal.new ≡ refusal.old }
+    // With each status but `ILLEGAL` and `NO_ROOM` the length written is as it was.
     ensures uncounted { ¬ (result ≡ ILLEGAL) → ¬ (result ≡ NO_ROOM) → written.new ≡ written.old }
-    // Each text has its one status, but for the buffer and unless memory runs out.
+    // Bytes that give a book with a legal order have the status `LEGAL`, unless memory runs out.
     ensures legal_told { IsLegalGiven text.now → (result ≡ LEGAL) ⊎ (result ≡ NO_MEMORY) }
+    // Bytes that give a book without a legal order have the status `ILLEGAL` or `NO_ROOM`, unless
+    // memory runs out.
     ensures illegal_told { IsIllegalGiven text.now →
         (result ≡ ILLEGAL) ⊎ (result ≡ NO_ROOM) ⊎ (result ≡ NO_MEMORY) }
+    // Bytes that have a first fault have the status `REFUSED`, unless memory runs out.
     ensures fault_told { (fault : TextFault) → IsFirstGivenFault text.now fault →
         (result ≡ REFUSED) ⊎ (result ≡ NO_MEMORY) }
 {
@@ -75,19 +90,31 @@ pub extern "C" fn selfcheck_picture(
     written: &mut usize,
     refusal: &mut Refusal,
 ) -> u32
+    // With `DONE` the picture fits the buffer.
     ensures held { result ≡ DONE → written.new ≤ length buffer.new }
+    // With `DONE` the first `written` bytes of the buffer are a picture of the book that the bytes
+    // give.
     ensures shown { result ≡ DONE → IsPictureOf text.now (take written.new buffer.new) }
+    // With `REFUSED` the bytes give no book, and the refusal has the line and the number of their
+    // first fault.
     ensures refused { result ≡ REFUSED → IsGivenRefusal text.now refusal.new }
+    // With `NO_ROOM` the length written is greater than the buffer's.
     ensures no_room { result ≡ NO_ROOM → length buffer.old < written.new }
+    // With `NO_ROOM` there is a picture of the book that has the length written.
     ensures unheld { result ≡ NO_ROOM → (wanted : List ℕ) × IsPictureOf text.now wanted
         × (length wanted ≡ written.new) }
+    // The status is one of these four.
     ensures ends { (result ≡ DONE) ⊎ (result ≡ REFUSED) ⊎ (result ≡ NO_MEMORY) ⊎ (result ≡ NO_ROOM) }
+    // With each status but `DONE` the buffer is as it was.
     ensures unwritten { ¬ (result ≡ DONE) → buffer.new ≡ buffer.old }
+    // With each status but `REFUSED` the refusal is as it was.
     ensures kept { ¬ (result ≡ REFUSED) → refusal.new ≡ refusal.old }
+    // With each status but `DONE` and `NO_ROOM` the length written is as it was.
     ensures uncounted { ¬ (result ≡ DONE) → ¬ (result ≡ NO_ROOM) → written.new ≡ written.old }
-    // Each text has its one status, but for the buffer and unless memory runs out.
+    // Bytes that give a book have the status `DONE` or `NO_ROOM`, unless memory runs out.
     ensures drawn_told { (kind : Kind) (book : List Page) → IsGiven text.now kind book →
         (result ≡ DONE) ⊎ (result ≡ NO_ROOM) ⊎ (result ≡ NO_MEMORY) }
+    // Bytes that have a first fault have the status `REFUSED`, unless memory runs out.
     ensures fault_told { (fault : TextFault) → IsFirstGivenFault text.now fault →
         (result ≡ REFUSED) ⊎ (result ≡ NO_MEMORY) }
 {
