@@ -53,8 +53,11 @@ pub fn view_scans_have_phase()
 
 /// A scan of one caller takes 3 words at most, of two callers 8, and of sixteen 288.
 pub fn few_words_in_numbers()
+    // A scan of one caller takes 3 words at most.
     ensures one { most_words 1 ≡ 3 }
+    // A scan of two callers takes 8 words at most.
     ensures two { most_words 2 ≡ 8 }
+    // A scan of sixteen callers takes 288 words at most.
     ensures sixteen { most_words 16 ≡ 288 }
 {}
 

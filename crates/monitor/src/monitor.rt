@@ -151,23 +151,43 @@ impl<P: Program> Monitor<P> {
         standing: &mut Option<Standing>,
         steps: &mut Steps<L>,
     ) -> Result<Round, NoMemory>
+        // The monitor is one of these rows.
         requires rows { IsMonitorOf P.meaning rows.now self.old }
+        // The monitor is one of this board.
         requires board { IsOn board.now self.old }
+        // The monitor has no own witness.
         requires none { own_of self.old ≡ None }
+        // What is kept of an order stands in the book that the monitor keeps, for this object.
         requires stands { StandsIn (S.init object.now) (S.next object.now) (kept_by self.old) standing.old }
+        // The monitor is still one of these rows and of this board, with the same number.
         ensures later { IsLater P.meaning rows.now board.now self.old self.new }
+        // The monitor's caller has scanned M once.
         ensures scanned { HasScannedSome (local_of self.old) (local_of self.new) }
+        // A round is legal exactly with a book at the cut of its scan that has a legal order, and
+        // illegal exactly with one that has none and is the own witness.
         ensures found { IfOk result (HasFound (S.init object.now) (S.next object.now)
             rows.now.callers (local_of self.old) (local_of self.new) (own_of self.new)) }
+        // A monitor with an own witness knows the witness on the board, which is the one that it
+        // knew before, where it knew one.
         ensures known { IfSome (own_of self.new) (λ w. Knows (known_by self.old) (known_by self.new)) }
+        // The board took a copy of the own witness only where the monitor knew no witness before.
         ensures first { placed_by self.new ≡ true → known_by self.old ≡ None }
+        // After a legal round the monitor keeps its book, at the cut of its scan, and after an
+        // illegal one none.
         ensures kept { IfOk result (λ r. IsKeptAfter rows.now.callers r (kept_by self.new)) }
+        // What is kept of an order afterwards stands in the book that the monitor keeps then, for
+        // this object.
         ensures stands { StandsIn (S.init object.now) (S.next object.now) (kept_by self.new) standing.new }
+        // Without an own witness the monitor knows what it knew of the board.
         ensures unfound { own_of self.new ≡ None → (known_by self.new ≡ known_by self.old)
             × (placed_by self.new ≡ placed_by self.old) }
+        // After want of memory the monitor has no own witness.
         ensures err { OnErr result (own_of self.new ≡ None) }
+        // The counter of steps has risen by what the scan takes, and by the words of the round's
+        // book that the kept one lacks.
         ensures ticks { IfOk result (TicksForRound rows.now.callers (kept_by self.old) (kept_by self.new)
             (own_of self.new) steps.old steps.new) }
+        // The counter of steps isn't lower than before.
         ensures rise { steps.old ≤ steps.new }
     {
         let (found, before) = self.look(alloc, rows, standing.take(), steps)?;

@@ -8,7 +8,9 @@ ghost use Rattle.row_gather.specs.Words.{one_answered, words_of_book};
 /// calls is gathered at the cut that holds nothing, whatever was peeked.
 #[tactic(auto, using(crate::proofs::Kept::gathered_by_stays, crate::proofs::Beginning::empty_is_gathered))]
 pub fn gathered_books_stay()
+    // What a caller has gathered stays gathered while the caller peeks more.
     ensures stays { GatheredByStays }
+    // Each caller has gathered the book without calls, at the cut that holds nothing.
     ensures empty { EmptyIsGathered }
 {}
 
