@@ -36,8 +36,12 @@ pub fn draw_book(
     marks: &Marks,
     error: Option<Call>,
 ) -> Result<String, NoMemory>
+    // The picture shows each call of the book by one element on its caller's lane, with its class
+    // and its place.
     ensures calls { IfOk result (λ text.
         ShowsEachCall kind book.now marks.now (string_bytes text)) }
+    // The picture's first lines say whether the book is legal, whether calls are marked, and of
+    // which error line of a run the book is the witness.
     ensures says { IfOk result (λ text.
         SaysFirst (first_lines (is_legal verdict.now) marks.now error) (string_bytes text)) }
 {

@@ -8,7 +8,9 @@ ghost use Rattle.book_picture.specs.Values.{ArgumentsAreOfTheTable, EachValueApp
 
 /// The sizes: how many places a row has at most, and how many colours there are.
 pub fn sizes()
+    // A row has at most 24 places.
     ensures row { ROW_PLACES ≡ 24 }
+    // There are 8 colours.
     ensures colours { COLOURS ≡ 8 }
 {}
 

@@ -15,7 +15,11 @@ use std::alloc::Global;
 /// with: the witness behind the report of a run is the book at what that line saw. There is none where
 /// the input begins with no report's text, or with that of a report without an error.
 pub fn first_error(alloc: Global, bytes: &[u8]) -> Result<Option<Call>, NoMemory>
+    // The call is that of the first error line, by caller and then by number, of the report that
+    // the input begins with.
     ensures found { IfOk result (λ found. IfSome found (IsFirstErrorGiven bytes.now)) }
+    // Without a call the input begins with no report's text, or with that of a report without an
+    // error.
     ensures none { IfOk result (λ found.
         IfNone found ((call : Call) → ¬ (IsFirstErrorGiven bytes.now call))) }
 {

@@ -17,7 +17,9 @@ use std::alloc::Global;
 /// A text fault names the first line that is wrong, counted from the title of the book, and of its tests the first that
 /// it fails.
 pub fn picture_text(alloc: Global, bytes: &[u8]) -> Result<String, ReadFault>
+    // The text is a picture of the book that the bytes give.
     ensures shown { IfOk result (λ text. IsPictureOf bytes.now (string_bytes text)) }
+    // With a fault the bytes give no book, and this is their first fault; or memory ran out.
     ensures refused { IfErr result (IsNotGiven bytes.now) }
     // A given book is drawn, unless memory runs out.
     ensures drawn { (kind : Kind) (book : List Page) → IsGiven bytes.now kind book

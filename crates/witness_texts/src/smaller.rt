@@ -14,12 +14,16 @@ use std::alloc::Global;
 /// A text fault names the first line that is wrong, counted from the title of the book, and of its tests the first that
 /// it fails.
 pub fn smaller_text(alloc: Global, bytes: &[u8]) -> Result<Option<Vec<u8>>, ReadFault>
+    // Without a text the bytes give a book that has a legal order; a text is that of a part of the
+    // book that has no legal order and that no rule makes smaller.
     ensures smaller { IfOk result (λ found.
         MatchOption found (IsLegalGiven bytes.now) (λ text. IsSmallerWitness bytes.now text.items)) }
+    // With a fault the bytes give no book, and this is their first fault; or memory ran out.
     ensures refused { IfErr result (IsNotGiven bytes.now) }
-    // A given book is answered so, unless memory runs out.
+    // A given book with a legal order has no smaller text, unless memory runs out.
     ensures legal { IsLegalGiven bytes.now
         → MatchResult result IsNone (λ e. e ≡ ReadFault.NoMemory) }
+    // A given book without a legal order has a smaller text, unless memory runs out.
     ensures illegal { IsIllegalGiven bytes.now
         → MatchResult result IsSome (λ e. e ≡ ReadFault.NoMemory) }
     // Where the bytes have a first fault, the answer is that fault, unless memory runs out.
