@@ -53,61 +53,27 @@ containers : (kind : Kind) → holds_values kind ≡ true → IsContainer (readi
 containers kinds.Queue is = (queue_is_container queue_reading (kind_next kinds.Queue) queue_is, refl)
 containers kinds.Stack is = (stack_is_container stack_reading (kind_next kinds.Stack) stack_is, refl)
 containers kinds.Pqueue is = (pqueue_is, refl)
-containers kinds.Register is = absurd (false≢true is)
-containers kinds.Counter is = absurd (false≢true is)
-containers kinds.IntSet is = absurd (false≢true is)
-containers kinds.CasRegister is = absurd (false≢true is)
-containers kinds.Map is = absurd (false≢true is)
+containers _ is = absurd (false≢true is)
 
 only_queue : (kind : Kind) → is_queue kind ≡ true → kind ≡ kinds.Queue
 only_queue kinds.Queue is = refl
-only_queue kinds.Stack is = absurd (false≢true is)
-only_queue kinds.Pqueue is = absurd (false≢true is)
-only_queue kinds.Register is = absurd (false≢true is)
-only_queue kinds.Counter is = absurd (false≢true is)
-only_queue kinds.IntSet is = absurd (false≢true is)
-only_queue kinds.CasRegister is = absurd (false≢true is)
-only_queue kinds.Map is = absurd (false≢true is)
+only_queue _ is = absurd (false≢true is)
 
 only_stack : (kind : Kind) → is_stack kind ≡ true → kind ≡ kinds.Stack
-only_stack kinds.Queue is = absurd (false≢true is)
 only_stack kinds.Stack is = refl
-only_stack kinds.Pqueue is = absurd (false≢true is)
-only_stack kinds.Register is = absurd (false≢true is)
-only_stack kinds.Counter is = absurd (false≢true is)
-only_stack kinds.IntSet is = absurd (false≢true is)
-only_stack kinds.CasRegister is = absurd (false≢true is)
-only_stack kinds.Map is = absurd (false≢true is)
+only_stack _ is = absurd (false≢true is)
 
 only_pqueue : (kind : Kind) → is_pqueue kind ≡ true → kind ≡ kinds.Pqueue
-only_pqueue kinds.Queue is = absurd (false≢true is)
-only_pqueue kinds.Stack is = absurd (false≢true is)
 only_pqueue kinds.Pqueue is = refl
-only_pqueue kinds.Register is = absurd (false≢true is)
-only_pqueue kinds.Counter is = absurd (false≢true is)
-only_pqueue kinds.IntSet is = absurd (false≢true is)
-only_pqueue kinds.CasRegister is = absurd (false≢true is)
-only_pqueue kinds.Map is = absurd (false≢true is)
+only_pqueue _ is = absurd (false≢true is)
 
 only_counter : (kind : Kind) → is_counter kind ≡ true → kind ≡ kinds.Counter
-only_counter kinds.Queue is = absurd (false≢true is)
-only_counter kinds.Stack is = absurd (false≢true is)
-only_counter kinds.Pqueue is = absurd (false≢true is)
-only_counter kinds.Register is = absurd (false≢true is)
 only_counter kinds.Counter is = refl
-only_counter kinds.IntSet is = absurd (false≢true is)
-only_counter kinds.CasRegister is = absurd (false≢true is)
-only_counter kinds.Map is = absurd (false≢true is)
+only_counter _ is = absurd (false≢true is)
 
 only_register : (kind : Kind) → is_register kind ≡ true → kind ≡ kinds.Register
-only_register kinds.Queue is = absurd (false≢true is)
-only_register kinds.Stack is = absurd (false≢true is)
-only_register kinds.Pqueue is = absurd (false≢true is)
 only_register kinds.Register is = refl
-only_register kinds.Counter is = absurd (false≢true is)
-only_register kinds.IntSet is = absurd (false≢true is)
-only_register kinds.CasRegister is = absurd (false≢true is)
-only_register kinds.Map is = absurd (false≢true is)
+only_register _ is = absurd (false≢true is)
 
 -- ---- what the two calls did
 

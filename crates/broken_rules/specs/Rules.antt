@@ -22,61 +22,32 @@ abbrev pub holds_values : Kind → Bool
 holds_values kinds.Queue = true
 holds_values kinds.Stack = true
 holds_values kinds.Pqueue = true
-holds_values kinds.Register = false
-holds_values kinds.Counter = false
-holds_values kinds.IntSet = false
-holds_values kinds.CasRegister = false
-holds_values kinds.Map = false
+holds_values _ = false
 
+-- Whether a kind's objects are queues.
 abbrev pub is_queue : Kind → Bool
 is_queue kinds.Queue = true
-is_queue kinds.Stack = false
-is_queue kinds.Pqueue = false
-is_queue kinds.Register = false
-is_queue kinds.Counter = false
-is_queue kinds.IntSet = false
-is_queue kinds.CasRegister = false
-is_queue kinds.Map = false
+is_queue _ = false
 
+-- Whether a kind's objects are stacks.
 abbrev pub is_stack : Kind → Bool
-is_stack kinds.Queue = false
 is_stack kinds.Stack = true
-is_stack kinds.Pqueue = false
-is_stack kinds.Register = false
-is_stack kinds.Counter = false
-is_stack kinds.IntSet = false
-is_stack kinds.CasRegister = false
-is_stack kinds.Map = false
+is_stack _ = false
 
+-- Whether a kind's objects are priority queues.
 abbrev pub is_pqueue : Kind → Bool
-is_pqueue kinds.Queue = false
-is_pqueue kinds.Stack = false
 is_pqueue kinds.Pqueue = true
-is_pqueue kinds.Register = false
-is_pqueue kinds.Counter = false
-is_pqueue kinds.IntSet = false
-is_pqueue kinds.CasRegister = false
-is_pqueue kinds.Map = false
+is_pqueue _ = false
 
+-- Whether a kind's objects are counters.
 abbrev pub is_counter : Kind → Bool
-is_counter kinds.Queue = false
-is_counter kinds.Stack = false
-is_counter kinds.Pqueue = false
-is_counter kinds.Register = false
 is_counter kinds.Counter = true
-is_counter kinds.IntSet = false
-is_counter kinds.CasRegister = false
-is_counter kinds.Map = false
+is_counter _ = false
 
+-- Whether a kind's objects are registers.
 abbrev pub is_register : Kind → Bool
-is_register kinds.Queue = false
-is_register kinds.Stack = false
-is_register kinds.Pqueue = false
 is_register kinds.Register = true
-is_register kinds.Counter = false
-is_register kinds.IntSet = false
-is_register kinds.CasRegister = false
-is_register kinds.Map = false
+is_register _ = false
 
 -- Whether the objects of a kind keep a rule.
 abbrev pub keeps : Kind → Rule → Bool
@@ -117,27 +88,19 @@ fits rules.ReadOverwritten first second = is_put first && is_take second
 abbrev pub puts_demand : Rule → Demand
 puts_demand rules.TakenUnput = demands.OwnPutsFollow
 puts_demand rules.TakenTwice = demands.OnlyPut
-puts_demand rules.FoundNothing = demands.Nothing
 puts_demand rules.PassedOver = demands.OtherPutsFollow
 puts_demand rules.TakenFromUnder = demands.OtherPutsOutside
-puts_demand rules.LesserLeft = demands.Nothing
-puts_demand rules.CountedTwice = demands.Nothing
-puts_demand rules.CountedDown = demands.Nothing
 puts_demand rules.ReadUnwritten = demands.OwnPutsFollow
 puts_demand rules.ReadOverwritten = demands.OtherPutsOutside
+puts_demand _ = demands.Nothing
 
 -- What a rule asks of all calls that take.
 abbrev pub takes_demand : Rule → Demand
-takes_demand rules.TakenUnput = demands.Nothing
-takes_demand rules.TakenTwice = demands.Nothing
 takes_demand rules.FoundNothing = demands.TakesFollow
 takes_demand rules.PassedOver = demands.TakesFollow
 takes_demand rules.TakenFromUnder = demands.TakesFollow
 takes_demand rules.LesserLeft = demands.TakesFollow
-takes_demand rules.CountedTwice = demands.Nothing
-takes_demand rules.CountedDown = demands.Nothing
-takes_demand rules.ReadUnwritten = demands.Nothing
-takes_demand rules.ReadOverwritten = demands.Nothing
+takes_demand _ = demands.Nothing
 
 -- How the two calls of a rule are related.
 abbrev pub relation_of : Rule → Relation
