@@ -11,7 +11,7 @@ use Rattle.byte_streams.specs.declared.status.Status.TheVariants.{Fine, Found, R
 use Rattle.byte_streams.specs.Told.{HasRead}
 use Rattle.byte_streams.specs.Writing.{EndsWriting}
 use Rattle.text_fields.specs.declared.version.Version.TheVariants.{Second}
-use Rattle.text_refusals.specs.Refusal.{refusal_text}
+use Rattle.text_fields.specs.Refusal.{refusal_text}
 
 -- The input is refused for this fault: there are too many bytes, or else it is the first fault of the bytes as a book's text.
 abbrev pub IsRefusedFor : List ℕ → TextFault → Type 0

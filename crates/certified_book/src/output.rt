@@ -12,7 +12,7 @@ use book_base::{NoMemory, ReadFault, TextFault, What};
 use book_verdicts::certify;
 use byte_streams::{INPUT_LIMIT, Sink, Status, write_text};
 use std::alloc::Global;
-use text_refusals::refusal;
+use text_fields::refusal;
 
 /// A text, and the status behind it.
 #[derive(Drop)]

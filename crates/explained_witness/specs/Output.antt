@@ -16,7 +16,7 @@ use Rattle.byte_streams.specs.Writing.{EndsWriting}
 use Rattle.given_book.specs.Given.{IsGiven, IsFirstGivenFault}
 use Rattle.seq_objects.specs.declared.kind.Kind.{Kind}
 use Rattle.seq_objects.specs.Objects.{kind_init, kind_next}
-use Rattle.text_refusals.specs.Refusal.{refusal_text}
+use Rattle.text_fields.specs.Refusal.{refusal_text}
 
 -- the bytes give a book that breaks none of the rules
 pub record BreaksNone (bytes : List ℕ) : Type 0 where

@@ -12,7 +12,7 @@ use broken_rules::{broken_line, broken_rule};
 use byte_streams::{INPUT_LIMIT, Sink, Status, write_text};
 use given_book::read_given;
 use std::alloc::Global;
-use text_refusals::refusal;
+use text_fields::refusal;
 
 /// A text, and the status behind it.
 #[derive(Drop)]

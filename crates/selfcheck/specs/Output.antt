@@ -14,7 +14,7 @@ use Rattle.setbook_text.specs.SetBookRules.{IsFirstSetBookFault}
 use Rattle.sketch.specs.declared.event.Event.{Event}
 use Rattle.sketch.specs.Sketch.{IsSketch}
 use Rattle.text_fields.specs.Lines.{text_of}
-use Rattle.text_refusals.specs.Refusal.{refusal_text}
+use Rattle.text_fields.specs.Refusal.{refusal_text}
 use Rattle.text_fields.specs.declared.version.Version.TheVariants.{Second}
 use Rattle.selfcheck.specs.declared.command.Command.{Command}
 use Rattle.selfcheck.specs.declared.command.Command.TheVariants.{Verify, Sketch, Order, Upgrade, Sets, Run, Replay, Certify, Monitor, Soak}

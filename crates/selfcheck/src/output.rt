@@ -1,10 +1,10 @@
 ghost use Rattle.std.specs.Prelude.{◌≡◌, IfOk};
-ghost use Rattle.text_refusals.specs.Refusal.{refusal_text};
+ghost use Rattle.text_fields.specs.Refusal.{refusal_text};
 
 use book_base::{NoMemory, TextFault};
 use byte_streams::Status;
 use std::alloc::Global;
-use text_refusals::refusal;
+use text_fields::refusal;
 
 /// The output of a command: what the program writes, and the status that it then ends with.
 #[derive(Debug, Drop)]

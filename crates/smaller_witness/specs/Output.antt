@@ -9,7 +9,7 @@ use Rattle.byte_streams.specs.declared.status.Status.TheVariants.{Fine, Found, R
 use Rattle.byte_streams.specs.Told.{HasRead}
 use Rattle.byte_streams.specs.Writing.{EndsWriting}
 use Rattle.given_book.specs.Given.{IsFirstGivenFault}
-use Rattle.text_refusals.specs.Refusal.{refusal_text}
+use Rattle.text_fields.specs.Refusal.{refusal_text}
 use Rattle.witness_texts.specs.Texts.{IsLegalGiven, IsSmallerWitness}
 
 -- The input is refused for this fault: there are too many bytes, or else it is the first fault of the input.

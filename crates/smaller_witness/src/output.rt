@@ -11,7 +11,7 @@ ghost use Rattle.smaller_witness.specs.Output.{IsOutput, IsRefusedFor};
 use book_base::{NoMemory, ReadFault, TextFault, What};
 use byte_streams::{INPUT_LIMIT, Sink, Status, write_text};
 use std::alloc::Global;
-use text_refusals::refusal;
+use text_fields::refusal;
 use witness_texts::smaller_text;
 
 /// A text, and the status behind it.

@@ -5,3 +5,5 @@ pub mod Counts
 pub mod Operations
 pub mod Head
 pub mod OperationLaws
+pub mod FaultName
+pub mod Refusal

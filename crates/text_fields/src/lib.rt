@@ -1,20 +1,25 @@
-//! The fields of texts: lines, words, numbers, counts, cuts and heads, each read exactly and without memory.
+//! The fields of texts: lines, words, numbers, counts, cuts and heads, each read exactly and without memory; and what is
+//! written of a text that is refused.
 #![tactic(auto)]
 
 mod counts;
 mod cut_at;
+mod fault_name;
 mod head;
 mod lines;
 mod op_text;
 mod pairs;
+mod refused;
 mod version;
 mod words;
 
 pub use counts::{next_number, read_counts};
+pub use fault_name::name_of;
 pub use head::{Head, are_words, callers_of, calls_of, read_head, read_head_of, read_head1};
 pub use lines::Lines;
 pub use op_text::{KindWords, OpText};
 pub use pairs::read_pairs;
+pub use refused::refusal;
 pub use seq_objects::number;
 pub use version::Version;
 pub use words::Words;

@@ -11,7 +11,7 @@ use byte_streams::{
 };
 use std::alloc::Global;
 use std::process::ExitCode;
-use text_refusals::refusal;
+use text_fields::refusal;
 use witness_texts::picture_text;
 
 // The picture of the book that the bytes give.

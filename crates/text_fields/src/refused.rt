@@ -1,5 +1,5 @@
 ghost use Rattle.std.specs.Prelude.{◌≡◌, IfOk};
-ghost use Rattle.text_refusals.specs.Refusal.{refusal_text};
+ghost use Rattle.text_fields.specs.Refusal.{refusal_text};
 
 use crate::fault_name::name_of;
 use book_base::{NoMemory, TextFault};

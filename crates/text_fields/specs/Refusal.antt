@@ -1,7 +1,7 @@
 -- What is written of a text that is refused.
 use Rattle.std.specs.Prelude.{ℕ, List, ◌++◌, codes, decimal}
 use Rattle.book_base.specs.declared.fault.TextFault.{TextFault}
-use Rattle.text_refusals.specs.FaultName.{fault_name}
+use Rattle.text_fields.specs.FaultName.{fault_name}
 
 -- the line and the name of the fault
 unfoldable pub refusal_text : TextFault → List ℕ

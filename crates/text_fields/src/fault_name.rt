@@ -1,5 +1,5 @@
 ghost use Rattle.std.specs.Prelude.{◌≡◌};
-ghost use Rattle.text_refusals.specs.FaultName.{fault_name};
+ghost use Rattle.text_fields.specs.FaultName.{fault_name};
 
 use book_base::What;
 

@@ -1,2 +1,0 @@
-pub mod FaultName
-pub mod Refusal
