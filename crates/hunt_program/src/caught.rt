@@ -12,7 +12,7 @@ use book_picture::{Marks, draw_book};
 use book_writer::write_book;
 use frontier_check::Verdict;
 use hunts::Catch;
-use report_writer::report_text;
+use report_text::report_text;
 use seq_objects::Kind;
 use smaller_book::shrink;
 use std::alloc::Global;

@@ -5,8 +5,7 @@ use book_text::read_book;
 use book_writer::write_book;
 use certificate_text::{read_certificate, write_certificate};
 use client_scripts::{read_script, write_script};
-use report_text::read_report;
-use report_writer::report_text;
+use report_text::{read_report, report_text};
 use std::alloc::Global;
 
 /// A form of texts.

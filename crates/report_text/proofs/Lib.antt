@@ -16,3 +16,4 @@ pub mod Growing
 pub mod WrittenTexts
 pub mod FreshViews
 pub mod FaultTexts
+pub mod Endings

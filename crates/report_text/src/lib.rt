@@ -1,4 +1,4 @@
-//! The texts of reports: their reader, with the first fault of a text.
+//! The texts of reports: their reader, with the first fault of a text, and their writer, in version 2.
 #![tactic(auto)]
 
 mod draft;
@@ -7,6 +7,7 @@ mod laws;
 mod line;
 mod lines;
 mod reader;
+mod writer;
 
 pub use laws::{
     a_text_is_its_reports_lines, first_faults_leave_texts, no_fault_of_a_text,
@@ -14,3 +15,4 @@ pub use laws::{
 };
 pub use reader::read_report;
 pub use reports::{Own, Report};
+pub use writer::report_text;

@@ -12,7 +12,7 @@ use book_base::{NoMemory, SeqObject};
 use book_writer::write_book;
 use byte_streams::{Sink, Status, write_text};
 use report_certificates::report_certificate;
-use report_writer::report_text;
+use report_text::report_text;
 use reports::{Counts, Report};
 use seq_objects::put_number;
 use std::alloc::Global;

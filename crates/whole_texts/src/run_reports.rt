@@ -1,8 +1,7 @@
 //! Reports: what is written of one, its book and its witness, and texts that are none.
 use book_base::{ReadFault, TextFault, What};
 use book_writer::write_book;
-use report_text::read_report;
-use report_writer::report_text;
+use report_text::{read_report, report_text};
 use reports::cases::worked_report;
 use std::test::Fail;
 

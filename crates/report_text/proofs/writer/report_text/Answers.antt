@@ -7,8 +7,8 @@ use Rattle.text_fields.specs.Head.{head_lines}
 use Rattle.reports.specs.Findings.{sizes}
 use Rattle.reports.specs.Grammar.{IsWrittenText}
 use Rattle.report_text.proofs.WrittenTexts.{written_is_read}
-use Rattle.report_writer.proofs.Endings.{whole_written}
-use Rattle.report_writer.proofs.writer.report_text.Goals as goal
+use Rattle.report_text.proofs.Endings.{whole_written}
+use Rattle.report_text.proofs.writer.report_text.Goals as goal
 
 pub returns : goal.returns
 returns c =

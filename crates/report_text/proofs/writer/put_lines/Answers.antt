@@ -5,7 +5,7 @@ use Rattle.client_scripts.specs.Grammar.{by_number}
 use Rattle.client_scripts.proofs.Written.{part_more}
 use Rattle.call_lines.specs.declared.line.Line.{Line}
 use Rattle.reports.specs.Grammar.{caller_lines}
-use Rattle.report_writer.proofs.writer.put_lines.Goals as goal
+use Rattle.report_text.proofs.writer.put_lines.Goals as goal
 
 pub loop-caller-preserved : goal.loop-caller-preserved
 loop-caller-preserved c =

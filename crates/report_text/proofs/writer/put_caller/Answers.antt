@@ -9,7 +9,7 @@ use Rattle.client_scripts.proofs.Written.{part_more, one_line}
 use Rattle.call_lines.specs.declared.line.Line.{Line}
 use Rattle.call_lines.specs.Lines.{lines_at}
 use Rattle.reports.specs.Grammar.{call_line, line_words}
-use Rattle.report_writer.proofs.writer.put_caller.Goals as goal
+use Rattle.report_text.proofs.writer.put_caller.Goals as goal
 
 pub loop-number-preserved : goal.loop-number-preserved
 loop-number-preserved c =

@@ -7,8 +7,8 @@ use Rattle.book_writer.specs.Fields.{spaced}
 use Rattle.book_writer.proofs.Lines.{OnOk_then}
 use Rattle.call_lines.specs.declared.line.LineEnd.{LineEnd}
 use Rattle.reports.specs.Grammar.{ending_words}
-use Rattle.report_writer.proofs.Endings.{behind_answer, verdict_written}
-use Rattle.report_writer.proofs.writer.put_ending.Goals as goal
+use Rattle.report_text.proofs.Endings.{behind_answer, verdict_written}
+use Rattle.report_text.proofs.writer.put_ending.Goals as goal
 
 pub returns-in_ok-extend_from_slice-in-Unchecked : goal.returns-in_ok-extend_from_slice-in-Unchecked
 returns-in_ok-extend_from_slice-in-Unchecked c =
