@@ -4,7 +4,7 @@ use Rattle.std.specs.Prelude.{IfOk, IfErr, MatchResult}
 use Rattle.book_base.specs.declared.fault.TextFault.{TextFault}
 use Rattle.book_base.specs.declared.fault.ReadFault.{ReadFault}
 use Rattle.book_base.specs.declared.fault.ReadFault.TheVariants.{Text, NoMemory}
-use Rattle.book_verdicts.specs.Faults.{IsFaultOf}
+use Rattle.text_fields.specs.Faults.{IsFaultOf}
 
 -- what can be found in bytes that have no fault for it is found, where it is one thing
 pub only_answer : {V : Type 0} (IsFound : V → Type 0) (IsFirst : TextFault → Type 0) (result : Result V ReadFault) → IfOk result IsFound → IfErr result (IsFaultOf IsFirst)

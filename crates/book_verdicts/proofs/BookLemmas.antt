@@ -14,7 +14,7 @@ use Rattle.text_fields.specs.declared.version.Version.TheVariants.{Second}
 use Rattle.book_verdicts.specs.declared.book_verdict.BookVerdict.{BookVerdict}
 use Rattle.book_verdicts.specs.declared.book_verdict.BookVerdict.TheVariants.{Legal, Illegal}
 use Rattle.book_verdicts.specs.Books.{Tells, IsTextOfBook, IsLegalBook, IsIllegalBook, IsBookVerdict, Certifies}
-use Rattle.book_verdicts.specs.Faults.{IsFaultOf}
+use Rattle.text_fields.specs.Faults.{IsFaultOf}
 use Rattle.book_verdicts.proofs.Answers.{only_answer, first_answer}
 
 pub IsTextOfBook-from_told : (bytes : List ℕ) (kind : Kind) (book : List Page) → Tells bytes kind book → IsTextOfBook bytes

@@ -17,7 +17,7 @@ use Rattle.certificate_text.proofs.Readings.{one_certificate, one_fault, no_faul
 use Rattle.book_verdicts.specs.declared.order_verdict.OrderVerdict.{OrderVerdict}
 use Rattle.book_verdicts.specs.declared.order_verdict.OrderVerdict.TheVariants.{Legal, Faulty}
 use Rattle.book_verdicts.specs.Certificates.{IsTextOfCertificate, IsLegalCertificate, IsFaultyCertificate, IsOrderVerdict}
-use Rattle.book_verdicts.specs.Faults.{IsFaultOf}
+use Rattle.text_fields.specs.Faults.{IsFaultOf}
 use Rattle.book_verdicts.proofs.Answers.{only_answer, first_answer}
 
 pub IsTextOfCertificate-from_legal : (bytes : List ℕ) → IsLegalCertificate bytes → IsTextOfCertificate bytes

@@ -2,7 +2,7 @@ ghost use Rattle.std.specs.Prelude.{◌≡◌, ◌⊎◌, IfOk, IfErr, IsSome, I
 ghost use Rattle.book_base.specs.declared.fault.TextFault.{TextFault};
 ghost use Rattle.book_text.specs.BookRules.{IsFirstBookFault};
 ghost use Rattle.text_fields.specs.declared.version.Version.TheVariants.{Second};
-ghost use Rattle.book_verdicts.specs.Faults.{IsFaultOf};
+ghost use Rattle.text_fields.specs.Faults.{IsFaultOf};
 ghost use Rattle.book_verdicts.specs.Books.{Certifies, IsLegalBook, IsIllegalBook};
 
 use book_base::ReadFault;

@@ -1,7 +1,7 @@
 ghost use Rattle.std.specs.Prelude.{◌≡◌, ◌⊎◌, IfOk, IfErr, MatchResult};
 ghost use Rattle.book_base.specs.declared.fault.TextFault.{TextFault};
 ghost use Rattle.certificate_text.specs.CertificateRules.{IsFirstCertificateFault};
-ghost use Rattle.book_verdicts.specs.Faults.{IsFaultOf};
+ghost use Rattle.text_fields.specs.Faults.{IsFaultOf};
 ghost use Rattle.book_verdicts.specs.Certificates.{IsOrderVerdict};
 
 use book_base::ReadFault;

@@ -1,10 +1,12 @@
-//! What the program reads from and writes to, and the status that it ends with.
+//! What the program reads from and writes to, and the status that it ends with; and programs that read one input and
+//! write one output.
 #![tactic(auto)]
 
 mod failed;
 mod memory_sink;
 mod memory_source;
 mod pieces;
+mod program;
 mod sink;
 mod source;
 mod status;
@@ -16,6 +18,7 @@ mod transfer;
 pub use failed::{Failed, ReadAllError};
 pub use memory_sink::MemorySink;
 pub use memory_source::MemorySource;
+pub use program::{Answer, Program, run_program};
 pub use sink::Sink;
 pub use source::Source;
 pub use status::Status;

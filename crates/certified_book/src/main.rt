@@ -1,36 +1,40 @@
 //! The program: it reads a book, and writes a certificate of it, which anyone can check without a search.
 #![tactic(auto)]
 
-mod output;
+ghost use Rattle.book_text.specs.BookRules.{IsFirstBookFault};
+ghost use Rattle.book_verdicts.specs.Books.{Certifies};
+ghost use Rattle.certified_book.specs.Output.{SaysIllegal};
+ghost use Rattle.text_fields.specs.declared.version.Version.TheVariants.{Second};
 
-ghost use Rattle.std.specs.Prelude.{◌≡◌, ◌≤◌};
-ghost use Rattle.byte_streams.specs.Fault.{Rose};
-ghost use Rattle.certified_book.specs.Output.{Ends};
-
-use crate::output::{output_for, write_output};
-use byte_streams::{ReadAllError, Sink, Source, Status, StdSink, StdSource, read_all};
+use book_base::ReadFault;
+use book_verdicts::certify;
+use byte_streams::{Answer, Program, StdSink, StdSource, run_program};
 use std::alloc::Global;
 use std::process::ExitCode;
 
-// Reads the source, and writes a certificate of its book, that it has none, or why it is no book's text.
-fn answer<S: Source, K: Sink>(alloc: Global, source: &mut S, sink: &mut K) -> Status
-    ensures ends { Ends result (S.left source.old) (S.left source.new) (K.taken sink.old) (K.taken sink.new) }
-    ensures read_fault { result ≡ Status.ReadFault → Rose (S.faults source.old) (S.faults source.new) }
-    ensures write_fault { result ≡ Status.WriteFault → Rose (K.faults sink.old) (K.faults sink.new) }
-    ensures read_calm { ¬ (result ≡ Status.ReadFault) → S.faults source.new ≡ S.faults source.old }
-    ensures write_calm { ¬ (result ≡ Status.WriteFault) → K.faults sink.new ≡ K.faults sink.old }
-{
-    match read_all(alloc, source) {
-        Ok(bytes) => write_output(output_for(alloc, &bytes), &bytes, sink),
-        Err(ReadAllError::Fault) => Status::ReadFault,
-        Err(ReadAllError::NoMemory) => Status::NoMemory,
+/// Answers a certificate of the book that it reads, or that the book has none.
+#[derive(Clone, Copy)]
+struct Certifier;
+
+impl Program for Certifier {
+    ghost is_fine = { λ _ bytes text. Certifies bytes text };
+
+    ghost is_found = { λ _ bytes text. SaysIllegal bytes text };
+
+    ghost is_fault = { λ _ bytes fault. IsFirstBookFault Second bytes fault };
+
+    fn answer(&self, alloc: Global, bytes: &[u8]) -> Result<Answer, ReadFault> {
+        match certify(alloc, bytes)? {
+            Some(text) => Ok(Answer::Fine(text)),
+            None => Ok(Answer::Found(b"illegal\n".to_vec(alloc)?)),
+        }
     }
 }
 
 fn run<R: Input + Print + AllocGlobal>(rt: &R) -> u8 {
     let mut source = StdSource::new(rt);
     let mut sink = StdSink::new(rt);
-    answer(rt.alloc(), &mut source, &mut sink).code()
+    run_program(&Certifier, rt.alloc(), &mut source, &mut sink).code()
 }
 
 fn main(rt: HostRuntime) -> ExitCode {

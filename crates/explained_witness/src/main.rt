@@ -1,36 +1,40 @@
 //! The program: it reads a book, or the whole output of a run, and writes which rule of its kind the book breaks.
 #![tactic(auto)]
 
-mod output;
+ghost use Rattle.explained_witness.specs.Output.{IsExplained, SaysNoneBroken};
+ghost use Rattle.given_book.specs.Given.{IsFirstGivenFault};
 
-ghost use Rattle.std.specs.Prelude.{◌≡◌, ◌≤◌};
-ghost use Rattle.byte_streams.specs.Fault.{Rose};
-ghost use Rattle.explained_witness.specs.Output.{Ends};
-
-use crate::output::{output_for, write_output};
-use byte_streams::{ReadAllError, Sink, Source, Status, StdSink, StdSource, read_all};
+use book_base::ReadFault;
+use broken_rules::{broken_line, broken_rule};
+use byte_streams::{Answer, Program, StdSink, StdSource, run_program};
+use given_book::read_given;
 use std::alloc::Global;
 use std::process::ExitCode;
 
-// Reads the source, and writes the line of a broken rule, that none is broken, or why the input gives no book.
-fn answer<S: Source, K: Sink>(alloc: Global, source: &mut S, sink: &mut K) -> Status
-    ensures ends { Ends result (S.left source.old) (S.left source.new) (K.taken sink.old) (K.taken sink.new) }
-    ensures read_fault { result ≡ Status.ReadFault → Rose (S.faults source.old) (S.faults source.new) }
-    ensures write_fault { result ≡ Status.WriteFault → Rose (K.faults sink.old) (K.faults sink.new) }
-    ensures read_calm { ¬ (result ≡ Status.ReadFault) → S.faults source.new ≡ S.faults source.old }
-    ensures write_calm { ¬ (result ≡ Status.WriteFault) → K.faults sink.new ≡ K.faults sink.old }
-{
-    match read_all(alloc, source) {
-        Ok(bytes) => write_output(output_for(alloc, &bytes), &bytes, sink),
-        Err(ReadAllError::Fault) => Status::ReadFault,
-        Err(ReadAllError::NoMemory) => Status::NoMemory,
+/// Answers the line of a rule that the book that it reads breaks, or that the book breaks none.
+#[derive(Clone, Copy)]
+struct Explainer;
+
+impl Program for Explainer {
+    ghost is_fine = { λ _ bytes text. SaysNoneBroken bytes text };
+
+    ghost is_found = { λ _ bytes text. IsExplained bytes text };
+
+    ghost is_fault = { λ _ bytes fault. IsFirstGivenFault bytes fault };
+
+    fn answer(&self, alloc: Global, bytes: &[u8]) -> Result<Answer, ReadFault> {
+        let (kind, book) = read_given(alloc, bytes)?;
+        match broken_rule(kind, &book) {
+            Some(broken) => Ok(Answer::Found(broken_line(alloc, kind, &book, broken)?)),
+            None => Ok(Answer::Fine(b"no rule of these is broken\n".to_vec(alloc)?)),
+        }
     }
 }
 
 fn run<R: Input + Print + AllocGlobal>(rt: &R) -> u8 {
     let mut source = StdSource::new(rt);
     let mut sink = StdSink::new(rt);
-    answer(rt.alloc(), &mut source, &mut sink).code()
+    run_program(&Explainer, rt.alloc(), &mut source, &mut sink).code()
 }
 
 fn main(rt: HostRuntime) -> ExitCode {

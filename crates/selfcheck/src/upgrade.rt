@@ -6,7 +6,7 @@ ghost use Rattle.client_scripts.specs.ScriptRules.{IsFirstScriptFault};
 ghost use Rattle.text_fields.specs.declared.version.Version.TheVariants.{First};
 ghost use Rattle.byte_streams.specs.declared.TheConstants.{INPUT_LIMIT};
 ghost use Rattle.selfcheck.specs.Output.{IsOutputOf};
-ghost use Rattle.book_verdicts.specs.Faults.{IsFaultOf};
+ghost use Rattle.text_fields.specs.Faults.{IsFaultOf};
 ghost use Rattle.selfcheck.specs.Refusal.{IsReadFault};
 ghost use Rattle.selfcheck.specs.Upgrade.{BeginsAsScript, IsFirstOldFault, IsUpgradedScript, IsUpgradedBook, IsUpgraded};
 

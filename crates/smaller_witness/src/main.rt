@@ -1,36 +1,39 @@
 //! The program: it reads a book, or the whole output of a run, and writes a smaller book that is illegal still.
 #![tactic(auto)]
 
-mod output;
+ghost use Rattle.given_book.specs.Given.{IsFirstGivenFault};
+ghost use Rattle.smaller_witness.specs.Output.{SaysLegal};
+ghost use Rattle.witness_texts.specs.Texts.{IsSmallerWitness};
 
-ghost use Rattle.std.specs.Prelude.{◌≡◌, ◌≤◌};
-ghost use Rattle.byte_streams.specs.Fault.{Rose};
-ghost use Rattle.smaller_witness.specs.Output.{Ends};
-
-use crate::output::{output_for, write_output};
-use byte_streams::{ReadAllError, Sink, Source, Status, StdSink, StdSource, read_all};
+use book_base::ReadFault;
+use byte_streams::{Answer, Program, StdSink, StdSource, run_program};
 use std::alloc::Global;
 use std::process::ExitCode;
+use witness_texts::smaller_text;
 
-// Reads the source, and writes the smaller book, that there is none, or why the input gives no book.
-fn answer<S: Source, K: Sink>(alloc: Global, source: &mut S, sink: &mut K) -> Status
-    ensures ends { Ends result (S.left source.old) (S.left source.new) (K.taken sink.old) (K.taken sink.new) }
-    ensures read_fault { result ≡ Status.ReadFault → Rose (S.faults source.old) (S.faults source.new) }
-    ensures write_fault { result ≡ Status.WriteFault → Rose (K.faults sink.old) (K.faults sink.new) }
-    ensures read_calm { ¬ (result ≡ Status.ReadFault) → S.faults source.new ≡ S.faults source.old }
-    ensures write_calm { ¬ (result ≡ Status.WriteFault) → K.faults sink.new ≡ K.faults sink.old }
-{
-    match read_all(alloc, source) {
-        Ok(bytes) => write_output(output_for(alloc, &bytes), &bytes, sink),
-        Err(ReadAllError::Fault) => Status::ReadFault,
-        Err(ReadAllError::NoMemory) => Status::NoMemory,
+/// Answers a smaller book of the book that it reads, or that the book is legal.
+#[derive(Clone, Copy)]
+struct Shrinker;
+
+impl Program for Shrinker {
+    ghost is_fine = { λ _ bytes text. SaysLegal bytes text };
+
+    ghost is_found = { λ _ bytes text. IsSmallerWitness bytes text };
+
+    ghost is_fault = { λ _ bytes fault. IsFirstGivenFault bytes fault };
+
+    fn answer(&self, alloc: Global, bytes: &[u8]) -> Result<Answer, ReadFault> {
+        match smaller_text(alloc, bytes)? {
+            Some(text) => Ok(Answer::Found(text)),
+            None => Ok(Answer::Fine(b"legal\n".to_vec(alloc)?)),
+        }
     }
 }
 
 fn run<R: Input + Print + AllocGlobal>(rt: &R) -> u8 {
     let mut source = StdSource::new(rt);
     let mut sink = StdSink::new(rt);
-    answer(rt.alloc(), &mut source, &mut sink).code()
+    run_program(&Shrinker, rt.alloc(), &mut source, &mut sink).code()
 }
 
 fn main(rt: HostRuntime) -> ExitCode {

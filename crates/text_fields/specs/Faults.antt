@@ -86,6 +86,11 @@ pub record IsFirstFault {Due : Type 0} (rules : Rules Due) (due : Due) (text : U
   pub line : fault.line ≡ left.number
   pub wrong : IsWrong rules reached (rules.wanted reached) left.bytes fault.what
 
+-- A fault of the text is one of these.
+abbrev pub IsFaultOf : (TextFault → Type 0) → ReadFault → Type 0
+IsFaultOf IsOne (Text fault) = IsOne fault
+IsFaultOf IsOne NoMemory = Unit {0}
+
 -- A reader stops for want of memory, or with the first fault.
 abbrev pub StopsFor : {Due : Type 0} → Rules Due → Due → Unread → ReadFault → Type 0
 StopsFor rules due text NoMemory = Unit {0}

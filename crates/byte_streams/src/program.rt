@@ -1,0 +1,138 @@
+//! Programs that read one input, and write one output.
+
+ghost use Rattle.std.specs.Prelude.{◌≡◌, ℕ, ◌≤◌, List, length, IfOk, IfErr};
+ghost use Rattle.book_base.specs.declared.fault.TextFault.{TextFault};
+ghost use Rattle.text_fields.specs.Faults.{IsFaultOf};
+ghost use Rattle.byte_streams.specs.Fault.{Rose};
+ghost use Rattle.byte_streams.specs.Program.{IsAnswer, IsRefusedFor, IsOutput, Ends};
+ghost use Rattle.byte_streams.specs.Writing.{EndsWriting};
+
+use crate::INPUT_LIMIT;
+use crate::failed::ReadAllError;
+use crate::sink::Sink;
+use crate::source::Source;
+use crate::status::Status;
+use crate::transfer::{read_all, write_text};
+use book_base::{NoMemory, ReadFault, TextFault, What};
+use std::alloc::Global;
+use text_fields::refusal;
+
+/// What a program answers to an input that it doesn't refuse.
+#[derive(Drop)]
+pub enum Answer {
+    /// A text which says that nothing was found.
+    Fine(Vec<u8>),
+    /// A text which says what was found.
+    Found(Vec<u8>),
+}
+
+/// A program that reads one input, and writes one output.
+pub trait Program {
+    /// This text says of this input that nothing was found.
+    ghost is_fine: { Self → List ℕ → List ℕ → Type 0 };
+
+    /// This text says of this input what was found.
+    ghost is_found: { Self → List ℕ → List ℕ → Type 0 };
+
+    /// This input is refused for this fault.
+    ghost is_fault: { Self → List ℕ → TextFault → Type 0 };
+
+    /// What the program answers to an input.
+    fn answer(&self, alloc: Global, bytes: &[u8]) -> Result<Answer, ReadFault>
+        // An answer has a text that says of the input what was found, or that nothing was.
+        ensures told { IfOk result (IsAnswer (is_fine self.now bytes.now) (is_found self.now bytes.now)) }
+        // A refusal has a fault that the input is refused for, or says want of memory.
+        ensures refused { IfErr result (IsFaultOf (is_fault self.now bytes.now)) };
+}
+
+/// Reads a source, and writes a program's output: its answer with the status `Fine` or `Found`, or why the input is
+/// refused, as when it is longer than [`INPUT_LIMIT`].
+pub fn run_program<P: Program, S: Source, K: Sink>(
+    program: &P,
+    alloc: Global,
+    source: &mut S,
+    sink: &mut K,
+) -> Status
+    // The output of what was read is written with its status, or a prefix of it; or nothing was read, and nothing is
+    // written.
+    ensures ends { Ends (IsOutput (P.is_fine program.now) (P.is_found program.now) (P.is_fault program.now)) result
+        (S.left source.old) (S.left source.new) (K.taken sink.old) (K.taken sink.new) }
+    // `ReadFault` is answered only where the source's count of faults rose in this call.
+    ensures read_fault { result ≡ Status.ReadFault → Rose (S.faults source.old) (S.faults source.new) }
+    // `WriteFault` is answered only where the sink's count of faults rose in this call.
+    ensures write_fault { result ≡ Status.WriteFault → Rose (K.faults sink.old) (K.faults sink.new) }
+    // An answer other than `ReadFault` left the source's count of faults.
+    ensures read_calm { ¬ (result ≡ Status.ReadFault) → S.faults source.new ≡ S.faults source.old }
+    // An answer other than `WriteFault` left the sink's count of faults.
+    ensures write_calm { ¬ (result ≡ Status.WriteFault) → K.faults sink.new ≡ K.faults sink.old }
+{
+    match read_all(alloc, source) {
+        Ok(bytes) => write_output(program, alloc, &bytes, sink),
+        Err(ReadAllError::Fault) => Status::ReadFault,
+        Err(ReadAllError::NoMemory) => Status::NoMemory,
+    }
+}
+
+// Writes the output for the bytes read, where there is memory for it.
+fn write_output<P: Program, K: Sink>(
+    program: &P,
+    alloc: Global,
+    bytes: &[u8],
+    sink: &mut K,
+) -> Status
+    ensures ends { EndsWriting
+        (IsOutput (P.is_fine program.now) (P.is_found program.now) (P.is_fault program.now) bytes.now) result
+        (K.taken sink.old) (K.taken sink.new) }
+    ensures fault { result ≡ Status.WriteFault → Rose (K.faults sink.old) (K.faults sink.new) }
+    ensures calm { ¬ (result ≡ Status.WriteFault) → K.faults sink.new ≡ K.faults sink.old }
+{
+    match output_for(program, alloc, bytes) {
+        Ok(output) => write_text(sink, output.status, &output.text),
+        Err(NoMemory) => Status::NoMemory,
+    }
+}
+
+// A text, and the status that the program ends with once it is written.
+#[derive(Drop)]
+struct Output {
+    status: Status,
+    text: Vec<u8>,
+}
+
+// The output for the bytes read.
+fn output_for<P: Program>(program: &P, alloc: Global, bytes: &[u8]) -> Result<Output, NoMemory>
+    ensures { IfOk result (λ output.
+        IsOutput (P.is_fine program.now) (P.is_found program.now) (P.is_fault program.now) bytes.now
+        output.status output.text.items) }
+{
+    match answer_within(program, alloc, bytes) {
+        Ok(Answer::Fine(text)) => Ok(Output {
+            status: Status::Fine,
+            text,
+        }),
+        Ok(Answer::Found(text)) => Ok(Output {
+            status: Status::Found,
+            text,
+        }),
+        Err(ReadFault::Text(fault)) => Ok(Output {
+            status: Status::Refused,
+            text: refusal(alloc, fault)?,
+        }),
+        Err(ReadFault::NoMemory) => Err(NoMemory),
+    }
+}
+
+// The answer to an input that isn't too long.
+fn answer_within<P: Program>(program: &P, alloc: Global, bytes: &[u8]) -> Result<Answer, ReadFault>
+    ensures short { IfOk result (λ _. length bytes.now ≤ INPUT_LIMIT) }
+    ensures told { IfOk result (IsAnswer (P.is_fine program.now bytes.now) (P.is_found program.now bytes.now)) }
+    ensures refused { IfErr result (IsFaultOf (IsRefusedFor (P.is_fault program.now) bytes.now)) }
+{
+    if bytes.len() > INPUT_LIMIT {
+        return Err(ReadFault::Text(TextFault {
+            line: 0,
+            what: What::Long,
+        }));
+    }
+    program.answer(alloc, bytes)
+}
