@@ -4,3 +4,4 @@ pub mod Telling
 pub mod Equipping
 pub mod Forming
 pub mod Counting
+pub mod Together

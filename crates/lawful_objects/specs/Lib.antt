@@ -5,3 +5,4 @@ pub mod Passes
 pub mod Equipment
 pub mod Forms
 pub mod WordObjects
+pub mod Together

@@ -3,6 +3,7 @@
 ghost use Rattle.lawful_objects.specs.Replays.{LastReplyIsNext};
 ghost use Rattle.lawful_objects.specs.Pairs.{PairsHaveTheCalls};
 ghost use Rattle.lawful_objects.specs.Forms.{TalliesAreFormed, CellsAreFormed, TalliesCount, CellsHoldTheLast};
+ghost use Rattle.lawful_objects.specs.Together.{TalliesAreCounted, CellsAreRead};
 
 /// The reply to the last operation of a log is the object's at the list that the operations before it leave.
 #[tactic(auto, using(crate::proofs::Replaying::last_reply_is_next))]
@@ -34,4 +35,12 @@ pub fn words_are_of_histories()
     ensures tallies { TalliesCount }
     // The word of a cell is the last one stored.
     ensures cells { CellsHoldTheLast }
+{}
+
+/// What each access of a tally's history, and of a cell's, found.
+pub fn accesses_find_what_was_left()
+    // Each increment of a tally found the number of increments before it, modulo 2^64.
+    ensures tallies { TalliesAreCounted }
+    // Each load of a cell found the last word stored before it, or 0 where there is none.
+    ensures cells { CellsAreRead }
 {}

@@ -2,8 +2,10 @@ ghost use Rattle.std.specs.Prelude.{◌≡◌, ◌+◌, ◌<◌, ◌≤◌, ◌+
 ghost use Rattle.std.specs.List.{range_with_len};
 ghost use Rattle.book_base.specs.declared.TheConstants.{MAX_CALLERS, MAX_CALLS};
 ghost use mathlib.Core.List.{IsPrefix};
+ghost use Rattle.shared_words.specs.Histories.{Access};
 ghost use Rattle.shared_words.specs.Passes.{count_of};
 ghost use Rattle.lawful_objects.specs.Forms.{increment, IsCounted, tally_may, IsTallied, IsTallyReply};
+ghost use Rattle.lawful_objects.specs.Together.{TellOneTally};
 
 use book_base::{BAD, MAX_CALLERS, MAX_CALLS, NoMemory, OpWord};
 use drv_wrapper::{Announced, BlackBox};
@@ -95,6 +97,23 @@ impl Tally {
         let reply = self.reply(&mut pass.seat, op);
         pass.note(op, reply);
         reply
+    }
+
+    /// Takes the passes of all callers back, in order, and lets the tally go. It takes no memory.
+    pub fn close(self, passes: Vec<WordsPass>)
+        // The passes are those of all callers, in order.
+        requires callers { map caller_of_pass passes.items
+            ≡ range_with_len 0 (callers_of self.word) }
+        // Each pass is one of this tally.
+        requires own { All (IsTallyPass self) passes.items }
+        // The passes tell one history of increments. The history has as many increments as the
+        // passes tell, each found the number of those before it, and the word is left as their
+        // number, modulo 2^64.
+        ensures history { (history : List Access)
+            × TellOneTally (callers_of self.word) history passes.items }
+    {
+        let Tally { word } = self;
+        word.close(passes);
     }
 }
 

@@ -2,8 +2,10 @@ ghost use Rattle.std.specs.Prelude.{◌≡◌, ◌+◌, ◌<◌, ◌≤◌, ◌+
 ghost use Rattle.std.specs.List.{range_with_len};
 ghost use Rattle.book_base.specs.declared.TheConstants.{MAX_CALLERS, MAX_CALLS};
 ghost use mathlib.Core.List.{IsPrefix};
+ghost use Rattle.shared_words.specs.Histories.{Access};
 ghost use Rattle.shared_words.specs.Passes.{count_of};
 ghost use Rattle.lawful_objects.specs.Forms.{read, IsLastRead, cell_may, IsKept, IsCellReply};
+ghost use Rattle.lawful_objects.specs.Together.{TellOneCell};
 
 use book_base::{BAD, MAX_CALLERS, MAX_CALLS, NoMemory, OpWord};
 use drv_wrapper::{Announced, BlackBox};
@@ -100,6 +102,22 @@ impl WordCell {
         let reply = self.reply(&mut pass.seat, op);
         pass.note(op, reply);
         reply
+    }
+
+    /// Takes the passes of all callers back, in order, and lets the cell go. It takes no memory.
+    pub fn close(self, passes: Vec<WordsPass>)
+        // The passes are those of all callers, in order.
+        requires callers { map caller_of_pass passes.items
+            ≡ range_with_len 0 (callers_of self.word) }
+        // Each pass is one of this cell.
+        requires own { All (IsCellPass self) passes.items }
+        // The passes tell one history of stores and loads. Each load found what the last store
+        // before it stored, and the word is left as the last one stored.
+        ensures history { (history : List Access)
+            × TellOneCell (callers_of self.word) history passes.items }
+    {
+        let WordCell { word } = self;
+        word.close(passes);
     }
 }
 
