@@ -1,3 +1,4 @@
 pub mod Naming
 pub mod Forming
 pub mod Raising
+pub mod Together

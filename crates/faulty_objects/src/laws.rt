@@ -1,5 +1,6 @@
 //! The forms of the replies of all calls of a pass, and what the last step of a call tells.
 ghost use Rattle.faulty_objects.specs.Forms.{SplitsAreFormed, OnePassesAreFormed, MeetingsAreFormed, LastLoadsTellReplies, FlagsAreRaised};
+ghost use Rattle.faulty_objects.specs.Together.{QueuesGivePlacesInOrder, QueuesGiveWhatWasPut, MeetingsFindRaisedFlags};
 
 /// The replies of a split tally have the form of a tally's.
 #[tactic(auto, using(crate::proofs::Forming::splits_are_formed))]
@@ -28,4 +29,18 @@ pub fn last_loads_tell_replies()
 #[tactic(auto, using(crate::proofs::Raising::flags_are_raised))]
 pub fn flags_are_raised()
     ensures { FlagsAreRaised }
+{}
+
+/// What the accesses of a one-pass queue found.
+pub fn takes_take_what_was_put()
+    // Each addition to the counter found the number of additions before it, modulo 2^64.
+    ensures places { QueuesGivePlacesInOrder }
+    // Each exchange that found an item took one that a store had put into this place, and that no
+    // access had taken since.
+    ensures items { QueuesGiveWhatWasPut }
+{}
+
+/// A load at a meeting finds a flag up only after its caller has raised it.
+pub fn loads_find_raised_flags()
+    ensures { MeetingsFindRaisedFlags }
 {}

@@ -3,9 +3,11 @@ ghost use Rattle.std.specs.List.{range_with_len};
 ghost use Rattle.std.specs.Bool.{OnTrue, OnFalse};
 ghost use Rattle.book_base.specs.declared.TheConstants.{MAX_CALLS};
 ghost use mathlib.Core.List.{IsPrefix};
+ghost use Rattle.shared_words.specs.Histories.{Access};
 ghost use Rattle.shared_words.specs.Passes.{callers_of, cap_of, count_of};
 ghost use Rattle.seq_objects.specs.Replies.{reply_done};
 ghost use Rattle.faulty_objects.specs.Forms.{most_loads, other_caller, meeting_may, HasRaised, IsSeen, IsMissed, IsMeeting, IsMeetingReply};
+ghost use Rattle.faulty_objects.specs.Together.{TellOneMeeting};
 
 use book_base::{BAD, MAX_CALLS, NoMemory, OpWord};
 use drv_wrapper::{Announced, BlackBox};
@@ -129,6 +131,22 @@ impl Meeting {
         let reply = self.reply(&mut pass.seat);
         pass.note(op, reply);
         reply
+    }
+
+    /// Takes the passes of all callers back, in order, and lets the meeting go. It takes no memory.
+    pub fn close(self, passes: Vec<WordsPass>)
+        // The passes are those of all callers, in order.
+        requires callers { map caller_of_pass passes.items
+            ≡ range_with_len 0 (callers_of self.words) }
+        // Each pass is one of this meeting.
+        requires own { All (IsMeetingPass self) passes.items }
+        // The passes tell one history, in which a flag is found up only after its caller has raised
+        // it.
+        ensures history { (history : List Access)
+            × TellOneMeeting (callers_of self.words) history passes.items }
+    {
+        let Meeting { words } = self;
+        words.close(passes);
     }
 }
 

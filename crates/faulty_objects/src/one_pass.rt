@@ -2,8 +2,10 @@ ghost use Rattle.std.specs.Prelude.{◌≡◌, ◌+◌, ◌*◌, ◌<◌, ◌≤
 ghost use Rattle.std.specs.List.{range_with_len};
 ghost use Rattle.book_base.specs.declared.TheConstants.{MAX_CALLERS, MAX_CALLS};
 ghost use mathlib.Core.List.{IsPrefix};
+ghost use Rattle.shared_words.specs.Histories.{Access};
 ghost use Rattle.shared_words.specs.Passes.{callers_of, cap_of, count_of};
-ghost use Rattle.faulty_objects.specs.Forms.{queue_may, IsEnqueued, IsDequeued, IsOnePass, IsQueueReply};
+ghost use Rattle.faulty_objects.specs.Forms.{dequeue, queue_may, IsEnqueued, IsDequeued, IsOnePass, IsQueueReply};
+ghost use Rattle.faulty_objects.specs.Together.{TellOneQueue, IsNoneOrGiven};
 
 use book_base::{BAD, MAX_CALLERS, MAX_CALLS, NoMemory, OpWord};
 use drv_wrapper::{Announced, BlackBox};
@@ -92,6 +94,7 @@ impl OnePass {
         ensures caller { caller_of_seat seat.new ≡ caller_of_seat seat.old }
         ensures call { IsDequeued (callers_of self.now.words * cap_of self.now.words) result (deeds_of seat.old) (deeds_of seat.new) }
         ensures history { IsPrefix (history_of seat.old) (history_of seat.new) }
+        ensures given { IsNoneOrGiven (caller_of_seat seat.old) result (history_of seat.new) }
     {
         let counter = self.words.load(seat, 0);
         for place in 0..counter.min(self.places()) as usize {
@@ -110,6 +113,8 @@ impl OnePass {
         ensures caller { caller_of_seat seat.new ≡ caller_of_seat seat.old }
         ensures call { IsOnePass (callers_of self.now.words * cap_of self.now.words) op result (deeds_of seat.old) (deeds_of seat.new) }
         ensures history { IsPrefix (history_of seat.old) (history_of seat.new) }
+        ensures given { op ≡ dequeue
+            → IsNoneOrGiven (caller_of_seat seat.old) result (history_of seat.new) }
     {
         if op == DEQUEUE {
             return self.dequeue(seat);
@@ -138,10 +143,32 @@ impl OnePass {
         // The reply is done exactly to an enqueue, a value or none exactly to the dequeue, and else
         // `bad`.
         ensures form { IsQueueReply op result }
+        // The reply to a dequeue is none, or gives the item that its last access took, which a
+        // store had put into this place, and nobody had taken since.
+        ensures given { op ≡ dequeue
+            → IsNoneOrGiven (caller_of_pass pass.old) result (history_in pass.new) }
     {
         let reply = self.reply(&mut pass.seat, op);
         pass.note(op, reply);
         reply
+    }
+
+    /// Takes the passes of all callers back, in order, and lets the queue go. It takes no memory.
+    pub fn close(self, passes: Vec<WordsPass>)
+        // The passes are those of all callers, in order.
+        requires callers { map caller_of_pass passes.items
+            ≡ range_with_len 0 (callers_of self.words) }
+        // Each pass is one of this queue.
+        requires own { All (IsQueuePass self) passes.items }
+        // The passes tell one history. Its additions to the counter found 0, 1 and so on, so that
+        // the places are given in order, and each item that an exchange found had been put into
+        // this place and not taken since.
+        ensures history { (history : List Access)
+            × TellOneQueue (callers_of self.words * cap_of self.words) (callers_of self.words)
+            history passes.items }
+    {
+        let OnePass { words } = self;
+        words.close(passes);
     }
 }
 

@@ -2,9 +2,11 @@ ghost use Rattle.std.specs.Prelude.{◌≡◌, ◌+◌, ◌<◌, ◌≤◌, ◌+
 ghost use Rattle.std.specs.List.{range_with_len};
 ghost use Rattle.book_base.specs.declared.TheConstants.{MAX_CALLERS, MAX_CALLS};
 ghost use mathlib.Core.List.{IsPrefix};
+ghost use Rattle.shared_words.specs.Histories.{Access};
 ghost use Rattle.shared_words.specs.Passes.{callers_of, cap_of, count_of};
 ghost use Rattle.lawful_objects.specs.Forms.{increment, cell_may, IsTallyReply};
 ghost use Rattle.faulty_objects.specs.Forms.{IsSplit, IsTorn};
+ghost use Rattle.faulty_objects.specs.Together.{TellOneSplit};
 
 use book_base::{BAD, MAX_CALLERS, MAX_CALLS, NoMemory, OpWord};
 use drv_wrapper::{Announced, BlackBox};
@@ -91,6 +93,22 @@ impl SplitTally {
         let reply = self.reply(&mut pass.seat, op);
         pass.note(op, reply);
         reply
+    }
+
+    /// Takes the passes of all callers back, in order, and lets the tally go. It takes no memory.
+    pub fn close(self, passes: Vec<WordsPass>)
+        // The passes are those of all callers, in order.
+        requires callers { map caller_of_pass passes.items
+            ≡ range_with_len 0 (callers_of self.words) }
+        // Each pass is one of this tally.
+        requires own { All (IsSplitPass self) passes.items }
+        // The passes tell one history of loads and stores, of which each load found what the last
+        // store before it stored.
+        ensures history { (history : List Access)
+            × TellOneSplit (callers_of self.words) history passes.items }
+    {
+        let SplitTally { words } = self;
+        words.close(passes);
     }
 }
 

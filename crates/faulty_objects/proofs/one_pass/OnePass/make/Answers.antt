@@ -3,6 +3,7 @@ use mathlib.Core.List.{IsPrefix}
 use Rattle.shared_words.specs.Passes.{callers_of, cap_of, history_of}
 use Rattle.shared_words.proofs.Calling.{called}
 use Rattle.faulty_objects.specs.Forms.{queue_may, IsOnePass}
+use Rattle.faulty_objects.specs.Together.{IsNoneOrGiven}
 use Rattle.faulty_objects.proofs.Forming.{one_pass_form}
 use Rattle.faulty_objects.proofs.one_pass.OnePass.make.Goals as goal
 
@@ -28,3 +29,6 @@ returns-clause-history c = subst (λ s. IsPrefix (history_of c.args.pass.now.sea
 
 pub returns-clause-form : goal.returns-clause-form
 returns-clause-form c = one_pass_form _ _ _ _ _ c.reply-reply.ensures.call
+
+pub returns-clause-given : goal.returns-clause-given
+returns-clause-given c is = subst (λ s. IsNoneOrGiven c.args.pass.now.seat.who c.reply-reply.result (history_of s)) (sym c.note.ensures.seat) (c.reply-reply.ensures.given is)

@@ -1,0 +1,82 @@
+-- What the passes of all callers of each object tell together.
+use Rattle.std.specs.Prelude.{◌≡◌, ◌≢◌, ℕ, ◌-◌, ◌%◌, ◌^◌, ◌⊎◌, Bool, true, false, List, [], ◌∷◌, ◌++◌, All, count_by}
+use Rattle.seq_objects.specs.Replies.{reply_none, reply_value}
+use Rattle.lawful_objects.specs.Forms.{cell_may}
+use Rattle.lawful_objects.specs.Together.{LoadsFindTheLast}
+use Rattle.shared_words.specs.declared.words_pass.WordsPass.{WordsPass}
+use Rattle.shared_words.specs.Deeds.{Deed, Added, Stored, Loaded, Swapped, place_of}
+use Rattle.shared_words.specs.Histories.{Access, access, IsLawful}
+use Rattle.shared_words.specs.Passes.{AreOfOneHistory}
+use Rattle.faulty_objects.specs.Forms.{IsSplit, queue_may, item_index, IsOnePass, up, meeting_may, HasRaised, IsMeeting}
+
+-- The passes of n callers of a split tally tell one history of loads and stores. Each load found what the last store before it
+-- stored.
+pub record TellOneSplit (n : ℕ) (history : List Access) (passes : List WordsPass) : Type 0 where
+  pub told : AreOfOneHistory cell_may (λ _. IsSplit) n history passes
+  pub found : LoadsFindTheLast history
+
+-- The deed is an addition.
+abbrev pub is_addition : Deed → Bool
+is_addition (Added place amount found) = true
+is_addition (Stored place word) = false
+is_addition (Loaded place found) = false
+is_addition (Swapped place word found) = false
+
+-- Each addition to the counter found the number of additions before it, modulo 2^64: so the places are given in order, each once.
+abbrev pub PlacesAreInOrder : List Access → Type 0
+PlacesAreInOrder history = (before rest : List Access) (who found : ℕ) → history ≡ before ++ access who (Added 0 1 found) ∷ rest
+    → found ≡ count_by (λ a. is_addition a.deed) before % 2 ^ 64
+
+-- A word is in an item's place after a history: a store put it there, and no access to this place comes after that store.
+pub record IsPutAt (place word : ℕ) (history : List Access) : Type 0 where
+  pub before : List Access
+  pub who : ℕ
+  pub later : List Access
+  pub put : history ≡ before ++ access who (Stored (item_index place) word) ∷ later
+  pub left : All (λ a. place_of a.deed ≢ item_index place) later
+
+-- Each exchange that found an item took one that a store had put into this place, and that no access had taken since.
+abbrev pub TakesTakeWhatWasPut : List Access → Type 0
+TakesTakeWhatWasPut history = (before rest : List Access) (who place found : ℕ)
+    → history ≡ before ++ access who (Swapped (item_index place) 0 found) ∷ rest → found ≢ 0 → IsPutAt place found before
+
+-- A history that ends with an exchange of a caller which took what was put, and the reply gives it.
+pub record IsGiven (who reply : ℕ) (history : List Access) : Type 0 where
+  pub before : List Access
+  pub place : ℕ
+  pub word : ℕ
+  pub put : IsPutAt place word before
+  pub ends : history ≡ before ++ access who (Swapped (item_index place) 0 word) ∷ []
+  pub told : reply ≡ reply_value (word - 1)
+
+-- The reply to a dequeue is none, or gives what was put.
+abbrev pub IsNoneOrGiven : ℕ → ℕ → List Access → Type 0
+IsNoneOrGiven who reply history = (reply ≡ reply_none) ⊎ IsGiven who reply history
+
+-- The passes of n callers of a one-pass queue with so many places tell one history. Its places are given in order, and what is
+-- taken was put.
+pub record TellOneQueue (places n : ℕ) (history : List Access) (passes : List WordsPass) : Type 0 where
+  pub told : AreOfOneHistory queue_may (λ _. IsOnePass places) n history passes
+  pub in_order : PlacesAreInOrder history
+  pub taken : TakesTakeWhatWasPut history
+
+-- Each load that found a flag up comes after its caller has raised it.
+abbrev pub LoadsFindRaisedFlags : List Access → Type 0
+LoadsFindRaisedFlags history = (before rest : List Access) (who flag : ℕ)
+    → history ≡ before ++ access who (Loaded flag up) ∷ rest → HasRaised flag before
+
+-- The passes of n callers of a meeting tell one history. A flag is found up only after its caller has raised it.
+pub record TellOneMeeting (n : ℕ) (history : List Access) (passes : List WordsPass) : Type 0 where
+  pub told : AreOfOneHistory meeting_may (λ caller _. IsMeeting caller) n history passes
+  pub raised : LoadsFindRaisedFlags history
+
+-- In the history of a one-pass queue the places are given in order, and what is taken was put.
+abbrev pub QueuesGivePlacesInOrder : Type 0
+QueuesGivePlacesInOrder = (history : List Access) → IsLawful queue_may history → PlacesAreInOrder history
+
+abbrev pub QueuesGiveWhatWasPut : Type 0
+QueuesGiveWhatWasPut = (history : List Access) → IsLawful queue_may history → TakesTakeWhatWasPut history
+
+-- In the history of a meeting a load finds a flag up only after its caller has raised it.
+abbrev pub MeetingsFindRaisedFlags : Type 0
+MeetingsFindRaisedFlags = (history : List Access) → IsLawful meeting_may history → LoadsFindRaisedFlags history
