@@ -4,4 +4,5 @@ pub mod Writing
 pub mod Standing
 pub mod Ordering
 pub mod Covering
+pub mod Taking
 pub mod Rising

@@ -5,9 +5,8 @@ use Rattle.std.proofs.lemmas.Bool.{cases_Bool, cases_eq, cond-true, cond-false, 
 use Rattle.std.proofs.lemmas.Option.{same_Some}
 use Rattle.book_base.specs.Sequential.{IsRunFrom}
 use Rattle.book_base.specs.Foresight.{list_after_run}
-use Rattle.history_rules.specs.Container.{Puts, Takes, Neither, value_put, put_by, taken_by, one_if, times, GivesOne, IsContainer}
-use Rattle.history_rules.proofs.Counting.{times-shown, times-apart}
-use Rattle.history_rules.proofs.Runs.{holds_what_was_put}
+use Rattle.history_rules.specs.Container.{Puts, Takes, Neither, value_put, one_if, times, GivesOne, IsContainer}
+use Rattle.history_rules.proofs.Counting.{times-apart}
 use Rattle.seq_objects.specs.declared.kind.Kind.TheVariants.{Pqueue}
 use Rattle.seq_objects.specs.Words as words
 use Rattle.seq_objects.specs.Words.{is_operation_of, argument_of}
@@ -17,8 +16,9 @@ use Rattle.seq_objects.specs.PqueueSteps.{pqueue_operation, pqueue_after}
 use Rattle.seq_objects.specs.Readings.{value_of, shown_value}
 use Rattle.seq_objects.specs.Objects.{kind_next}
 use Rattle.object_laws.specs.Runs.{AreDone}
-use Rattle.object_laws.specs.Removals.{put_in, given_out, pqueue_deed, pqueue_reading, GivesTheLeast, MinsGiveTheLeast, ComesOutAtMostAsOften}
+use Rattle.object_laws.specs.Removals.{put_in, given_out, pqueue_deed, pqueue_reading, GivesTheLeast, MinsGiveTheLeast, ComesOutAtMostAsOften, TakesTakeWhatWasPut}
 use Rattle.object_laws.proofs.Stepping.{replied, runs_before, apart, shown_item}
+use Rattle.object_laws.proofs.Taking.{held, takes}
 
 abbrev next : List ℕ → ℕ → List ℕ × ℕ
 next list word = pqueue_after list (pqueue_operation word)
@@ -215,8 +215,7 @@ least_value x (y ∷ ys) above small w some =
 -- what was put in more often than given out is in the list
 often : (steps : List (ℕ × ℕ)) → IsRunFrom next [] steps → (w : ℕ)
     → times w (put_in pqueue_reading steps) ≡ times w (given_out pqueue_reading steps) + times w (map value_of (list_after_run next [] steps))
-often steps run w =
-    omega (arith, holds_what_was_put pqueue_reading next container w [] steps run, times-shown (put_by pqueue_reading) w steps, times-shown (taken_by pqueue_reading) w steps)
+often steps run w = held pqueue_reading next container [] refl steps run w
 
 first_is_least : (before : List (ℕ × ℕ)) (list : List ℕ) → IsKept list
     → ((w : ℕ) → times w (put_in pqueue_reading before) ≡ times w (given_out pqueue_reading before) + times w (map value_of list)) → GivesTheLeast before (first_taken list).1
@@ -248,6 +247,10 @@ mins_give_the_least before rest step run is =
 pub comes_out_at_most_as_often : ComesOutAtMostAsOften
 unfolding kind_next
 comes_out_at_most_as_often steps value run = omega (arith, often steps run value)
+
+pub pqueues_take_what_was_put : TakesTakeWhatWasPut Pqueue pqueue_reading
+unfolding kind_next
+pqueues_take_what_was_put = takes pqueue_reading next container [] refl
 
 pub inserts_are_done : AreDone Pqueue words.insert
 unfolding kind_next

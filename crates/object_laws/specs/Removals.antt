@@ -2,6 +2,7 @@
 use Rattle.std.specs.Prelude.{◌≡◌, ◌⊎◌, ℕ, ◌<◌, ◌≤◌, ◌^◌, true, List, ◌∷◌, ◌++◌, length, map, slice_get, Option, Some, None, if◌then◌else◌}
 use Rattle.std.specs.List.{filter_map}
 use Rattle.history_rules.specs.Container.{Deed, Puts, Takes, Neither, Reading, put_by, taken_by, times}
+use Rattle.seq_objects.specs.declared.kind.Kind.{Kind}
 use Rattle.seq_objects.specs.declared.kind.Kind.TheVariants.{Queue, Stack, Pqueue}
 use Rattle.seq_objects.specs.Words.{insert, deq, pop, min, is_operation_of, argument_of}
 use Rattle.seq_objects.specs.Replies.{reply_none, reply_value}
@@ -14,6 +15,12 @@ put_in reading steps = filter_map (put_by reading) steps
 
 abbrev pub given_out : Reading → List (ℕ × ℕ) → List ℕ
 given_out reading steps = filter_map (taken_by reading) steps
+
+-- What a take gives out was put in before it, more often than it was given out before: so each value comes out at most as often as it
+-- was put in.
+abbrev pub TakesTakeWhatWasPut : Kind → Reading → Type 0
+TakesTakeWhatWasPut kind reading = (before rest : List (ℕ × ℕ)) (step : ℕ × ℕ) (value : ℕ) → IsRunOf kind (before ++ step ∷ rest)
+    → taken_by reading step ≡ Some value → times value (given_out reading before) < times value (put_in reading before)
 
 -- The reply that gives a value, where there is one.
 abbrev pub reply_with : Option ℕ → ℕ

@@ -2,11 +2,12 @@
 
 ghost use Rattle.seq_objects.specs.declared.kind.Kind.TheVariants as kinds;
 ghost use Rattle.seq_objects.specs.Words as words;
+ghost use Rattle.seq_objects.specs.Readings.{queue_reading, stack_reading};
 ghost use Rattle.object_laws.specs.Runs.{AreDone};
 ghost use Rattle.object_laws.specs.CounterRuns.{IncrementsAreCounted};
 ghost use Rattle.object_laws.specs.RegisterRuns.{ReadsGiveTheLastWrite, ReadsGiveZeroAtFirst};
 ghost use Rattle.object_laws.specs.SetRuns.{HasTells, AddTells, RemoveTells};
-ghost use Rattle.object_laws.specs.Removals.{DequeuesGiveTheOldest, PopsGiveTheNewest, MinsGiveTheLeast, ComesOutAtMostAsOften};
+ghost use Rattle.object_laws.specs.Removals.{TakesTakeWhatWasPut, DequeuesGiveTheOldest, PopsGiveTheNewest, pqueue_reading, MinsGiveTheLeast, ComesOutAtMostAsOften};
 
 /// A counter replies how many increments came before.
 pub fn counters_count()
@@ -59,4 +60,15 @@ pub fn priority_queues_give_the_least()
     ensures often { ComesOutAtMostAsOften }
     // The reply to each insert is done.
     ensures done { AreDone kinds.Pqueue words.insert }
+{}
+
+/// What is taken was put in before, and isn't taken yet: it was put in more often than it was given out. So each
+/// value comes out at most as often as it was put in.
+pub fn takes_take_what_was_put()
+    // A dequeue gives a value that was put in before it more often than it was given out.
+    ensures queues { TakesTakeWhatWasPut kinds.Queue queue_reading }
+    // A pop gives a value that was put in before it more often than it was given out.
+    ensures stacks { TakesTakeWhatWasPut kinds.Stack stack_reading }
+    // A `min` gives a value that was put in before it more often than it was given out.
+    ensures pqueues { TakesTakeWhatWasPut kinds.Pqueue pqueue_reading }
 {}
