@@ -1,11 +1,9 @@
 -- The book that a caller has gathered grows to its next one, and what stands in it stays.
-use Rattle.std.proofs.Common.{◌≡◌, ℕ, ◌<◌, List, Option, None, Some, IfSome, IsSomeAnd, length, get_or, sym, ap, subst, ◌∙◌, arith}
+use Rattle.std.proofs.Common.{◌≡◌, ℕ, List, Option, None, Some, IfSome, sym, subst, ◌∙◌, arith}
 use Rattle.std.proofs.lemmas.Option.{slice_get_within}
-use Rattle.book_base.specs.declared.call.Call.{Call}
-use Rattle.book_base.specs.declared.call.Record.{Record}
 use Rattle.book_base.specs.Cut.{IsWithin, Holds}
-use Rattle.book_base.specs.Book.{Page, page_of, record_of, operation_of, IsCall}
-use Rattle.book_base.specs.BookAt.{IsBookAt, IsHeldBySomeView, book_at}
+use Rattle.book_base.specs.Book.{Page, page_of, IsCall}
+use Rattle.book_base.specs.BookAt.{IsBookAt, IsHeldBySomeView}
 use Rattle.book_laws.proofs.BookAt.{record_from_part, record_of-part, book_at_is_the_book_at}
 use Rattle.world_core.specs.Shape.{Shape}
 use Rattle.world_core.specs.Local.{Local}

@@ -5,3 +5,4 @@ pub mod Enforced
 pub mod Kept
 pub mod Events
 pub mod Lines
+pub mod After

@@ -124,7 +124,8 @@ use world_core::{Outside, Program};
 ///   `Illegal`, which takes its book along, and after `Unjudged` it is `None`. Like the guide it never changes a
 ///   verdict, so `None` is always good; but then the words of all calls before are peeked again.
 /// - `guide`: the last order that was found, after whose places the search for the next one begins. It costs or
-///   saves time alone, and never changes a verdict, so a new one is always good.
+///   saves time alone, and never changes a verdict, so a new one is always good. The sequential object is asked for each
+///   of these places again; [`enforce_after`](crate::enforce_after) asks for those that are new.
 /// - `steps`: the counter that ticks with each word of the table that is looked at or peeked: those of four scans, and
 ///   those of the book that are new.
 ///

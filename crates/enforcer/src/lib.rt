@@ -2,7 +2,10 @@
 #![tactic(auto)]
 
 mod enforcing;
+mod enforcing_after;
+mod judged;
 mod judging;
+mod judging_after;
 pub mod laws;
 mod lines;
 mod outcome;
@@ -12,7 +15,10 @@ mod seeing;
 mod seen_call;
 
 pub use enforcing::enforce;
+pub use enforcing_after::enforce_after;
+pub use judged::Judged;
 pub use judging::{gather, judge};
+pub use judging_after::judge_after;
 pub use lines::{judge_line, standing_in};
 pub use outcome::{Outcome, Unjudged};
 pub use published_call::Published;

@@ -5,6 +5,7 @@ ghost use Rattle.world_core.specs.Calls.{IsGathered};
 ghost use Rattle.call_lines.specs.Workers.{IsJudgedBy};
 ghost use Rattle.row_table.specs.Callers.{local_with, stance_of, IsCallerOf, IsStill};
 ghost use Rattle.row_gather.specs.Peeks.{OnlyPeeks};
+ghost use Rattle.row_gather.specs.Exact.{IsTheBookAt};
 ghost use Rattle.row_gather.specs.Gathered.{IsGatheredBy, TicksForNew};
 ghost use Rattle.frontier_check.specs.Standing.{IsStandingFor};
 ghost use Rattle.drv_wrapper.specs.Stands.{ready};
@@ -51,8 +52,8 @@ pub fn standing_in(
     }
 }
 
-// The gathered book, and what stands in it, where it has a legal order.
-fn decide_after<P: Program, S: SeqObject, L: Ledger>(
+/// The gathered book, and what stands in it, where it has a legal order.
+pub(crate) fn decide_after<P: Program, S: SeqObject, L: Ledger>(
     alloc: Global,
     object: &S,
     rows: &Rows<P>,
@@ -71,6 +72,8 @@ fn decide_after<P: Program, S: SeqObject, L: Ledger>(
     ensures at { IfOk result (λ r. r.0.cut ≡ cut_seen seen.new) }
     ensures gathered { IfOk result (λ r.
         IsGathered rows.now.callers (local_with (caller_seen seen.new)) (cut_seen seen.new) r.0.book) }
+    ensures exact { IfOk result (λ r.
+        IsTheBookAt P.meaning rows.now (caller_seen seen.new) (cut_seen seen.new) r.0.book) }
     ensures ticks { IfOk result (λ r.
         TicksForNew rows.now.callers gathered r.0 steps.old steps.new) }
     ensures legal { IfOk result (λ r. IfSome r.1
