@@ -1,5 +1,5 @@
 -- The parts of a call after its reply is handed in, one after the other: what its caller has published in the end.
-use Rattle.std.proofs.Common.{◌≡◌, ◌∙◌, ℕ, List, Result, Ok, Err, IfOk, IfErr, length, slice_index, sym, ap, subst}
+use Rattle.std.proofs.Common.{◌≡◌, ◌∙◌, ℕ, false, List, Option, None, Some, Result, Ok, Err, IfOk, IfErr, length, slice_index, refl, sym, ap, subst}
 use Rattle.book_base.specs.declared.call.Record.{Record}
 use Rattle.world_core.specs.Shape.{Meaning}
 use Rattle.world_core.specs.Local.{Local}
@@ -16,12 +16,17 @@ use Rattle.drv_wrapper.specs.Growth.{Grows}
 use Rattle.drv_wrapper.specs.Stands.{IsSame}
 use Rattle.drv_wrapper.specs.States.{caller_announced, announced_local, caller_answered, answered_local, reply_answered, caller_viewed, viewed_local, reply_viewed, view_viewed, record_viewed}
 use Rattle.drv_wrapper.proofs.Growing.{grows_on}
+use Rattle.frontier_check.specs.declared.mark.Standing.{Standing}
+use Rattle.enforcer.specs.declared.judged.Judged.{Judged}
+use Rattle.enforcer.specs.declared.judged.Judged.TheVariants.{Delivered, Illegal}
 use Rattle.enforcer.specs.declared.outcome.Outcome.{Outcome}
+use Rattle.enforcer.specs.declared.outcome.Outcome.TheVariants as outcome
 use Rattle.enforcer.specs.declared.outcome.Unjudged.{Unjudged}
 use Rattle.enforcer.specs.declared.published_call.Published.{Published}
 use Rattle.enforcer.specs.declared.seen_call.Seen.{Seen}
+use Rattle.enforcer.specs.After.{record_judged, cut_judged, stance_judged, IsOutcome}
 use Rattle.enforcer.specs.Enforced.{record_unjudged}
-use Rattle.enforcer.specs.Judged.{record_in, cut_in, stance_after, IsRightByPeeks, IsRightOf}
+use Rattle.enforcer.specs.Judged.{is_illegal, IsRightByPeeks, IsRightOf}
 use Rattle.enforcer.specs.Recorded.{HoldsOwn}
 use Rattle.enforcer.specs.States.{caller_published, reply_published, view_published, caller_seen, reply_seen, view_seen, cut_seen}
 use Rattle.enforcer.proofs.WholeCalls.{peeks_grow}
@@ -112,20 +117,37 @@ module _ {P : Type 0} (meaning : P → ℕ → ℕ → Meaning) (r : Rows P) (ca
         grows = grows_on (announced_local call) (local_with (caller_seen s)) (local_with c) h.grows (peeks_grow (local_with (caller_seen s)) (local_with c) before after peeks);
       }
 
-  -- what the judgement says of its outcome, where there is one, and of its record, where it isn't judged
-  pub judged_as : (init : List ℕ) (next : List ℕ → ℕ → List ℕ × ℕ) (before after : ℕ) (result : Result (Caller P × Outcome) (Unjudged P))
-      → IfOk result (λ x. IsStill meaning r (caller_seen s) x.0) → IfOk result (λ x. HasOnlyPeeked (local_with (caller_seen s)) (local_with x.0) before after)
-      → IfOk result (λ x. record_in x.1 ≡ record_seen s) → IfOk result (λ x. cut_in x.1 ≡ cut_seen s) → IfOk result (λ x. HoldsOwn (cut_in x.1) x.0)
-      → IfOk result (λ x. stance_of x.0 ≡ stance_after x.1) → IfOk result (λ x. IsRightByPeeks init next r.callers (local_with x.0) x.1) → IfOk result (λ x. IsRightOf init next meaning r x.0 x.1)
-      → IfOk result (λ x. IsJudgedAs meaning r init next call reply x.0 x.1)
-  judged_as init next before after (Ok x) still peeks told cut own stance by_peeks verdict =
-      record { published = peeked x.0 (record_in x.1) (cut_in x.1) before after still peeks told cut own; stance = stance; by_peeks = by_peeks; verdict = verdict }
-  judged_as init next before after (Err u) still peeks told cut own stance by_peeks verdict = tt
+  -- what a judgement says of the outcome that it is with the order of what stands
+  judged_with : (init : List ℕ) (next : List ℕ → ℕ → List ℕ × ℕ) (before after : ℕ) (standing : Option Standing) (c : Caller P) (judged : Judged) → IsStill meaning r (caller_seen s) c
+      → HasOnlyPeeked (local_with (caller_seen s)) (local_with c) before after → record_judged judged ≡ record_seen s → cut_judged judged ≡ cut_seen s → HoldsOwn (cut_judged judged) c
+      → stance_of c ≡ stance_judged judged → IsOutcome judged standing (IsRightByPeeks init next r.callers (local_with c)) → IsOutcome judged standing (IsRightOf init next meaning r c)
+      → IsOutcome judged standing (IsJudgedAs meaning r init next call reply c)
+  judged_with init next before after None c (Delivered said view seen) still peeks told cut own stance by_peeks verdict = absurd by_peeks
+  judged_with init next before after (Some stands) c (Delivered said view seen) still peeks told cut own stance by_peeks verdict =
+      record { published = peeked c (record { reply = said; view = view }) seen before after still peeks told cut own; stance = stance; by_peeks = by_peeks; verdict = verdict }
+  judged_with init next before after standing c (Illegal said view seen book) still peeks told cut own stance by_peeks verdict =
+      record { published = peeked c (record { reply = said; view = view }) seen before after still peeks told cut own; stance = stance; by_peeks = by_peeks; verdict = verdict }
 
-  pub unjudged_as : (before after : ℕ) (result : Result (Caller P × Outcome) (Unjudged P))
+  -- what a judgement says, where there is one, and of the call's record, where it isn't judged
+  pub judged_as : (init : List ℕ) (next : List ℕ → ℕ → List ℕ × ℕ) (before after : ℕ) (standing : Option Standing) (result : Result (Caller P × Judged) (Unjudged P))
+      → IfOk result (λ x. IsStill meaning r (caller_seen s) x.0) → IfOk result (λ x. HasOnlyPeeked (local_with (caller_seen s)) (local_with x.0) before after)
+      → IfOk result (λ x. record_judged x.1 ≡ record_seen s) → IfOk result (λ x. cut_judged x.1 ≡ cut_seen s) → IfOk result (λ x. HoldsOwn (cut_judged x.1) x.0)
+      → IfOk result (λ x. stance_of x.0 ≡ stance_judged x.1) → IfOk result (λ x. IsOutcome x.1 standing (IsRightByPeeks init next r.callers (local_with x.0)))
+      → IfOk result (λ x. IsOutcome x.1 standing (IsRightOf init next meaning r x.0)) → IfOk result (λ x. IsOutcome x.1 standing (IsJudgedAs meaning r init next call reply x.0))
+  judged_as init next before after standing (Ok x) still peeks told cut own stance by_peeks verdict =
+      judged_with init next before after standing x.0 x.1 still peeks told cut own stance by_peeks verdict
+  judged_as init next before after standing (Err u) still peeks told cut own stance by_peeks verdict = tt
+
+  pub unjudged_as : (before after : ℕ) (result : Result (Caller P × Judged) (Unjudged P))
       → IfErr result (λ u. IsStill meaning r (caller_seen s) u.caller) → IfErr result (λ u. HasOnlyPeeked (local_with (caller_seen s)) (local_with u.caller) before after)
       → IfErr result (λ u. (u.reply ≡ reply_seen s) × (u.view ≡ view_seen s) × (u.seen ≡ cut_seen s)) → IfErr result (λ u. HoldsOwn u.seen u.caller)
       → IfErr result (λ u. IsPublishedBy meaning r call reply u.caller (record_unjudged u) u.seen)
   unjudged_as before after (Ok x) still peeks told own = tt
   unjudged_as before after (Err u) still peeks told own =
       peeked u.caller (record_unjudged u) u.seen before after still peeks (λ i. record { reply = told.0 i; view = told.1 i }) told.2 own
+
+-- A reply that is delivered is, with the order of what stands, an outcome that is no error.
+pub delivered_with : (holds : Outcome → Type 0) (standing : Option Standing) (reply : ℕ) (view seen : List ℕ) → IsOutcome (Delivered reply view seen) standing holds
+    → (found : Outcome) × (is_illegal found ≡ false) × holds found
+delivered_with holds None reply view seen is = absurd is
+delivered_with holds (Some stands) reply view seen is = (outcome.Delivered reply view seen stands.order, refl, is)

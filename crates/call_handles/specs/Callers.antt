@@ -21,12 +21,14 @@ use Rattle.drv_wrapper.specs.States.{caller_announced, announced_local}
 use Rattle.enforcer.specs.declared.outcome.Outcome.{Outcome}
 use Rattle.enforcer.specs.declared.outcome.Outcome.TheVariants as outcome
 use Rattle.enforcer.specs.Judged.{is_illegal}
+use Rattle.enforcer.specs.Lines.{StandsIn}
 use Rattle.call_handles.specs.declared.stage.Stage.{Stage}
 use Rattle.call_handles.specs.declared.stage.Stage.TheVariants.{Idle, Announced, Wrong, Unjudged}
 use Rattle.call_handles.specs.declared.stage.Wrong as wrong
 use Rattle.call_handles.specs.declared.caller_handle.Answer.{Answer}
 use Rattle.call_handles.specs.declared.caller_handle.Answer.TheVariants as answer
 use Rattle.call_handles.specs.declared.caller_handle.CallerHandle.{CallerHandle}
+use Rattle.call_handles.specs.declared.kept.Kept.{Kept}
 use Rattle.call_handles.specs.Ends.{IsAnnouncedBy, IsPublishedBy, IsJudgedAs}
 
 -- The object of these callers is outside the world, which allows every reply.
@@ -58,8 +60,13 @@ IsSoundAt r kind gathered (Announced call) = IsCallerOf every_reply r (caller_an
 IsSoundAt r kind gathered (Wrong w) = IsCallerOf every_reply r w.caller × ¬ HasLegalOrder (kind_init kind) (kind_next kind) w.book
 IsSoundAt r kind gathered (Unjudged c) = IsCallerOf every_reply r c
 
+-- What is kept of an order stands, for the kind that is kept, in the book that is kept.
+abbrev pub KeepsStanding : Kept → Type 0
+KeepsStanding kept = StandsIn (kind_init kept.kind) (kind_next kept.kind) kept.gathered kept.standing
+
+-- The parts of a handle belong together.
 abbrev pub IsSoundCaller : CallerHandle → Type 0
-IsSoundCaller h = IsSoundAt (rows_of h) h.kept.kind h.kept.gathered h.stage
+IsSoundCaller h = IsSoundAt (rows_of h) h.kept.kind h.kept.gathered h.stage × KeepsStanding h.kept
 
 -- The two handles are of one table, and judge by one kind.
 abbrev pub IsOfSameTable : CallerHandle → CallerHandle → Type 0

@@ -9,7 +9,6 @@ use crate::publishing::publish_alone;
 use crate::stage::{Stage, Wrong};
 use book_base::{NoMemory, OpWord};
 use book_writer::write_book;
-use frontier_check::Guide;
 use row_table::{Caller, Rows};
 use seq_objects::Kind;
 use std::alloc::Global;
@@ -40,9 +39,8 @@ pub enum Answer {
 impl CallerHandle {
     ghost use Rattle.call_handles.specs.Callers.{every_reply, rows_of, kind_of, stage_of, caller_in, IsSoundCaller, IsOfSameTable, MayAnnounce, HasAnnounced, IsInError, HasBegun, HasEnded, HasPublished, IsWitnessOf};
 
-    /// The handle of a caller of this table, which is between two calls. Its calls are judged by this kind, and begin the
-    /// search for an order with this guide.
-    pub fn new(rows: Arc<Rows, Global>, kind: Kind, caller: Caller, guide: Guide) -> CallerHandle
+    /// The handle of a caller of this table, which is between two calls. Its calls are judged by this kind.
+    pub fn new(rows: Arc<Rows, Global>, kind: Kind, caller: Caller) -> CallerHandle
         // The caller is one of these rows.
         requires caller { IsCallerOf every_reply (arc_value rows) caller }
         // The caller stands between two calls.
@@ -59,7 +57,7 @@ impl CallerHandle {
                 rows,
                 kind,
                 gathered: None,
-                guide,
+                standing: None,
             },
             stage: Stage::Idle(caller),
         }

@@ -4,14 +4,16 @@ ghost use Rattle.row_table.specs.Callers.{local_with, stance_of, IsCallerOf};
 ghost use Rattle.row_gather.specs.Gathered.{IsGatheredBy};
 ghost use Rattle.drv_wrapper.specs.Stands.{ready};
 ghost use Rattle.drv_wrapper.specs.States.{caller_announced, announced_local};
+ghost use Rattle.enforcer.specs.After.{IsOutcome};
 ghost use Rattle.enforcer.specs.Enforced.{record_unjudged};
+ghost use Rattle.enforcer.specs.Lines.{StandsIn};
 ghost use Rattle.call_handles.specs.Ends.{IsPublishedBy, IsJudgedAs};
 
 use crate::publishing::publish_reply;
 use book_base::SeqObject;
 use drv_wrapper::Announced;
-use enforcer::{Gathered, Outcome, Unjudged, judge};
-use frontier_check::Guide;
+use enforcer::{Gathered, Judged, Unjudged, judge_after};
+use frontier_check::Standing;
 use row_table::{Caller, Rows, Steps};
 use seq_objects::Kind;
 use std::alloc::Global;
@@ -21,7 +23,7 @@ use world_core::{Outside, Program};
 /// What an announced call comes to whose reply is handed in: it is published, and the book at the cut that its caller
 /// has seen since is judged.
 ///
-/// It is all of [`enforce`](enforcer::enforce) that comes after the object has answered.
+/// It is all of [`enforce_after`](enforcer::enforce_after) that comes after the object has answered.
 pub(crate) fn finish<L: Ledger>(
     alloc: Global,
     rows: &Rows,
@@ -29,16 +31,20 @@ pub(crate) fn finish<L: Ledger>(
     kind: Kind,
     reply: u64,
     gathered: &mut Option<Gathered>,
-    guide: &mut Guide,
+    standing: &mut Option<Standing>,
     steps: &mut Steps<L>,
-) -> Result<(Caller, Outcome), Unjudged>
+) -> Result<(Caller, Judged), Unjudged>
     requires rows { IsCallerOf ⟦<Outside as Program>⟧.meaning rows.now (caller_announced announced) }
     requires gathered { IsGatheredBy (announced_local announced) gathered.old }
-    ensures judged { IfOk result (λ r.
-        IsJudgedAs ⟦<Outside as Program>⟧.meaning rows.now
-        (⟦<Kind as SeqObject>⟧.init kind) (⟦<Kind as SeqObject>⟧.next kind) announced reply r.0 r.1) }
+    requires stands { StandsIn (⟦<Kind as SeqObject>⟧.init kind) (⟦<Kind as SeqObject>⟧.next kind)
+        gathered.old standing.old }
+    ensures judged { IfOk result (λ r. IsOutcome r.1 standing.new
+        (IsJudgedAs ⟦<Outside as Program>⟧.meaning rows.now
+        (⟦<Kind as SeqObject>⟧.init kind) (⟦<Kind as SeqObject>⟧.next kind) announced reply r.0)) }
     ensures idle { IfOk result (λ r. IsIdle (local_with r.0)) }
     ensures kept { IfOk result (λ r. IsGatheredBy (local_with r.0) gathered.new) }
+    ensures stands { StandsIn (⟦<Kind as SeqObject>⟧.init kind) (⟦<Kind as SeqObject>⟧.next kind)
+        gathered.new standing.new }
     ensures unjudged { IfErr result (λ u.
         IsPublishedBy ⟦<Outside as Program>⟧.meaning rows.now announced reply
         u.caller (record_unjudged u) u.seen) }
@@ -46,5 +52,5 @@ pub(crate) fn finish<L: Ledger>(
         stance_of u.caller ≡ record ready { live = false }) }
 {
     let seen = publish_reply(rows, announced, reply, steps);
-    judge(alloc, &kind, rows, seen, gathered, guide, steps)
+    judge_after(alloc, &kind, rows, seen, gathered, standing, steps)
 }

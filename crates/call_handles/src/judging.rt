@@ -3,14 +3,14 @@ ghost use Rattle.std.specs.Arc.{arc_value};
 ghost use Rattle.row_table.specs.Callers.{IsCallerOf};
 ghost use Rattle.row_gather.specs.Gathered.{IsGatheredBy};
 ghost use Rattle.drv_wrapper.specs.States.{caller_announced, announced_local};
-ghost use Rattle.call_handles.specs.Callers.{every_reply, IsSoundAt, AnswersFor};
+ghost use Rattle.call_handles.specs.Callers.{every_reply, IsSoundAt, KeepsStanding, AnswersFor};
 
 use crate::caller_handle::Answer;
 use crate::finishing::finish;
 use crate::kept::Kept;
 use crate::stage::{Stage, Wrong};
 use drv_wrapper::Announced;
-use enforcer::{Outcome, Unjudged};
+use enforcer::{Judged, Unjudged};
 use row_table::Steps;
 use std::alloc::Global;
 use std::marker::Brand;
@@ -27,8 +27,10 @@ fn judge_counted<L: Ledger>(
     requires blank { (blank.name ≡ L.name) × (blank.parts ≡ L.parts) × (0 < blank.parts) }
     requires rows { IsCallerOf every_reply (arc_value kept.old.rows) (caller_announced call) }
     requires gathered { IsGatheredBy (announced_local call) kept.old.gathered }
+    requires stands { KeepsStanding kept.old }
     ensures same { (kept.new.rows ≡ kept.old.rows) × (kept.new.kind ≡ kept.old.kind) }
     ensures sound { IsSoundAt (arc_value kept.old.rows) kept.old.kind kept.new.gathered result.0 }
+    ensures stands { KeepsStanding kept.new }
     ensures ended { AnswersFor (arc_value kept.old.rows) kept.old.kind call reply result.0 result.1 }
 {
     let mut steps = Steps::<L>::new(blank);
@@ -39,13 +41,13 @@ fn judge_counted<L: Ledger>(
         kept.kind,
         reply,
         &mut kept.gathered,
-        &mut kept.guide,
+        &mut kept.standing,
         &mut steps,
     );
     match ended {
-        Ok((caller, outcome)) => match outcome {
-            Outcome::Delivered { .. } => (Stage::Idle(caller), Answer::Delivered),
-            Outcome::Illegal {
+        Ok((caller, judged)) => match judged {
+            Judged::Delivered { .. } => (Stage::Idle(caller), Answer::Delivered),
+            Judged::Illegal {
                 reply,
                 view,
                 seen,
@@ -81,8 +83,10 @@ pub(crate) fn judge_alone(
 ) -> (Stage, Answer)
     requires rows { IsCallerOf every_reply (arc_value kept.old.rows) (caller_announced call) }
     requires gathered { IsGatheredBy (announced_local call) kept.old.gathered }
+    requires stands { KeepsStanding kept.old }
     ensures same { (kept.new.rows ≡ kept.old.rows) × (kept.new.kind ≡ kept.old.kind) }
     ensures sound { IsSoundAt (arc_value kept.old.rows) kept.old.kind kept.new.gathered result.0 }
+    ensures stands { KeepsStanding kept.new }
     ensures ended { AnswersFor (arc_value kept.old.rows) kept.old.kind call reply result.0 result.1 }
 {
     judge_counted::<Brand>(alloc, kept, call, reply, Blank::new(1))

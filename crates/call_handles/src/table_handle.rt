@@ -7,7 +7,6 @@ ghost use Rattle.drv_wrapper.specs.Stands.{ready};
 use crate::caller_handle::CallerHandle;
 use crate::monitor_handle::MonitorHandle;
 use book_base::{MAX_CALLERS, MAX_CALLS, NoMemory};
-use frontier_check::Guide;
 use row_table::{Bench, Caller, Rows};
 use seq_objects::Kind;
 use std::alloc::Global;
@@ -67,7 +66,7 @@ impl TableHandle {
     }
 
     /// The handle of the next caller, while there is one. For want of memory the table is as it was.
-    pub fn caller(&mut self, alloc: Global) -> Result<Option<CallerHandle>, NoMemory>
+    pub fn caller(&mut self) -> Result<Option<CallerHandle>, NoMemory>
         // The parts of the table belong together.
         requires sound { IsSoundTable self.old }
         // The parts of the table still belong together.
@@ -90,9 +89,8 @@ impl TableHandle {
             return Ok(None);
         }
         let rows = Arc::try_clone(&self.rows)?;
-        let guide = Guide::new(alloc)?;
         let caller = self.take_next();
-        Ok(Some(CallerHandle::new(rows, self.kind, caller, guide)))
+        Ok(Some(CallerHandle::new(rows, self.kind, caller)))
     }
 
     /// The handle of the next caller as a monitor, while there is one. For want of memory the table is as it was.

@@ -66,7 +66,7 @@ fn next_in(table: &mut TableHandle, given: (Global, Role)) -> Result<Option<Hand
 {
     let (alloc, role) = given;
     match role {
-        Role::Caller => match table.caller(alloc)? {
+        Role::Caller => match table.caller()? {
             Some(caller) => Ok(Some(Handle::Caller(caller))),
             None => Ok(None),
         },

@@ -9,7 +9,7 @@ take_next-caller-requires-clause-left c =
 pub returns-clause-given : goal.returns-clause-given
 returns-clause-given c =
     let taken = c.take_next-caller in (
-      c.new-2.ensures.table.0 ∙ c.in_ok-rows.ensures,
-      c.new-2.ensures.table.1 ∙ taken.ensures.next.1,
-      (taken.result, c.new-2.ensures.idle, taken.ensures.who, taken.ensures.fresh.0, taken.ensures.fresh.1),
+      c.new.ensures.table.0 ∙ c.in_ok-rows.ensures,
+      c.new.ensures.table.1 ∙ taken.ensures.next.1,
+      (taken.result, c.new.ensures.idle, taken.ensures.who, taken.ensures.fresh.0, taken.ensures.fresh.1),
     )
