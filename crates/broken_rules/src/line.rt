@@ -18,8 +18,11 @@ pub fn broken_line(
     book: &Book,
     broken: BrokenRule,
 ) -> Result<Vec<u8>, NoMemory>
+    // The first call is one of the book.
     requires first { IsCall book.now broken.first }
+    // The second call is one of the book.
     requires second { IsCall book.now broken.second }
+    // The line is the text of the broken rule.
     ensures { IfOk result (λ line. line.items ≡ broken_text kind book.now broken) }
 {
     let value = act_of(kind, book, broken.first).value();

@@ -33,9 +33,12 @@ const RULES: [Rule; 10] = [
 ///
 /// All pairs of calls are tried, and for some of them all calls: it is made for small books.
 pub fn broken_rule(kind: Kind, book: &Book) -> Option<BrokenRule>
+    // The book breaks the rule that is answered, by the calls that are answered.
     ensures broken { IfSome result (λ broken. Breaks kind book.now broken) }
+    // A book of which a rule is answered has no legal order.
     ensures illegal { IfSome result (λ _.
         ¬ HasLegalOrder (kind_init kind) (kind_next kind) book.now) }
+    // Where none is answered, the book breaks no rule.
     ensures none { IfNone result ((broken : BrokenRule) → Breaks kind book.now broken → ⊥) }
 {
     let _callers = book.callers();

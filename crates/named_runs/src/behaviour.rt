@@ -133,6 +133,7 @@ pub fn monitor_behaviour<R: Threads + Sync, K: Sink>(
     script: &Script,
     sink: &mut K,
 ) -> Status
+    // The table has place for two callers more than the script has.
     requires few { length script.now.operations + 2 ≤ MAX_CALLERS }
 
     // The headline: what was written, by the status, is right of callers whose calls the object of the behaviour answered.

@@ -37,11 +37,13 @@ pub fn run_fresh<R: Threads + Sync, B: BlackBox + Sync, K: Sink>(
 ) -> Status
 where
     B::Pass: Send,
+    // Each of the script's callers has its pass of the object, in order, and none was used.
     requires passes { AreUnusedPasses (B.is_own object.now) B.Pass.caller B.Pass.made B.Pass.cap
         script.now.operations passes.old.items }
 
     // What stands afterwards, whatever the answer.
     ensures all_passes { vec_len passes.new ≡ length script.now.operations }
+    // The passes are those of the callers, in order.
     ensures passes { AreInOrder (IsOwnPass (B.is_own object.now) B.Pass.caller) passes.new.items }
 
     // The headline: what was written, by the status, is of a lawful report, in which the passes are told.
@@ -76,11 +78,13 @@ pub fn replay_fresh<B: BlackBox, K: Sink>(
     form: Form,
     sink: &mut K,
 ) -> Status
+    // Each of the script's callers has its pass of the object, in order, and none was used.
     requires passes { AreUnusedPasses (B.is_own object.now) B.Pass.caller B.Pass.made B.Pass.cap
         script.now.operations passes.old.items }
 
     // What stands afterwards, whatever the answer.
     ensures all_passes { vec_len passes.new ≡ length script.now.operations }
+    // The passes are those of the callers, in order.
     ensures passes { AreInOrder (IsOwnPass (B.is_own object.now) B.Pass.caller) passes.new.items }
 
     // The headline: what was written, by the status, is of a lawful report, in which the passes are told.
@@ -117,13 +121,17 @@ pub fn monitor_fresh<R: Threads + Sync, B: BlackBox + Sync, K: Sink>(
 ) -> Status
 where
     B::Pass: Send,
+    // The table has place for two callers more than the script has.
     requires few { length script.now.operations + 2 ≤ MAX_CALLERS }
+    // Each of the script's callers has its pass of the object, in order, and none was used.
     requires passes { AreUnusedPasses (B.is_own object.now) B.Pass.caller B.Pass.made B.Pass.cap
         script.now.operations passes.old.items }
 
     // What stands afterwards, whatever the answer.
     ensures all_passes { vec_len passes.new ≡ length script.now.operations }
+    // The list of passes has no less memory than before.
     ensures capacity { vec_capacity passes.old ≤ vec_capacity passes.new }
+    // The passes are those of the callers, in order.
     ensures passes { AreInOrder (IsOwnPass (B.is_own object.now) B.Pass.caller) passes.new.items }
 
     // The headline: what was written, by the status, is right of callers in whose calls the passes are told.

@@ -32,9 +32,15 @@ pub struct TimedPair {
 impl TimedPair {
     /// The pair of a put and a take, at the earliest moments that they may have where these stand.
     pub fn earliest(standing: &Standing, put: TimedCall, take: TimedCall) -> TimedPair
+        // The put is this one.
         ensures put { result.put ≡ put }
+        // The take is this one.
         ensures take { result.take ≡ take }
+        // The put takes effect at the first moment that is no earlier than those of the puts that
+        // stand, at which a view holds it.
         ensures put_moment { result.put_moment ≡ max standing.now.put_moment put.span.first }
+        // The take takes effect at the first moment that is no earlier than that of its put and
+        // those of the takes that stand, at which a view holds it.
         ensures take_moment { result.take_moment ≡ max (max standing.now.take_moment result.put_moment) take.span.first }
     {
         let put_moment = standing.put_moment.max(put.span.first);

@@ -9,13 +9,16 @@ ghost use Rattle.queue_pairs.specs.Serving.{EarlierPutServes, EarlierTakeServes}
 /// exactly where each has a moment, from the first view that holds it up to its own view, and
 /// moments don't fall. Of calls that no view holds, no clause speaks.
 pub fn moments_keep_precedence()
+    // What precedes what, by moments.
     ensures precedes { PrecedesByMoments }
+    // Which orders keep precedence, by moments.
     ensures order { MomentsKeepPrecedence }
 {}
 
 /// A queue's book with one open that has a legal order has pairs of puts and takes that may take
 /// effect one after another. So one without such pairs has none.
 pub fn legal_orders_have_pairs()
+    // A legal order gives pairs.
     ensures { LegalOrdersHavePairs }
 {}
 
@@ -24,6 +27,8 @@ pub fn legal_orders_have_pairs()
 /// the other: where steps go on with a pair that has the other, as many go on with it in the
 /// other's place. That `decide_queue` rests on this, no clause says.
 pub fn choices_serve_for_one_another()
+    // Of two puts the earlier one serves for the other.
     ensures puts { EarlierPutServes }
+    // Of two takes the earlier one serves for the other.
     ensures takes { EarlierTakeServes }
 {}

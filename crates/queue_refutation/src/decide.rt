@@ -22,8 +22,11 @@ pub fn decide_queue<Q: SeqObject + Reader>(
     queue: &Q,
     book: &Book,
 ) -> Result<Decision, NoMemory>
+    // The object is a queue.
     requires queue { IsQueue (Q.reading queue.now) (Q.next queue.now) }
+    // The object begins with nothing.
     requires empty { (Q.reading queue.now).values (Q.init queue.now) ≡ [] }
+    // A decision is right of this object and this book.
     ensures { IfOk result (IsRightDecision (Q.init queue.now) (Q.next queue.now) book.now) }
 {
     let table = Table::of(alloc, queue, book)?;

@@ -11,23 +11,28 @@ ghost use Rattle.queue_refutation.specs.RefutationLaws.{
 /// No pairs go on from any of a closed list of standings: there would be ever fewer steps, or
 /// as many after ever more takes have found nothing.
 pub fn closed_standings_are_dead()
+    // No steps go on from a closed list.
     ensures { ClosedStandingsAreDead }
 {}
 
 /// A queue's valid book with one open has no legal order where a closed list of standings has
 /// the start, at which nothing stands.
 pub fn closed_starts_have_no_order()
+    // A closed list with the start refutes the book.
     ensures { ClosedStartsHaveNoOrder }
 {}
 
 /// Where steps go on with a pair of which neither call is answered, they go on without it.
 pub fn unanswered_pairs_are_idle()
+    // Pairs of unanswered calls may be left out.
     ensures { UnansweredPairsAreIdle }
 {}
 
 /// A pair that may stand next serves for itself. So a list of standings is closed where none of
 /// them is finished and it has what stands after each step that may stand next.
 pub fn successors_suffice()
+    // A pair serves for itself.
     ensures serves { PairsServeForThemselves }
+    // A list that has all successors is closed.
     ensures closed { SuccessorsSuffice }
 {}

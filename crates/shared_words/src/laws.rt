@@ -6,6 +6,8 @@ ghost use Rattle.shared_words.specs.Histories.{AccessesAct, AccessesLeaveOthers}
 /// other words stay.
 #[tactic(auto, using(crate::proofs::Words::accesses_act, crate::proofs::Words::accesses_leave_others))]
 pub fn accesses_act()
+    // What an access leaves in its word.
     ensures act { AccessesAct }
+    // An access leaves all other words as they are.
     ensures others { AccessesLeaveOthers }
 {}

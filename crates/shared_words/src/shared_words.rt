@@ -50,7 +50,9 @@ impl<U: Usage> SharedWords<U> {
 
     /// How many callers the words have.
     pub fn callers(&self) -> u32
+        // It is the number of callers of these words.
         ensures count { result ≡ callers_of self.now }
+        // They are no more than a table has.
         ensures few { result ≤ MAX_CALLERS }
     {
         self.callers
@@ -58,7 +60,9 @@ impl<U: Usage> SharedWords<U> {
 
     /// How many calls each caller may make.
     pub fn cap(&self) -> u64
+        // It is the cap of these words.
         ensures count { result ≡ cap_of self.now }
+        // It is no more than a table has.
         ensures few { result ≤ MAX_CALLS }
     {
         self.cap
@@ -66,14 +70,21 @@ impl<U: Usage> SharedWords<U> {
 
     /// An addition to a word, modulo 2^64. The word found.
     pub fn add(&self, seat: &mut WordSeat, place: usize, amount: u64) -> u64
+        // The seat is one of these words.
         requires seat { IsSeatOf U.may self.now seat.old }
+        // The words have this place.
         requires place { place < count_of self.now }
+        // The caller may make this addition, whatever word it finds.
         requires may { (found : ℕ)
             → U.may (caller_of_seat seat.old) (deeds.Added place amount found) }
+        // The seat is still one of these words.
         ensures seat { IsSeatOf U.may self.now seat.new }
+        // The seat keeps its caller.
         ensures caller { caller_of_seat seat.new ≡ caller_of_seat seat.old }
+        // The caller's deeds are those before and this addition to the word found.
         ensures step { deeds_of seat.new
             ≡ deeds_of seat.old ++ deeds.Added place amount result ∷ [] }
+        // The history that the seat knows begins with the one before, and ends with this access.
         ensures history { IsAfterAccess (caller_of_seat seat.old) (deeds.Added place amount result)
             (history_of seat.old) (history_of seat.new) }
     {
@@ -84,12 +95,19 @@ impl<U: Usage> SharedWords<U> {
 
     /// A store into a word.
     pub fn store(&self, seat: &mut WordSeat, place: usize, word: u64)
+        // The seat is one of these words.
         requires seat { IsSeatOf U.may self.now seat.old }
+        // The words have this place.
         requires place { place < count_of self.now }
+        // The caller may make this store.
         requires may { U.may (caller_of_seat seat.old) (deeds.Stored place word) }
+        // The seat is still one of these words.
         ensures seat { IsSeatOf U.may self.now seat.new }
+        // The seat keeps its caller.
         ensures caller { caller_of_seat seat.new ≡ caller_of_seat seat.old }
+        // The caller's deeds are those before and this store.
         ensures step { deeds_of seat.new ≡ deeds_of seat.old ++ deeds.Stored place word ∷ [] }
+        // The history that the seat knows begins with the one before, and ends with this access.
         ensures history { IsAfterAccess (caller_of_seat seat.old) (deeds.Stored place word)
             (history_of seat.old) (history_of seat.new) }
     {
@@ -100,12 +118,19 @@ impl<U: Usage> SharedWords<U> {
 
     /// A load of a word. The word found.
     pub fn load(&self, seat: &mut WordSeat, place: usize) -> u64
+        // The seat is one of these words.
         requires seat { IsSeatOf U.may self.now seat.old }
+        // The words have this place.
         requires place { place < count_of self.now }
+        // The caller may make this load, whatever word it finds.
         requires may { (found : ℕ) → U.may (caller_of_seat seat.old) (deeds.Loaded place found) }
+        // The seat is still one of these words.
         ensures seat { IsSeatOf U.may self.now seat.new }
+        // The seat keeps its caller.
         ensures caller { caller_of_seat seat.new ≡ caller_of_seat seat.old }
+        // The caller's deeds are those before and this load of the word found.
         ensures step { deeds_of seat.new ≡ deeds_of seat.old ++ deeds.Loaded place result ∷ [] }
+        // The history that the seat knows begins with the one before, and ends with this access.
         ensures history { IsAfterAccess (caller_of_seat seat.old) (deeds.Loaded place result)
             (history_of seat.old) (history_of seat.new) }
     {
@@ -114,14 +139,21 @@ impl<U: Usage> SharedWords<U> {
 
     /// A swap of a word for another. The word found.
     pub fn swap(&self, seat: &mut WordSeat, place: usize, word: u64) -> u64
+        // The seat is one of these words.
         requires seat { IsSeatOf U.may self.now seat.old }
+        // The words have this place.
         requires place { place < count_of self.now }
+        // The caller may make this swap, whatever word it finds.
         requires may { (found : ℕ)
             → U.may (caller_of_seat seat.old) (deeds.Swapped place word found) }
+        // The seat is still one of these words.
         ensures seat { IsSeatOf U.may self.now seat.new }
+        // The seat keeps its caller.
         ensures caller { caller_of_seat seat.new ≡ caller_of_seat seat.old }
+        // The caller's deeds are those before and this swap of the word found.
         ensures step { deeds_of seat.new
             ≡ deeds_of seat.old ++ deeds.Swapped place word result ∷ [] }
+        // The history that the seat knows begins with the one before, and ends with this access.
         ensures history { IsAfterAccess (caller_of_seat seat.old) (deeds.Swapped place word result)
             (history_of seat.old) (history_of seat.new) }
     {
@@ -181,12 +213,18 @@ impl<U: Usage> SharedWords<U> {
         cap: u64,
         count: usize,
     ) -> Result<(SharedWords<U>, Vec<WordsPass>), NoMemory>
+        // A table has as many callers.
         requires few_callers { n ≤ MAX_CALLERS }
+        // A table lets each caller make as many calls.
         requires few_calls { cap ≤ MAX_CALLS }
+        // There is a word.
         requires some_words { 0 < count }
+        // The words have these numbers.
         ensures words { IfOk result (λ r.
             (callers_of r.0 ≡ n) × (cap_of r.0 ≡ cap) × (count_of r.0 ≡ count)) }
+        // The passes are those of the callers, in order.
         ensures callers { IfOk result (λ r. map caller_of_pass r.1.items ≡ range_with_len 0 n) }
+        // Each pass is a new one of these words.
         ensures new { IfOk result (λ r. All (IsNewPass r.0) r.1.items) }
     {
         let rooms = empty_pairs(alloc, n, cap)?;
@@ -225,8 +263,12 @@ impl<U: Usage> SharedWords<U> {
     /// Takes the passes of all callers back, in order, and lets the words go. All accesses are
     /// one history, of which each pass knows a prefix, with all deeds of its caller.
     pub fn close(self, mut passes: Vec<WordsPass>)
+        // The passes are those of all callers, in order.
         requires callers { map caller_of_pass passes.items ≡ range_with_len 0 (callers_of self) }
+        // The seat of each pass is one of these words.
         requires seats { All (λ p. IsSeatOf U.may self (seat_in p)) passes.items }
+        // There is one lawful history of all accesses, and each pass knows a prefix of it that has
+        // all deeds of its caller.
         ensures history { (history : List Access)
             × IsOneHistory U.may (callers_of self) history passes.items }
     {
