@@ -43,6 +43,15 @@ fn calls_of_what_is_no_queue_are_illegal(rt: HostRuntime) -> Result<(), Fail> {
     Ok(())
 }
 
+#[test]
+fn a_call_after_what_stands_is_judged_as_any_other(rt: HostRuntime) -> Result<(), Fail> {
+    let (first, second) = found_on(&rt, rt.alloc(), Kind::Queue, Turns::AfterWhatStands)?;
+    assert!(rt; first.is_delivered() && second.is_delivered());
+    let (first, second) = found_on(&rt, rt.alloc(), Kind::Counter, Turns::AfterWhatStands)?;
+    assert!(rt; is_illegal(&first) && is_illegal(&second));
+    Ok(())
+}
+
 // The object word of the largest table that has one, when it is closed. The largest table without one is opened by each run.
 fn object_word(alloc: Global) -> Result<u64, NoMemory> {
     let (rows, bench) = Rows::open(alloc, Scrap, 16, 256)?;

@@ -5,8 +5,8 @@ ghost use Rattle.whole_calls.specs.Seated.{IsAt, IsNew, IsThere, IsNewAt, IsFor,
 
 use book_base::{Cut, NoMemory, OpWord, Place};
 use drv_wrapper::ObjectPass;
-use enforcer::{Gathered, Outcome, Unjudged, enforce};
-use frontier_check::Guide;
+use enforcer::{Gathered, Judged, Outcome, Unjudged, enforce, enforce_after};
+use frontier_check::{Guide, Standing};
 use lawful_objects::{Entry, LogBox, LogPass, Machine, Plain};
 use row_table::{Bench, Caller, Rows, Steps};
 use seq_objects::{DONE, Kind};
@@ -50,6 +50,8 @@ pub enum Turns {
     DequeueFirst,
     /// Both call beside one another, in two threads.
     Beside,
+    /// The first calls before the second, and each call goes on after what stands of an order.
+    AfterWhatStands,
 }
 
 impl Found {
@@ -73,7 +75,7 @@ fn counts(cut: &Cut) -> (u64, u64) {
 }
 
 // What a caller found of a call that was judged.
-fn judged(outcome: Outcome, live: bool) -> Found {
+fn found_of(outcome: Outcome, live: bool) -> Found {
     match outcome {
         Outcome::Delivered {
             reply,
@@ -99,6 +101,50 @@ fn judged(outcome: Outcome, live: bool) -> Found {
             view: counts(&view),
             seen: counts(&seen),
         },
+    }
+}
+
+// What a caller found of a call that was judged after what stood, where this stands now.
+fn found_after(alloc: Global, judged: Judged, standing: Option<Standing>, live: bool) -> Found {
+    match judged {
+        Judged::Delivered { reply, view, seen } => Found {
+            end: End::Delivered(order_in(alloc, standing)),
+            live,
+            reply,
+            view: counts(&view),
+            seen: counts(&seen),
+        },
+        Judged::Illegal {
+            reply,
+            view,
+            seen,
+            book: _,
+        } => Found {
+            end: End::Illegal,
+            live,
+            reply,
+            view: counts(&view),
+            seen: counts(&seen),
+        },
+    }
+}
+
+// The order that stands; no places where none does.
+fn order_in(alloc: Global, standing: Option<Standing>) -> Vec<Place> {
+    match standing {
+        Some(Standing { order, marks: _ }) => order,
+        None => Vec::new(alloc),
+    }
+}
+
+// What a caller found of a call that wasn't judged.
+fn unjudged(live: bool, reply: u64, view: &Cut, seen: &Cut) -> Found {
+    Found {
+        end: End::Unjudged,
+        live,
+        reply,
+        view: counts(view),
+        seen: counts(seen),
     }
 }
 
@@ -160,7 +206,7 @@ fn call<M: Machine, L: Ledger>(
     ) {
         Ok((caller, outcome)) => {
             let live = caller.live();
-            (caller, judged(outcome, live))
+            (caller, found_of(outcome, live))
         }
         Err(
             Unjudged {
@@ -170,14 +216,60 @@ fn call<M: Machine, L: Ledger>(
                 seen,
             },
         ) => {
-            let found = Found {
-                end: End::Unjudged,
-                live: caller.live(),
+            let live = caller.live();
+            (caller, unjudged(live, reply, &view, &seen))
+        }
+    };
+    match seat.caller.replace(caller) {
+        None => found,
+        Some(_) => unreachable!(),
+    }
+}
+
+// A caller makes its first call as in `call`, after what stands of an order, which is nothing yet.
+fn call_after<M: Machine, L: Ledger>(
+    alloc: Global,
+    rows: &Rows,
+    object: &LogBox<M>,
+    seat: &mut Seat<L>,
+    op: OpWord,
+) -> Found
+    requires caller { IsNewAt ⟦<Outside as Program>⟧.meaning rows.now (caller_of_pass seat.old.pass) seat.old.caller }
+    requires pass { IsPassOf M.reply_to M.has_seen object.now seat.old.pass × IsUnused seat.old.pass }
+    requires gathered { seat.old.gathered ≡ None }
+    ensures caller { IsThere ⟦<Outside as Program>⟧.meaning rows.now (caller_of_pass seat.old.pass) seat.new.caller }
+    ensures pass { IsFor M.reply_to M.has_seen object.now (caller_of_pass seat.old.pass) seat.new.pass }
+{
+    let Some(caller) = seat.caller.take() else {
+        unreachable!()
+    };
+    let mut standing = None;
+    let (caller, found) = match enforce_after(
+        alloc,
+        rows,
+        caller,
+        op,
+        &Kind::Queue,
+        object,
+        &mut seat.pass,
+        &mut seat.gathered,
+        &mut standing,
+        &mut seat.steps,
+    ) {
+        Ok((caller, judged)) => {
+            let live = caller.live();
+            (caller, found_after(alloc, judged, standing, live))
+        }
+        Err(
+            Unjudged {
+                caller,
                 reply,
-                view: counts(&view),
-                seen: counts(&seen),
-            };
-            (caller, found)
+                view,
+                seen,
+            },
+        ) => {
+            let live = caller.live();
+            (caller, unjudged(live, reply, &view, &seen))
         }
     };
     match seat.caller.replace(caller) {
@@ -212,6 +304,11 @@ fn call_both<M: Machine + Sync, K: Ledger + Send, L: Ledger + Send, R: Threads>(
         Turns::DequeueFirst => {
             let second = call(alloc, rows, object, b, DEQUEUE);
             let first = call(alloc, rows, object, a, ENQUEUE_5);
+            (first, second)
+        }
+        Turns::AfterWhatStands => {
+            let first = call_after(alloc, rows, object, a, ENQUEUE_5);
+            let second = call_after(alloc, rows, object, b, DEQUEUE);
             (first, second)
         }
         Turns::Beside => join_mut(
