@@ -13,43 +13,31 @@ use Rattle.seq_objects.specs.declared.kind.Kind.TheVariants as kinds
 use Rattle.seq_objects.specs.Readings.{queue_reading}
 use Rattle.broken_rules.specs.Deeds.{reading_of, value_by, is_put, is_take, is_nothing, is_open}
 
--- the opposite of a test
+-- The opposite of a test decides the opposite.
 pub not_decides : {b : Bool} {P : Type 0} → (b ≡ true) ↔ P → (not b ≡ true) ↔ (P → ⊥)
 not_decides {b} {P} is = (λ e h. both_ways b (not-true b e) (is.1 h), λ never. not_from_false b (false_from_ne_true b (λ e. never (is.0 e))))
 
--- readings that show alike
+-- Readings that show alike tell the same of a take.
 shown_alike : (a b : Reading) → ((reply : ℕ) → a.shown reply ≡ b.shown reply) → (o : Option Record) → recorded_deal a o ≡ recorded_deal b o
 shown_alike a b same None = refl
 shown_alike a b same (Some r) = ap shown_deal (same r.reply)
 
--- of each kind a reply shows a value in the same way
+-- Of each kind a reply shows a value in one way.
 pub same_takes : (kind : Kind) (book : List Page) (call : Call) → take_of queue_reading book call ≡ take_of (reading_of kind) book call
 same_takes kinds.Queue book call = refl
-same_takes kinds.Stack book call = shown_alike queue_reading (reading_of kinds.Stack) (λ reply. refl) (record_of book call)
-same_takes kinds.Pqueue book call = shown_alike queue_reading (reading_of kinds.Pqueue) (λ reply. refl) (record_of book call)
-same_takes kinds.Register book call = shown_alike queue_reading (reading_of kinds.Register) (λ reply. refl) (record_of book call)
-same_takes kinds.Counter book call = shown_alike queue_reading (reading_of kinds.Counter) (λ reply. refl) (record_of book call)
-same_takes kinds.IntSet book call = shown_alike queue_reading (reading_of kinds.IntSet) (λ reply. refl) (record_of book call)
-same_takes kinds.CasRegister book call = shown_alike queue_reading (reading_of kinds.CasRegister) (λ reply. refl) (record_of book call)
-same_takes kinds.Map book call = shown_alike queue_reading (reading_of kinds.Map) (λ reply. refl) (record_of book call)
+same_takes kind book call = shown_alike queue_reading (reading_of kind) (λ reply. refl) (record_of book call)
 
--- a test for a put of a value
+-- The test for a put of a value decides whether a deal is one.
 put_decides : (d : Deal) (v : ℕ) → ((is_put d && (value_by d == v)) ≡ true) ↔ (d ≡ deals.Put v)
 put_decides (deals.Put w) v = (λ e. ap deals.Put (eqb-true w v e), λ same. (let e : w ≡ v = cc in eq-eqb w v e))
-put_decides (deals.Took w) v = (λ e. absurd (false≢true e), λ same. absurd cc)
-put_decides deals.FoundNothing v = (λ e. absurd (false≢true e), λ same. absurd cc)
-put_decides deals.OpenTake v = (λ e. absurd (false≢true e), λ same. absurd cc)
-put_decides deals.Other v = (λ e. absurd (false≢true e), λ same. absurd cc)
+put_decides _ v = (λ e. absurd (false≢true e), λ same. absurd cc)
 
--- for a take of it
+-- The test for a take of a value decides whether a deal is one.
 take_decides : (d : Deal) (v : ℕ) → ((is_take d && (value_by d == v)) ≡ true) ↔ (d ≡ deals.Took v)
 take_decides (deals.Took w) v = (λ e. ap deals.Took (eqb-true w v e), λ same. (let e : w ≡ v = cc in eq-eqb w v e))
-take_decides (deals.Put w) v = (λ e. absurd (false≢true e), λ same. absurd cc)
-take_decides deals.FoundNothing v = (λ e. absurd (false≢true e), λ same. absurd cc)
-take_decides deals.OpenTake v = (λ e. absurd (false≢true e), λ same. absurd cc)
-take_decides deals.Other v = (λ e. absurd (false≢true e), λ same. absurd cc)
+take_decides _ v = (λ e. absurd (false≢true e), λ same. absurd cc)
 
--- and for what may take it
+-- The test for a deal that may take a value decides whether a deal is one.
 neither : {A : Type 0} (d : Deal) (v : ℕ) → (d ≡ deals.Took v → ⊥) → (d ≡ deals.OpenTake → ⊥) → (d ≡ deals.Took v) ⊎ (d ≡ deals.OpenTake) → A
 neither d v took is_open h = elim h [ inl e ↦ absurd (took e) | inr e ↦ absurd (is_open e) ]
 
@@ -59,9 +47,7 @@ may_take_decides (deals.Took w) v = (
   λ h. elim h [ inl same ↦ (let e : w ≡ v = cc in or_left (w == v) false (eq-eqb w v e)) | inr other ↦ absurd cc ],
 )
 may_take_decides deals.OpenTake v = (λ e. inr refl, λ h. refl)
-may_take_decides (deals.Put w) v = (λ e. absurd (false≢true e), neither (deals.Put w) v (λ e. cc) (λ e. cc))
-may_take_decides deals.FoundNothing v = (λ e. absurd (false≢true e), neither deals.FoundNothing v (λ e. cc) (λ e. cc))
-may_take_decides deals.Other v = (λ e. absurd (false≢true e), neither deals.Other v (λ e. cc) (λ e. cc))
+may_take_decides d v = (λ e. absurd (false≢true e), neither d v (λ e. cc) (λ e. cc))
 
 -- The tests as the code makes them: r is the answer for the deal d, at the value n of the deal e.
 pub puts_same : (r : Bool) (d e f g : Deal) (n : ℕ) → r ≡ (is_put d && (value_by d == n)) → n ≡ value_by e → d ≡ f → e ≡ g
@@ -88,24 +74,15 @@ may_take_same r d e f g n is at one other =
     = is ∙ (ap (λ (x : Deal). (is_take x && (value_by x == n)) || is_open x) one ∙ ap (λ (m : ℕ). (is_take f && (value_by f == m)) || is_open f) number) in
     subst (λ (b : Bool). (b ≡ true) ↔ ((f ≡ deals.Took (value_by g)) ⊎ (f ≡ deals.OpenTake))) (sym answer) (may_take_decides f (value_by g))
 
--- what a deal is, by what it is about
+-- A deal that passes a test is a put, a take or a find of nothing, of its own value.
 pub put_of : (d : Deal) → is_put d ≡ true → d ≡ deals.Put (value_by d)
 put_of (deals.Put v) e = refl
-put_of (deals.Took v) e = absurd (false≢true e)
-put_of deals.FoundNothing e = absurd (false≢true e)
-put_of deals.OpenTake e = absurd (false≢true e)
-put_of deals.Other e = absurd (false≢true e)
+put_of _ e = absurd (false≢true e)
 
 pub take_is : (d : Deal) → is_take d ≡ true → d ≡ deals.Took (value_by d)
-take_is (deals.Put v) e = absurd (false≢true e)
 take_is (deals.Took v) e = refl
-take_is deals.FoundNothing e = absurd (false≢true e)
-take_is deals.OpenTake e = absurd (false≢true e)
-take_is deals.Other e = absurd (false≢true e)
+take_is _ e = absurd (false≢true e)
 
 pub nothing_is : (d : Deal) → is_nothing d ≡ true → d ≡ deals.FoundNothing
-nothing_is (deals.Put v) e = absurd (false≢true e)
-nothing_is (deals.Took v) e = absurd (false≢true e)
 nothing_is deals.FoundNothing e = refl
-nothing_is deals.OpenTake e = absurd (false≢true e)
-nothing_is deals.Other e = absurd (false≢true e)
+nothing_is _ e = absurd (false≢true e)

@@ -34,9 +34,7 @@ reading_of kinds.Stack = stack_reading
 reading_of kinds.Pqueue = pqueue_reading
 reading_of kinds.Register = register_reading
 reading_of kinds.Counter = counter_reading
-reading_of kinds.IntSet = other_reading
-reading_of kinds.CasRegister = other_reading
-reading_of kinds.Map = other_reading
+reading_of _ = other_reading
 
 -- What a call of a book did.
 abbrev pub did : Kind → List Page → Call → Deal
@@ -54,42 +52,28 @@ deal_of_act acts.Other = deals.Other
 abbrev pub value_by : Deal → ℕ
 value_by (deals.Put value) = value
 value_by (deals.Took value) = value
-value_by deals.FoundNothing = 0
-value_by deals.OpenTake = 0
-value_by deals.Other = 0
+value_by _ = 0
 
 -- The value that a call puts in, takes or shows.
 abbrev pub value_at : Kind → List Page → Call → ℕ
 value_at kind book call = value_by (did kind book call)
 
--- Whether it is a put.
+-- Whether a deal is a put.
 abbrev pub is_put : Deal → Bool
 is_put (deals.Put value) = true
-is_put (deals.Took value) = false
-is_put deals.FoundNothing = false
-is_put deals.OpenTake = false
-is_put deals.Other = false
+is_put _ = false
 
--- Whether it is an answered take that shows a value.
+-- Whether a deal is an answered take that shows a value.
 abbrev pub is_take : Deal → Bool
-is_take (deals.Put value) = false
 is_take (deals.Took value) = true
-is_take deals.FoundNothing = false
-is_take deals.OpenTake = false
-is_take deals.Other = false
+is_take _ = false
 
--- Whether it is an answered take that found nothing.
+-- Whether a deal is an answered take that found nothing.
 abbrev pub is_nothing : Deal → Bool
-is_nothing (deals.Put value) = false
-is_nothing (deals.Took value) = false
 is_nothing deals.FoundNothing = true
-is_nothing deals.OpenTake = false
-is_nothing deals.Other = false
+is_nothing _ = false
 
--- Whether it is a take without an answer.
+-- Whether a deal is a take without an answer.
 abbrev pub is_open : Deal → Bool
-is_open (deals.Put value) = false
-is_open (deals.Took value) = false
-is_open deals.FoundNothing = false
 is_open deals.OpenTake = true
-is_open deals.Other = false
+is_open _ = false
