@@ -4,8 +4,8 @@ use Rattle.std.specs.Prelude.{All, AllPairs, Contains}
 use Rattle.book_base.specs.declared.call.Call.{Call}
 use Rattle.book_base.specs.Sequential.{IsRunFrom}
 use Rattle.world_core.specs.Schedules.{tenfold}
-use Rattle.world_core.specs.Histories.{numbering, first, second, one_after_another, side_by_side, reply_of_another, after_unanswered, without_unanswered}
-use Rattle.world_core.specs.History.{Invoked, Returned, Done, step_of, IsLinearizable}
+use Rattle.world_core.specs.Histories.{numbering, first, second, one_after_another, side_by_side, reply_of_another, after_unanswered, without_unanswered, second_alone}
+use Rattle.world_core.specs.History.{Invoked, Returned, Done, step_of, IsLinearization, IsLinearizable}
 
 done : Call → ℕ → ℕ → Done
 done call operation reply = record { call = call; operation = operation; reply = reply }
@@ -175,15 +175,16 @@ unfolding done
 without_invoked zero d below = (1, omega arith, refl)
 without_invoked (suc k) d below = absurd (omega arith)
 
-pub unanswered_left_out : IsLinearizable [] numbering without_unanswered
+pub leaves_it_out : IsLinearization [] numbering without_unanswered second_alone
 unfolding done
-unanswered_left_out = (
-  done second 6 0 ∷ [],
-  record {
-    invoked = without_invoked;
-    once = λ i j d lt below. absurd (omega (arith, lt, below));
-    returned = without_returned;
-    legal = (refl, tt);
-    ordered = λ p q d e hd he (i, j, reply, operation, lt, r, v). absurd (omega (arith, lt, without_early j operation e.call v, without_late i reply d.call r));
-  },
-)
+leaves_it_out =
+    record {
+      invoked = without_invoked;
+      once = λ i j d lt below. absurd (omega (arith, lt, below));
+      returned = without_returned;
+      legal = (refl, tt);
+      ordered = λ p q d e hd he (i, j, reply, operation, lt, r, v). absurd (omega (arith, lt, without_early j operation e.call v, without_late i reply d.call r));
+    }
+
+pub unanswered_left_out : IsLinearizable [] numbering without_unanswered
+unanswered_left_out = (second_alone, leaves_it_out)

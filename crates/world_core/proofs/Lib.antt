@@ -12,3 +12,4 @@ pub mod Peeking
 pub mod Gathering
 pub mod Agreeing
 pub mod Steady
+pub mod WrongHistories

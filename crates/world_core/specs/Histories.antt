@@ -1,7 +1,7 @@
 -- Worked histories of two calls of an object, by two callers.
 use Rattle.std.specs.Prelude.{ℕ, List, [], ◌∷◌, length}
 use Rattle.book_base.specs.declared.call.Call.{Call}
-use Rattle.world_core.specs.History.{Happening, Invoked, Returned, call_of}
+use Rattle.world_core.specs.History.{Happening, Invoked, Returned, Done, call_of}
 
 -- An object whose reply is the number of operations before.
 abbrev pub numbering : List ℕ → ℕ → List ℕ × ℕ
@@ -30,3 +30,7 @@ after_unanswered = Invoked first 5 ∷ Invoked second 6 ∷ Returned second 1 �
 
 abbrev pub without_unanswered : List Happening
 without_unanswered = Invoked first 5 ∷ Invoked second 6 ∷ Returned second 0 ∷ []
+
+-- The order of the second call alone, which replies 0.
+abbrev pub second_alone : List Done
+second_alone = record { call = second; operation = 6; reply = 0 } ∷ []

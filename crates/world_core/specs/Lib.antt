@@ -18,3 +18,4 @@ pub mod Histories
 pub mod SecondCalls
 pub mod OneCaller
 pub mod Parts
+pub mod WrongHistories

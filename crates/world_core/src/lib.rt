@@ -10,6 +10,7 @@ mod scan_core;
 pub mod schedules;
 pub mod second_calls;
 mod want;
+pub mod wrong_histories;
 
 pub use local::Local;
 pub use program::{InWorld, Outside, Program, Scrap};
