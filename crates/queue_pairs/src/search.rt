@@ -10,9 +10,6 @@ use std::alloc::Global;
 use std::cmp::Reverse;
 use std::mem;
 
-// How many steps a search has.
-const STEPS: u64 = 200_000;
-
 /// What a search comes to.
 #[derive(Drop)]
 pub enum Found {
@@ -32,6 +29,8 @@ pub struct PairSearch<'a> {
     /// Whether unanswered takes take only what the answered ones leave. Otherwise they may take any value, so that more
     /// is tried.
     pub by_surplus: bool,
+    /// How many steps the search has.
+    pub steps: u64,
 }
 
 impl Drop for PairSearch<'_> {
@@ -41,6 +40,7 @@ impl Drop for PairSearch<'_> {
             table: _,
             surplus: _,
             by_surplus: _,
+            steps: _,
         } = self;
     }
 }
@@ -55,7 +55,7 @@ impl PairSearch<'_> {
             return Ok(Found::Pairs(walk));
         }
         walk.choices = self.choices(&walk, &walk.here, &front)?;
-        for _ in 0..STEPS {
+        for _ in 0..self.steps {
             match walk.choices.pop() {
                 Some(choice) => {
                     if self.enter(&mut walk, choice)? {

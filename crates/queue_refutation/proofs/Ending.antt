@@ -1,36 +1,33 @@
 -- Standings that a search entered lead to one another alone.
-use Rattle.std.proofs.Common.{◌≡◌, ℕ, ◌+◌, ◌<◌, ◌≤◌, ◌⊎◌, ◌∙◌, false, List, [], length, map, get_or, max, replicate, Option, Some, None, option_map, refl, sym, ap, subst, inl, inr, slice_get, arith}
+use Rattle.std.proofs.Common.{◌≡◌, ℕ, ◌+◌, ◌<◌, ◌≤◌, ◌⊎◌, ◌∙◌, List, length, get_or, max, Some, option_map, refl, sym, ap, subst, inl, inr, slice_get, arith}
 use Rattle.std.proofs.lemmas.Bool.{cases_lt}
 use Rattle.std.proofs.lemmas.List.{get_or_past}
-use Rattle.std.proofs.lemmas.Option.{none-some, slice_get-map, slice_get_within}
+use Rattle.std.proofs.lemmas.Option.{slice_get-map, slice_get_within}
 use Rattle.list_laws.proofs.Options.{map_some}
 use Rattle.book_base.specs.declared.TheConstants.{MAX_CALLERS}
 use Rattle.book_base.specs.declared.call.Call.{Call}
 use Rattle.book_base.specs.declared.call.Record.{Record}
-use Rattle.book_base.specs.Book.{Page, answers_of, calls_of, IsCall, record_of}
-use Rattle.book_base.specs.Order.{HasLegalOrder}
+use Rattle.book_base.specs.Book.{Page, answers_of, IsCall, record_of}
 use Rattle.book_base.specs.Pruning.{HasOneOpen}
 use Rattle.book_base.proofs.GrowthLemmas.{below_calls}
-use Rattle.history_rules.specs.Container.{Reading, IsQueue}
-use Rattle.object_foresight.specs.declared.deal.Deal.TheVariants as deals
+use Rattle.history_rules.specs.Container.{Reading}
 use Rattle.object_foresight.specs.Deals.{deal_of}
 use Rattle.queue_pairs.specs.declared.TheConstants.{NEVER}
 use Rattle.queue_pairs.specs.declared.front.Front.{Front}
 use Rattle.queue_pairs.specs.declared.front.TimedPair.{TimedPair}
 use Rattle.queue_pairs.specs.declared.standing.Standing.{Standing}
-use Rattle.queue_pairs.specs.declared.table.Deal.{Deal}
 use Rattle.queue_pairs.specs.declared.table.Deal.TheVariants as did
 use Rattle.queue_pairs.specs.declared.table.Table.{Table}
 use Rattle.queue_pairs.specs.declared.table.TimedCall.{TimedCall}
-use Rattle.queue_pairs.specs.Moments.{moment_of, IsHeldBy}
-use Rattle.queue_pairs.specs.Pairs.{Paired, Pair, Pairs, IsPut, IsTake, MayPair, IsWhole, after, none_paired}
+use Rattle.queue_pairs.specs.Moments.{moment_of}
+use Rattle.queue_pairs.specs.Pairs.{Paired, Pair, MayPair, IsWhole, none_paired}
 use Rattle.queue_pairs.specs.Serving.{IsDueNoLater}
 use Rattle.queue_pairs.specs.Tables.{known_deal, put_at, take_at, timed_at, IsTimed, IsTable}
 use Rattle.queue_pairs.specs.Fronts.{paired, pair_of, IsFront, IsNextEntry, IsNextPair, IsPast, Serves}
 use Rattle.queue_pairs.proofs.Serving.{held_later}
-use Rattle.queue_refutation.specs.Closed.{IsOneOf, ServesFor, PairLeads, IsUnanswered, FindsStandAtOnce, AllLead, AreClosed, IsClosedAt}
+use Rattle.queue_refutation.specs.Closed.{IsOneOf, ServesFor, AreClosed, IsClosedAt}
 use Rattle.queue_refutation.specs.DeadEnds.{listed, HasNoOrder, Lead, IsOf, IsAny, FindsLeadOn, StandAtOnce, ClosedAt, IsServed}
-use Rattle.queue_refutation.proofs.Entries.{IsNextCall, next-put, next-take, put-is, took-is, open-is, timed-is, timed-there, held-first, answered-last, unanswered-last}
+use Rattle.queue_refutation.proofs.Entries.{next-put, next-take, put-is, took-is, open-is, timed-is, timed-there, held-first, answered-last, unanswered-last}
 use Rattle.queue_refutation.proofs.Passing.{is-overdue}
 use Rattle.queue_refutation.proofs.Refuting.{closed_starts_have_no_order}
 

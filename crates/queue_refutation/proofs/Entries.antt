@@ -1,18 +1,16 @@
 -- What the entries of a table say of the calls of its book.
-use Rattle.std.proofs.Common.{◌≡◌, ℕ, ◌<◌, ◌≤◌, ◌⊎◌, ◌∙◌, Bool, true, false, List, [], length, get_or, Option, Some, None, refl, sym, ap, subst, inl, inr, slice_get, arith}
+use Rattle.std.proofs.Common.{◌≡◌, ℕ, ◌<◌, ◌≤◌, ◌⊎◌, ◌∙◌, Bool, true, List, [], length, get_or, Option, Some, None, refl, sym, ap, subst, inl, inr, slice_get, arith}
 use Rattle.std.proofs.lemmas.Bool.{cases_lt, cond-true}
 use Rattle.std.proofs.lemmas.List.{get_or_past}
 use Rattle.std.proofs.lemmas.Option.{none-some, cond_some, slice_get_cases, get_or_from_slice_get}
 use Rattle.book_base.specs.declared.TheConstants.{MAX_CALLERS}
 use Rattle.book_base.specs.declared.call.Call.{Call}
 use Rattle.book_base.specs.declared.call.Record.{Record}
-use Rattle.book_base.specs.declared.sight.Span.{Span}
 use Rattle.book_base.specs.Book.{Page, answers_of, calls_of, IsCall, record_of}
 use Rattle.book_base.proofs.PageLemmas.{caller_from_call}
 use Rattle.book_base.proofs.ViewLemmas.{answer_stands}
 use Rattle.history_rules.specs.Container.{Reading}
 use Rattle.object_foresight.specs.declared.deal.Deal.TheVariants as deals
-use Rattle.object_foresight.specs.Deals.{deal_of}
 use Rattle.object_foresight.proofs.Dealing.{call_by_deal}
 use Rattle.queue_pairs.specs.declared.TheConstants.{NEVER}
 use Rattle.queue_pairs.specs.declared.standing.Standing.{Standing}
@@ -22,7 +20,6 @@ use Rattle.queue_pairs.specs.declared.table.Table.{Table}
 use Rattle.queue_pairs.specs.declared.table.TimedCall.{TimedCall}
 use Rattle.queue_pairs.specs.Moments.{moment_of, IsHeldBy}
 use Rattle.queue_pairs.specs.Pairs.{Pair, IsPut, IsTake, IsNext, MayPair}
-use Rattle.queue_pairs.specs.Spans.{IsSpanOf}
 use Rattle.queue_pairs.specs.Tables.{known_deal, is_put, is_take, only_by, rows_of, timed_at, put_at, take_at, IsTimed, IsTable, IsFirstFrom}
 use Rattle.queue_pairs.specs.Fronts.{paired, IsNextEntry}
 use Rattle.queue_pairs.proofs.Serving.{next-same}

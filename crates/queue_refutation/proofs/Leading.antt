@@ -25,7 +25,7 @@ use Rattle.queue_refutation.proofs.Dropping.{unanswered_pairs_are_idle}
 -- ---- the moments of a pair that stands next
 
 -- no put outside is due before the pair's put
-pair-puts-due : (reading : Reading) (book : List Page) (s : Paired) (pair : Pair)
+pub pair-puts-due : (reading : Reading) (book : List Page) (s : Paired) (pair : Pair)
     (steps : List Step) (p : Call) (r : Record) → AreSteps reading book s (Pairs pair ∷ steps)
     → IsPut reading book p → record_of book p ≡ Some r → get_or s.puts p.caller 0 ≤ p.number
     → pair.put_moment ≤ moment_of r
@@ -37,7 +37,7 @@ pair-puts-due reading book s pair steps p r are put known out =
     ]
 
 -- no take that shows a value and is outside is due before the pair's take
-pair-takes-due : (reading : Reading) (book : List Page) (s : Paired) (pair : Pair)
+pub pair-takes-due : (reading : Reading) (book : List Page) (s : Paired) (pair : Pair)
     (steps : List Step) (t : Call) (v : ℕ) (r : Record)
     → AreSteps reading book s (Pairs pair ∷ steps)
     → deal_of reading book t ≡ deals.Took v → record_of book t ≡ Some r

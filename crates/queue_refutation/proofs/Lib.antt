@@ -5,3 +5,5 @@ pub mod Succeeding
 pub mod Entries
 pub mod Passing
 pub mod Ending
+pub mod Counting
+pub mod Clashing

@@ -1,5 +1,5 @@
 -- What the latest moments of a front say of the calls that don't stand.
-use Rattle.std.proofs.Common.{◌≡◌, ℕ, ◌+◌, ◌<◌, ◌≤◌, ◌⊎◌, ◌∙◌, cond, List, length, get_or, max, Option, Some, None, refl, sym, ap, subst, inl, inr, slice_get, arith}
+use Rattle.std.proofs.Common.{◌≡◌, ℕ, ◌<◌, ◌≤◌, ◌⊎◌, ◌∙◌, cond, List, length, get_or, max, Option, Some, None, refl, sym, ap, subst, inl, inr, slice_get, arith}
 use Rattle.std.specs.Prelude.{nat_lt}
 use Rattle.std.proofs.lemmas.Bool.{cases_lt}
 use Rattle.std.proofs.lemmas.Bool.Decides.{nat_tests}
@@ -8,7 +8,6 @@ use Rattle.list_laws.proofs.Options.{cases_Option}
 use Rattle.book_base.specs.declared.TheConstants.{MAX_CALLERS}
 use Rattle.book_base.specs.declared.call.Call.{Call}
 use Rattle.book_base.specs.declared.call.Record.{Record}
-use Rattle.book_base.specs.Cut.{Holds}
 use Rattle.book_base.specs.Book.{Page, answers_of, IsCall, record_of}
 use Rattle.book_base.proofs.PageLemmas.{caller_from_call}
 use Rattle.book_base.proofs.ViewLemmas.{answer_stands}

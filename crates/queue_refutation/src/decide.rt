@@ -3,6 +3,7 @@ ghost use Rattle.book_base.specs.Decision.{IsRightDecision};
 ghost use Rattle.history_rules.specs.Container.{IsQueue};
 ghost use Rattle.queue_refutation.specs.DeadEnds.{HasNoOrder};
 
+use crate::clashes::refute_by_counts;
 use crate::dead_ends::DeadEnds;
 use book_base::{Book, Decision, NoMemory, SeqObject};
 use indexmap::IndexSet;
@@ -11,8 +12,15 @@ use order_check::check_order;
 use queue_pairs::{Found, PairSearch, Standing, Surplus, Table, Walk, calls_in_order, places_of};
 use std::alloc::Global;
 
+// How many steps the search for pairs has, and how many it has once more, where unanswered takes may take any value.
+const STEPS: u64 = 500_000;
+
+const STEPS_ANEW: u64 = 200_000;
+
 /// What the pairs of a queue's book say of it (after Henzinger, Sezgin and Vafeiadis 2013, whose order of puts and
 /// takes they keep).
+///
+/// Counts of puts and takes are compared first: where they clash, there is no order, and no search.
 ///
 /// The search isn't trusted: the order that it finds is judged, and one that isn't legal isn't delivered; and the
 /// standings that it entered without finding any are looked at once more. No clause says how often anything is said:
@@ -30,12 +38,16 @@ pub fn decide_queue<Q: SeqObject + Reader>(
     ensures { IfOk result (IsRightDecision (Q.init queue.now) (Q.next queue.now) book.now) }
 {
     let table = Table::of(alloc, queue, book)?;
+    if refute_by_counts(alloc, &table, book)? {
+        return Ok(Decision::NoOrder);
+    }
     let surplus = Surplus::of(alloc, &table)?;
     let search = PairSearch {
         alloc,
         table: &table,
         surplus: &surplus,
         by_surplus: true,
+        steps: STEPS,
     };
     match search.run()? {
         Found::Pairs(walk) => order_of(alloc, queue, book, &table, &walk),
@@ -66,6 +78,7 @@ fn refute_anew(
         table,
         surplus,
         by_surplus: false,
+        steps: STEPS_ANEW,
     };
     match search.run()? {
         Found::DeadEnds(standings) => Ok(refute(book, table, &standings)),

@@ -1,5 +1,6 @@
-//! Laws of closed lists of standings. Each is the contract of a function with nothing in it.
+//! Laws of closed lists of standings, and of counts of calls. Each is the contract of a function with nothing in it.
 
+ghost use Rattle.queue_refutation.specs.CountLaws.{TakesFollowPuts, FindsLeaveNothing};
 ghost use Rattle.queue_refutation.specs.RefutationLaws.{
   ClosedStandingsAreDead,
   ClosedStartsHaveNoOrder,
@@ -35,4 +36,15 @@ pub fn successors_suffice()
     ensures serves { PairsServeForThemselves }
     // A list that has all successors is closed.
     ensures closed { SuccessorsSuffice }
+{}
+
+/// The values put in and those taken out begin one list, so that not both those put in by one
+/// moment and those taken out by another one have more of some value.
+pub fn takes_follow_puts()
+    ensures { TakesFollowPuts }
+{}
+
+/// All that was put in before a take that finds nothing was taken out.
+pub fn finds_leave_nothing()
+    ensures { FindsLeaveNothing }
 {}

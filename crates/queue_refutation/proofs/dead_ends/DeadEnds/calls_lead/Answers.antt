@@ -1,4 +1,4 @@
-use Rattle.std.proofs.Common.{◌≡◌, subst}
+use Rattle.std.proofs.Common.{subst}
 use Rattle.queue_pairs.specs.declared.table.TimedCall.{TimedCall}
 use Rattle.queue_refutation.specs.DeadEnds.{listed, Lead, IsOf}
 use Rattle.queue_refutation.proofs.Ending.{lead-idle, lead-unheld_put, lead-unheld_take, lead-apart, next-pair}

@@ -1,4 +1,4 @@
-use Rattle.std.proofs.Common.{sym, subst}
+use Rattle.std.proofs.Common.{subst}
 use Rattle.queue_refutation.specs.Closed.{IsOneOf}
 use Rattle.queue_refutation.specs.DeadEnds.{listed}
 use Rattle.queue_refutation.proofs.Ending.{refuted}

@@ -1,0 +1,282 @@
+ghost use Rattle.std.specs.Prelude.{◌<◌, length, IfOk, IfSome, IsTrue};
+ghost use Rattle.queue_refutation.specs.Counts.{HasNoPairs};
+ghost use Rattle.queue_refutation.specs.DeadEnds.{HasNoOrder};
+
+use crate::counts::{puts_are_ahead, takes_are_ahead};
+use crate::one_open::has_one_open;
+use book_base::{Book, NoMemory};
+use queue_pairs::{Deal, NEVER, Table, TimedCall};
+use std::alloc::Global;
+
+// How many different values are counted at most. Where there are more, few calls share one, and pairs leave few choices.
+const MOST_VALUES: usize = 64;
+
+/// The moments of a value's calls, each list in order: its answered puts by their own views, its puts by the first views
+/// that hold them, and so the takes that show it; unanswered takes are among the last.
+#[derive(Drop)]
+struct Moments {
+    value: u64,
+    due_puts: Vec<u64>,
+    early_puts: Vec<u64>,
+    due_takes: Vec<u64>,
+    early_takes: Vec<u64>,
+}
+
+/// Whether counts of calls show that a queue's book has no legal order: by some moment more has been taken out than put
+/// in, or other values, or a take finds nothing where something was left.
+///
+/// Where to count is looked for by lists of moments, which aren't trusted: what they say is counted once more.
+pub fn refute_by_counts(alloc: Global, table: &Table, book: &Book) -> Result<bool, NoMemory>
+    ensures { IfOk result (λ refuted. IsTrue refuted → HasNoOrder table.now book.now) }
+{
+    if !has_one_open(table, book) {
+        return Ok(false);
+    }
+    match moments_of(alloc, table)? {
+        Some(moments) => Ok(refute(table, &moments)),
+        None => Ok(false),
+    }
+}
+
+// Whether counts show that a table's book has no pairs.
+fn refute(table: &Table, moments: &[Moments]) -> bool
+    ensures { IsTrue result → HasNoPairs table.now }
+{
+    for place in 0..moments.len() {
+        let ahead = &moments[place];
+        if takes_refute_alone(table, ahead) {
+            return true;
+        }
+        if takes_refute(table, moments, ahead) {
+            return true;
+        }
+        if finds_refute(table, ahead) {
+            return true;
+        }
+    }
+    false
+}
+
+// Whether by some moment more of a value has been taken out than put in.
+fn takes_refute_alone(table: &Table, ahead: &Moments) -> bool
+    ensures { IsTrue result → HasNoPairs table.now }
+{
+    match overtaken(ahead) {
+        Some(moment) => refutes(table, ahead.value, ahead.value, moment, moment),
+        None => false,
+    }
+}
+
+// Whether more of this value has been taken out, and more of another one put in.
+fn takes_refute(table: &Table, moments: &[Moments], ahead: &Moments) -> bool
+    ensures { IsTrue result → HasNoPairs table.now }
+{
+    for place in 0..moments.len() {
+        let other = &moments[place];
+        if let Some((put_moment, take_moment)) = clash_of(other, ahead)
+            && refutes(table, ahead.value, other.value, put_moment, take_moment)
+        {
+            return true;
+        }
+    }
+    false
+}
+
+// Whether a take finds nothing where some of this value was left.
+fn finds_refute(table: &Table, left: &Moments) -> bool
+    ensures { IsTrue result → HasNoPairs table.now }
+{
+    for place in 0..table.finds.len() {
+        if is_left(table, left, place) && find_refutes(table, left.value, place) {
+            return true;
+        }
+    }
+    false
+}
+
+// Whether takes of one value are ahead of its puts, which are counted up to no earlier moment, or puts of another value are
+// ahead of its takes.
+fn refutes(table: &Table, ahead: u64, other: u64, put_moment: u64, take_moment: u64) -> bool
+    ensures { IsTrue result → HasNoPairs table.now }
+{
+    if put_moment >= NEVER {
+        return false;
+    }
+    if take_moment >= NEVER {
+        return false;
+    }
+    if !takes_are_ahead(table, ahead, put_moment, take_moment) {
+        return false;
+    }
+    if take_moment <= put_moment {
+        return true;
+    }
+    puts_are_ahead(table, other, put_moment, take_moment)
+}
+
+// Whether puts of a value are ahead of its takes where a take finds nothing.
+fn find_refutes(table: &Table, value: u64, place: usize) -> bool
+    ensures { IsTrue result → HasNoPairs table.now }
+{
+    let Some(find) = table.finds.get(place) else {
+        return false;
+    };
+    if find.span.first == 0 {
+        return false;
+    }
+    if find.span.first >= NEVER {
+        return false;
+    }
+    if find.span.last >= NEVER {
+        return false;
+    }
+    puts_are_ahead(table, value, find.span.first - 1, find.span.last)
+}
+
+// By which moment more of a value has been taken out than put in, if by any.
+fn overtaken(ahead: &Moments) -> Option<u64> {
+    for place in 0..ahead.due_takes.len() {
+        let moment = ahead.due_takes[place];
+        if moment < moment_at(&ahead.early_puts, place) {
+            return Some(moment);
+        }
+    }
+    None
+}
+
+// Up to which moments puts and takes are counted so that the first value's puts are ahead, and the second one's takes.
+fn clash_of(other: &Moments, ahead: &Moments) -> Option<(u64, u64)> {
+    for place in 0..other.due_puts.len() {
+        let put_moment = other.due_puts[place];
+        let early = up_to(&ahead.early_puts, put_moment);
+        let take_moment = moment_at(&ahead.due_takes, early);
+        if take_moment < moment_at(&other.early_takes, place) {
+            return Some((put_moment, take_moment));
+        }
+    }
+    None
+}
+
+// Whether more of a value was put in before a take that finds nothing than may have been taken out.
+fn is_left(table: &Table, left: &Moments, place: usize) -> bool {
+    match table.finds.get(place) {
+        Some(find) => {
+            let put = up_to(&left.due_puts, find.span.first.saturating_sub(1));
+            let taken = up_to(&left.early_takes, find.span.last);
+            taken < put
+        }
+        None => false,
+    }
+}
+
+// How many of these moments are no later than one.
+fn up_to(moments: &[u64], moment: u64) -> usize {
+    moments.partition_point(|other| *other <= moment)
+}
+
+// The moment at a place, or one later than all others.
+fn moment_at(moments: &[u64], place: usize) -> u64 {
+    match moments.get(place) {
+        Some(moment) => *moment,
+        None => NEVER,
+    }
+}
+
+// The moments of each value, unless there are too many values.
+fn moments_of(alloc: Global, table: &Table) -> Result<Option<Vec<Moments>>, NoMemory> {
+    let mut moments = Vec::new(alloc);
+    for row in &table.rows {
+        for timed in row {
+            if !add(alloc, *timed, &mut moments)? {
+                return Ok(None);
+            }
+        }
+    }
+    for row in &table.rows {
+        for timed in row {
+            add_open(*timed, &mut moments)?;
+        }
+    }
+    for place in 0..moments.len() {
+        sort(&mut moments[place])?;
+    }
+    Ok(Some(moments))
+}
+
+// Adds the moments of a call that some view holds, and tells whether there is still room for its value.
+fn add(alloc: Global, timed: TimedCall, moments: &mut Vec<Moments>) -> Result<bool, NoMemory> {
+    if !timed.is_held() {
+        return Ok(true);
+    }
+    match timed.deal {
+        Deal::Put(value) => {
+            let Some(place) = place_of(alloc, value, moments)? else {
+                return Ok(false);
+            };
+            let of_value = &mut moments[place];
+            of_value.early_puts.push(timed.span.first)?;
+            if timed.is_answered() {
+                of_value.due_puts.push(timed.span.last)?;
+            }
+            Ok(true)
+        }
+        Deal::Took(value) => {
+            let Some(place) = place_of(alloc, value, moments)? else {
+                return Ok(false);
+            };
+            let of_value = &mut moments[place];
+            of_value.early_takes.push(timed.span.first)?;
+            of_value.due_takes.push(timed.span.last)?;
+            Ok(true)
+        }
+        _ => Ok(true),
+    }
+}
+
+// Adds the moment of an unanswered take to those of each value.
+fn add_open(timed: TimedCall, moments: &mut Vec<Moments>) -> Result<(), NoMemory> {
+    if let Deal::OpenTake = timed.deal
+        && timed.is_held()
+    {
+        for place in 0..moments.len() {
+            moments[place].early_takes.push(timed.span.first)?;
+        }
+    }
+    Ok(())
+}
+
+// The place of a value, which is added where there is none and still room.
+fn place_of(
+    alloc: Global,
+    value: u64,
+    moments: &mut Vec<Moments>,
+) -> Result<Option<usize>, NoMemory>
+    ensures { IfOk result (λ place. IfSome place (λ k. k < length moments.new.items)) }
+{
+    for place in 0..moments.len() {
+        if moments[place].value == value {
+            return Ok(Some(place));
+        }
+    }
+    let place = moments.len();
+    if place >= MOST_VALUES {
+        return Ok(None);
+    }
+    moments.push(Moments {
+        value,
+        due_puts: Vec::new(alloc),
+        early_puts: Vec::new(alloc),
+        due_takes: Vec::new(alloc),
+        early_takes: Vec::new(alloc),
+    })?;
+    Ok(Some(place))
+}
+
+// Puts each list of moments in order.
+fn sort(moments: &mut Moments) -> Result<(), NoMemory> {
+    moments.due_puts.sort()?;
+    moments.early_puts.sort()?;
+    moments.due_takes.sort()?;
+    moments.early_takes.sort()?;
+    Ok(())
+}
