@@ -1,0 +1,40 @@
+ghost use Rattle.std.specs.Prelude.{◌≡◌, ℕ, ◌+◌, ◌≤◌, length, slice_index, IsTrue};
+ghost use Rattle.book_base.specs.Book.{answers_of};
+ghost use Rattle.book_base.specs.Pruning.{HasOneOpen};
+
+use book_base::{Book, Call, Cut};
+
+/// Looks whether each view of a book holds at most one unanswered call of each caller, as in each book that a
+/// run gathers. A caller's views rise, so that its last one is looked at alone. No clause says that a book with
+/// one open is found to be one: where it isn't, a search only tries more.
+pub fn has_one_open(book: &Book) -> bool
+    // `true` is answered only where each view holds at most one unanswered call of each caller.
+    ensures { IsTrue result → HasOneOpen book.now }
+{
+    for caller in 0..book.callers() {
+        let answers = book.answers(caller);
+        if answers > 0 {
+            let last = Call {
+                caller,
+                number: answers - 1,
+            };
+            if !holds_one_open(book, &book.record(last).view) {
+                return false;
+            }
+        }
+    }
+    true
+}
+
+// Whether a view holds at most one unanswered call of each caller.
+fn holds_one_open(book: &Book, view: &Cut) -> bool
+    requires { length view.now ≡ length book.now }
+    ensures { IsTrue result → (i : ℕ) → slice_index view.now i ≤ answers_of book.now i + 1 }
+{
+    for caller in 0..book.callers() {
+        if view.get(caller).saturating_sub(1) > book.answers(caller) {
+            return false;
+        }
+    }
+    true
+}
