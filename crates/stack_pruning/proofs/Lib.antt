@@ -4,3 +4,4 @@ pub mod Pairing
 pub mod Keeping
 pub mod Moving
 pub mod Answering
+pub mod Representing

@@ -1,13 +1,15 @@
 -- Stacks, by their lists: the values held, in the order in which they were put in.
-use Rattle.std.specs.Prelude.{◌≡◌, ◌≢◌, ℕ, ◌<◌, ◌≤◌, ◌⊎◌, List, [], ◌∷◌, ◌++◌, Option, Some, None, slice_index}
+use Rattle.std.specs.Prelude.{◌≡◌, ◌≢◌, ℕ, ◌<◌, ◌≤◌, ◌⊎◌, Bool, IsTrue, List, [], ◌∷◌, ◌++◌, Option, Some, None, IfSome, slice_index}
 use Rattle.std.specs.List.{AllByRecursion}
 use Rattle.book_base.specs.declared.call.Call.{Call}
+use Rattle.book_base.specs.Cut.{Holds}
 use Rattle.book_base.specs.Book.{Page, IsAnswered}
 use Rattle.book_base.specs.Next.{next_call, MayComeNext}
 use Rattle.history_rules.specs.Container.{Puts, Takes, Neither, Reading}
 use Rattle.history_rules.specs.Calls.{PutsIn, PutsInAlone, FindsNothing}
 use Rattle.value_pruning.specs.LeastFirst.{IsLeastTake}
 use Rattle.value_pruning.specs.HoldsLast.{IsRead, IsWritten, IsUnreadWrite}
+use Rattle.stack_pruning.specs.declared.top.Top.{Top}
 
 -- each item of a list is below a bound
 abbrev pub IsSmall : ℕ → List ℕ → Type 0
@@ -72,3 +74,24 @@ pub record PutsKept (reading : Reading) (book : List Page) (cut list : List ℕ)
 -- The next call of a caller puts in a value that a take, which shows this, doesn't show, or that is the last item already.
 abbrev pub PutsNeedless : Reading → List Page → List ℕ → List ℕ → Option ℕ → ℕ → Type 0
 PutsNeedless reading book cut list shown caller = (value : ℕ) × PutsIn reading book (next_call cut caller) value × ((shown ≢ Some value) ⊎ EndsWith list value)
+
+-- An item of a list after a cut: it is below a bound, and a call inside the cut put it in.
+pub record IsItem (reading : Reading) (book : List Page) (cut : List ℕ) (bound v : ℕ) : Type 0 where
+  pub small : v < bound
+  pub put : Call
+  pub puts : PutsIn reading book put v
+  pub inside : Holds cut put
+
+-- A list after a cut has this top: it ends with the last word, if there is one, calls inside the cut put in its items, and where they
+-- are said to be kept, no answered call outside the cut takes any of them.
+pub record HasTop (reading : Reading) (book : List Page) (cut : List ℕ) (bound : ℕ) (top : Top) (list : List ℕ) : Type 0 where
+  pub last : IfSome top.last (EndsWith list)
+  pub items : AllByRecursion (IsItem reading book cut bound) list
+  pub kept : IsTrue top.kept → AllByRecursion (IsKept reading book cut) list
+
+-- Words stand for a list after a cut: it ends as some of them do; it lacks the value that the next call of a caller alone puts in, where
+-- others lack it; and where those are looked at, it is kept if they are.
+pub record StandFor (reading : Reading) (book : List Page) (cut ends others : List ℕ) (look : Bool) (list : List ℕ) : Type 0 where
+  pub last : (v : ℕ) → EndsWith ends v → EndsWith list v
+  pub lacks : (caller v : ℕ) → PutsInAlone reading book (next_call cut caller) v → Lacks others v → Lacks list v
+  pub kept : IsTrue look → AllByRecursion (IsKept reading book cut) others → AllByRecursion (IsKept reading book cut) list

@@ -2,10 +2,11 @@ ghost use Rattle.std.specs.Prelude.{◌≡◌, ℕ, ◌<◌, List, length, IfSom
 ghost use Rattle.book_base.specs.Next.{next_call};
 ghost use Rattle.book_base.specs.Pruning.{HasOneOpen, IsForced, IsMarked, IsMarkedWithin, IsReached, MarksAllNext, MarksSuffice};
 ghost use Rattle.value_pruning.specs.Sights.{ListsValues};
-ghost use Rattle.stack_pruning.specs.LastFirst.{GivesLastFirst, IsSmall, PutsPaired, TakesLast};
+ghost use Rattle.stack_pruning.specs.LastFirst.{GivesLastFirst, HasTop, IsSmall, PutsKept, PutsPaired, StandFor, TakesLast};
 
 use crate::forced::{forced_take, without_needless};
 use crate::kept::kept_put;
+use crate::top::Top;
 use crate::words::{holds, last_word};
 use book_base::{Book, Call, Cut, Marks, Sight};
 use object_foresight::Reader;
@@ -44,19 +45,117 @@ pub fn narrow_last_first<R: Reader>(
     ensures suffice { (init : List ℕ) (next : List ℕ → ℕ → List ℕ × ℕ) (bound : ℕ) → GivesLastFirst (R.reading reader.now) next bound
         → IsSmall bound init → IsReached init next book.now cut.now words.now → MarksSuffice book.now next cut.now words.now result }
 {
+    narrow_by(reader, sight, book, cut, words, words, true, forced, marks)
+}
+
+/// Which of the calls that may come next a search has to try, of a stack of which the top alone is known, as
+/// `narrow_last_first` says it of a whole list. A value that is put in once, by a call that may come next, is in
+/// no list.
+pub fn narrow_by_top<R: Reader>(
+    reader: &R,
+    sight: &Sight,
+    book: &Book,
+    cut: &Cut,
+    top: Top,
+    forced: u32,
+    marks: Marks,
+) -> Marks
+    // The sight lists each call of the book that puts in a value, and each answered one that takes
+    // it out.
+    requires sight { ListsValues (R.reading reader.now) book.now sight.now }
+    // Each view of the book holds at most one unanswered call of each caller.
+    requires open { HasOneOpen book.now }
+    // The cut has a count for each caller of the book.
+    requires wide { length cut.now ≡ length book.now }
+    // Of all answered calls outside the cut the forced caller's first one has the least view.
+    requires forced { IsForced book.now cut.now forced }
+    // The callers are marked whose next calls may come next after the cut, and no others.
+    requires marks { MarksAllNext book.now cut.now marks }
+    // Each caller that the answer marks was marked.
+    ensures fewer { IsMarkedWithin result marks }
+    // For each object that gives its last value first, and each list with this top whose items calls
+    // inside the cut put in: all that goes on from the cut and the list goes on by the next call of
+    // a caller that the answer marks as well, with no more places.
+    ensures suffice { (next : List ℕ → ℕ → List ℕ × ℕ) (bound : ℕ) (list : List ℕ) → GivesLastFirst (R.reading reader.now) next bound
+        → HasTop (R.reading reader.now) book.now cut.now bound top list → MarksSuffice book.now next cut.now list result }
+{
+    match top.last {
+        Some(value) => narrow_by(
+            reader,
+            sight,
+            book,
+            cut,
+            &[value],
+            &[],
+            top.kept,
+            forced,
+            marks,
+        ),
+        None => narrow_by(reader, sight, book, cut, &[], &[], top.kept, forced, marks),
+    }
+}
+
+// Which of the calls that may come next a search has to try, where words stand for the list: it ends as some of
+// them do, and a value that others lack isn't in it. Whether the others are kept is looked at where this is asked
+// for.
+fn narrow_by<R: Reader>(
+    reader: &R,
+    sight: &Sight,
+    book: &Book,
+    cut: &Cut,
+    ends: &[u64],
+    others: &[u64],
+    look: bool,
+    forced: u32,
+    marks: Marks,
+) -> Marks
+    requires sight { ListsValues (R.reading reader.now) book.now sight.now }
+    requires open { HasOneOpen book.now }
+    requires wide { length cut.now ≡ length book.now }
+    requires forced { IsForced book.now cut.now forced }
+    requires marks { MarksAllNext book.now cut.now marks }
+    ensures fewer { IsMarkedWithin result marks }
+    ensures suffice { (next : List ℕ → ℕ → List ℕ × ℕ) (bound : ℕ) (list : List ℕ) → GivesLastFirst (R.reading reader.now) next bound
+        → IsSmall bound list → StandFor (R.reading reader.now) book.now cut.now ends.now others.now look list → MarksSuffice book.now next cut.now list result }
+{
     let _callers = book.callers();
-    if let Some(caller) = last_take(reader, sight, book, cut, words, marks) {
+    if let Some(caller) = last_take(reader, sight, book, cut, ends, marks) {
         return Marks::only(caller);
     }
-    if let Some(caller) = paired_put(reader, sight, book, cut, words, marks) {
+    if let Some(caller) = paired_put(reader, sight, book, cut, others, marks) {
         return Marks::only(caller);
     }
-    if let Some(caller) = kept_put(reader, sight, book, cut, words, marks) {
+    if let Some(caller) = put_if_kept(reader, sight, book, cut, others, look, marks) {
         return Marks::only(caller);
     }
     match forced_take(reader, book, cut, forced) {
-        Some(shown) => without_needless(reader, book, cut, words, shown, marks),
+        Some(shown) => without_needless(reader, book, cut, ends, shown, marks),
         None => marks,
+    }
+}
+
+// A marked caller whose next call is answered and puts in a kept value, where it is asked for and others are kept too.
+fn put_if_kept<R: Reader>(
+    reader: &R,
+    sight: &Sight,
+    book: &Book,
+    cut: &Cut,
+    others: &[u64],
+    look: bool,
+    marks: Marks,
+) -> Option<u32>
+    requires sight { ListsValues (R.reading reader.now) book.now sight.now }
+    requires wide { length cut.now ≡ length book.now }
+    requires marks { MarksAllNext book.now cut.now marks }
+    ensures look { IfSome result (λ _. IsTrue look) }
+    ensures caller { IfSome result (λ i. i < length book.now) }
+    ensures marked { IfSome result (IsMarked marks) }
+    ensures put { IfSome result (PutsKept (R.reading reader.now) book.now cut.now others.now) }
+{
+    if look {
+        kept_put(reader, sight, book, cut, others, marks)
+    } else {
+        None
     }
 }
 

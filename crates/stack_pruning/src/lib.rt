@@ -4,6 +4,8 @@
 mod forced;
 mod kept;
 mod last_first;
+mod top;
 mod words;
 
-pub use last_first::narrow_last_first;
+pub use last_first::{narrow_by_top, narrow_last_first};
+pub use top::Top;
