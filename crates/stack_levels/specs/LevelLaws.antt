@@ -1,0 +1,18 @@
+-- Closed tables of levels and legal orders.
+use Rattle.std.specs.Prelude.{ℕ, List, []}
+use Rattle.book_base.specs.Book.{Page, IsValid}
+use Rattle.book_base.specs.Order.{HasLegalOrder}
+use Rattle.book_base.specs.Pruning.{HasOneOpen}
+use Rattle.history_rules.specs.Container.{Reading}
+use Rattle.stack_pruning.specs.LastFirst.{GivesLastFirst}
+use Rattle.stack_levels.specs.Levels.{Layer, IsAmong, IsClosed}
+
+-- No object that gives its last value first and begins with nothing has a legal order of a book.
+abbrev pub HasNoOrder : Reading → List Page → Type 0
+HasNoOrder reading book = (next : List ℕ → ℕ → List ℕ × ℕ) (bound : ℕ) → GivesLastFirst reading next bound
+    → HasLegalOrder [] next book → ⊥
+
+-- A valid book with one open has no legal order where a table of levels is closed.
+abbrev pub ClosedTablesHaveNoOrder : Type 0
+ClosedTablesHaveNoOrder = (reading : Reading) (book : List Page) (layers : List Layer) (pairs : List (ℕ × List ℕ))
+    → IsValid book → HasOneOpen book → IsClosed reading book layers (IsAmong pairs) → HasNoOrder reading book

@@ -1,0 +1,3 @@
+pub mod Levels
+pub mod LevelLaws
+pub mod Tables

@@ -1,0 +1,38 @@
+-- Tables of levels, as they are in memory.
+use Rattle.std.specs.Prelude.{◌≡◌, ℕ, IsTrue, List, length, map, take, Some, None, slice_get}
+use Rattle.book_base.specs.Book.{Page}
+use Rattle.stack_levels.specs.declared.table.Level.{Level}
+use Rattle.stack_levels.specs.declared.table.Node.{Node}
+use Rattle.stack_levels.specs.Levels.{Layer, Nodes, IsOneOf, no_calls}
+
+-- a level, without how it was found
+abbrev pub layer_of : Level → Layer
+layer_of level = record { top = level.top; parents = level.parents.items }
+
+abbrev pub layers_of : List Level → List Layer
+layers_of levels = map layer_of levels
+
+-- the cut of a node
+abbrev pub cut_at : List Page → Node → List ℕ
+cut_at book node = take (length book) node.counts
+
+-- the pairs that these nodes are
+abbrev pub nodes_of : List Page → List Node → Nodes
+nodes_of book nodes l cut = (k : ℕ) × (node : Node) × (slice_get nodes k ≡ Some node) × (node.level ≡ l)
+    × (cut_at book node ≡ cut)
+
+-- The bottom is the first level, and one of the nodes is the bottom after no call.
+pub record Begins (book : List Page) (levels : List Level) (nodes : List Node) : Type 0 where
+  pub bottom : Layer
+  pub first : slice_get (layers_of levels) 0 ≡ Some bottom
+  pub empty : bottom.top.last ≡ None
+  pub start : nodes_of book nodes 0 (no_calls book)
+
+-- a level of these that is said to be kept
+abbrev pub IsSaidKept : List Layer → ℕ → Type 0
+IsSaidKept layers p = (under : Layer) × (slice_get layers p ≡ Some under) × IsTrue under.top.kept
+
+-- a level of these with this last word and this level below it
+abbrev pub LiesOn : List Layer → ℕ → ℕ → ℕ → Type 0
+LiesOn layers m l v = (above : Layer) × (slice_get layers m ≡ Some above) × (above.top.last ≡ Some v)
+    × IsOneOf above.parents l

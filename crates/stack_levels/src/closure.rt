@@ -1,0 +1,425 @@
+ghost use Rattle.std.specs.Prelude.{◌≡◌, ℕ, ◌<◌, false, length, map, slice_get, slice_index, take, Some, IfSome, IsTrue};
+ghost use Rattle.book_base.specs.declared.TheConstants.{MAX_CALLERS, MAX_CALLS};
+ghost use Rattle.book_base.specs.declared.call.Call.{Call};
+ghost use Rattle.book_base.specs.Book.{IsCall, operation_of};
+ghost use Rattle.book_base.specs.Next.{next_call, MayComeNext};
+ghost use Rattle.book_base.specs.Pruning.{HasOneOpen, IsMarked, IsMarkedWithin, MarksAllNext};
+ghost use Rattle.history_rules.specs.Calls.{IsNeverTaken};
+ghost use Rattle.stack_levels.specs.declared.table.Node.{Node};
+ghost use Rattle.stack_levels.specs.Levels.{CallLeads, IsClosedAt, IsFollowed, IsKeptLayer, IsOneOf, IsServed, TakeLeads};
+ghost use Rattle.stack_levels.specs.declared.table.Level.{Level};
+ghost use Rattle.stack_levels.specs.LevelLaws.{HasNoOrder};
+ghost use Rattle.stack_levels.specs.Tables.{Begins, IsSaidKept, LiesOn, cut_at, layer_of, layers_of, nodes_of};
+ghost use Rattle.value_pruning.specs.Sights.{ListsValues};
+
+use crate::stack_book::{Look, StackBook};
+use crate::table::{Beginning, Level, LevelTable, Node, raised};
+use book_base::{Call, MAX_CALLERS};
+use next_calls::has_one_open;
+use object_foresight::{Reader, Role};
+use stack_pruning::Top;
+
+/// A table of levels, to be looked at once more. Where all that may come next at each of its nodes leads to one of
+/// them, no order goes on from any.
+pub struct Closure<'a, R> {
+    pub on: &'a StackBook<'a, R>,
+    pub table: &'a LevelTable,
+}
+
+impl<R> Drop for Closure<'_, R> {
+    fn drop(self) {
+        let Closure { on: _, table: _ } = self;
+    }
+}
+
+impl<R: Reader> Closure<'_, R> {
+    /// Whether the table shows that a stack's book has no legal order: it has the start, and its nodes lead to one
+    /// another alone. No clause says that it does so wherever there is none.
+    pub fn refute(&self) -> bool
+        // The sight lists each call of the book that puts in a value, and each answered one that takes
+        // it out.
+        requires sight { ListsValues (R.reading self.now.on.now.reader.now) self.now.on.now.book.now self.now.on.now.sight.now }
+        // `true` is answered only where no object that gives its last value first, and begins with
+        // nothing, has a legal order of the book.
+        ensures { IsTrue result → HasNoOrder (R.reading self.now.on.now.reader.now) self.now.on.now.book.now }
+    {
+        let _callers = self.on.book.callers();
+        if !has_one_open(self.on.book) {
+            return false;
+        }
+        if !self.begins() {
+            return false;
+        }
+        if !self.levels_are_kept() {
+            return false;
+        }
+        self.are_closed()
+    }
+
+    // Whether the first level is the bottom, and one of the nodes is the bottom after no call.
+    fn begins(&self) -> bool
+        ensures { IsTrue result → Begins self.now.on.now.book.now self.now.table.now.levels.items self.now.table.now.nodes.keys }
+    {
+        let _callers = self.on.book.callers();
+        let Some(bottom) = self.level(0) else {
+            return false;
+        };
+        match bottom.top.last {
+            Some(_) => false,
+            None => self.has(0, [0; MAX_CALLERS]),
+        }
+    }
+
+    // The level with this number, if there is one.
+    fn level(&self, number: usize) -> Option<&Level>
+        ensures { IfSome result (λ level. slice_get self.now.table.now.levels.items number ≡ Some level.now) }
+    {
+        self.table.levels.get(number)
+    }
+
+    // Whether a level after these counts is one of the nodes.
+    fn has(&self, level: usize, counts: [u16; MAX_CALLERS]) -> bool
+        ensures { IsTrue result → nodes_of self.now.on.now.book.now self.now.table.now.nodes.keys level
+            (take (length self.now.on.now.book.now) counts) }
+    {
+        let node = Node { level, counts };
+        match self.table.nodes.get_full(&node) {
+            Some((_, kept)) => kept.is_same(&node),
+            None => false,
+        }
+    }
+
+    // Whether all levels are kept that are said to be.
+    fn levels_are_kept(&self) -> bool
+        requires sight { ListsValues (R.reading self.now.on.now.reader.now) self.now.on.now.book.now self.now.on.now.sight.now }
+        ensures { IsTrue result → (l : ℕ) (level : Level) → slice_get self.now.table.now.levels.items l ≡ Some level → IsTrue level.top.kept
+            → IsKeptLayer (R.reading self.now.on.now.reader.now) self.now.on.now.book.now (layers_of self.now.table.now.levels.items) (layer_of level) }
+    {
+        for k in 0..self.table.levels.len() {
+            if !self.level_is_kept_at(k) {
+                return false;
+            }
+        }
+        true
+    }
+
+    // Whether the level with this number is kept, or isn't said to be.
+    fn level_is_kept_at(&self, number: usize) -> bool
+        requires sight { ListsValues (R.reading self.now.on.now.reader.now) self.now.on.now.book.now self.now.on.now.sight.now }
+        ensures { IsTrue result → (level : Level) → slice_get self.now.table.now.levels.items number ≡ Some level → IsTrue level.top.kept
+            → IsKeptLayer (R.reading self.now.on.now.reader.now) self.now.on.now.book.now (layers_of self.now.table.now.levels.items) (layer_of level) }
+    {
+        match self.level(number) {
+            Some(level) => self.level_is_kept(level),
+            None => false,
+        }
+    }
+
+    // Whether a level is kept, or isn't said to be.
+    fn level_is_kept(&self, level: &Level) -> bool
+        requires sight { ListsValues (R.reading self.now.on.now.reader.now) self.now.on.now.book.now self.now.on.now.sight.now }
+        ensures { IsTrue result → IsTrue level.now.top.kept
+            → IsKeptLayer (R.reading self.now.on.now.reader.now) self.now.on.now.book.now (layers_of self.now.table.now.levels.items) (layer_of level.now) }
+    {
+        if !level.top.kept {
+            return true;
+        }
+        if !self.is_free(level.top.last) {
+            return false;
+        }
+        self.are_said_kept(&level.parents)
+    }
+
+    // Whether no answered call takes the last word, if there is one.
+    fn is_free(&self, last: Option<u64>) -> bool
+        requires sight { ListsValues (R.reading self.now.on.now.reader.now) self.now.on.now.book.now self.now.on.now.sight.now }
+        ensures { IsTrue result → IfSome last (IsNeverTaken (R.reading self.now.on.now.reader.now) self.now.on.now.book.now) }
+    {
+        match last {
+            Some(value) => !self.on.is_taken(value),
+            None => true,
+        }
+    }
+
+    // Whether all of these levels are said to be kept.
+    fn are_said_kept(&self, parents: &[usize]) -> bool
+        ensures { IsTrue result → (p : ℕ) → IsOneOf parents.now p → IsSaidKept (layers_of self.now.table.now.levels.items) p }
+    {
+        for k in 0..parents.len() {
+            if !self.is_said_kept(parents[k]) {
+                return false;
+            }
+        }
+        true
+    }
+
+    // Whether a level is said to be kept.
+    fn is_said_kept(&self, level: usize) -> bool
+        ensures { IsTrue result → IsSaidKept (layers_of self.now.table.now.levels.items) level }
+    {
+        match self.level(level) {
+            Some(under) => under.top.kept,
+            None => false,
+        }
+    }
+
+    // Whether each of the nodes leads to them alone.
+    fn are_closed(&self) -> bool
+        requires sight { ListsValues (R.reading self.now.on.now.reader.now) self.now.on.now.book.now self.now.on.now.sight.now }
+        requires open { HasOneOpen self.now.on.now.book.now }
+        ensures { IsTrue result → (k : ℕ) (node : Node) → slice_get self.now.table.now.nodes.keys k ≡ Some node
+            → IsClosedAt (R.reading self.now.on.now.reader.now) self.now.on.now.book.now (layers_of self.now.table.now.levels.items)
+            (nodes_of self.now.on.now.book.now self.now.table.now.nodes.keys) node.level (cut_at self.now.on.now.book.now node) }
+    {
+        for place in 0..self.table.nodes.len() {
+            if !self.is_closed_at(place) {
+                return false;
+            }
+        }
+        true
+    }
+
+    // Whether the node at a place leads to them alone.
+    fn is_closed_at(&self, place: usize) -> bool
+        requires sight { ListsValues (R.reading self.now.on.now.reader.now) self.now.on.now.book.now self.now.on.now.sight.now }
+        requires open { HasOneOpen self.now.on.now.book.now }
+        ensures { IsTrue result → (node : Node) → slice_get self.now.table.now.nodes.keys place ≡ Some node
+            → IsClosedAt (R.reading self.now.on.now.reader.now) self.now.on.now.book.now (layers_of self.now.table.now.levels.items)
+            (nodes_of self.now.on.now.book.now self.now.table.now.nodes.keys) node.level (cut_at self.now.on.now.book.now node) }
+    {
+        match self.table.nodes.get_index(place) {
+            Some(node) => self.is_closed(node),
+            None => true,
+        }
+    }
+
+    // Whether a node leads to them alone.
+    fn is_closed(&self, node: &Node) -> bool
+        requires sight { ListsValues (R.reading self.now.on.now.reader.now) self.now.on.now.book.now self.now.on.now.sight.now }
+        requires open { HasOneOpen self.now.on.now.book.now }
+        ensures { IsTrue result
+            → IsClosedAt (R.reading self.now.on.now.reader.now) self.now.on.now.book.now (layers_of self.now.table.now.levels.items)
+            (nodes_of self.now.on.now.book.now self.now.table.now.nodes.keys) node.now.level (cut_at self.now.on.now.book.now node.now) }
+    {
+        let callers = self.on.book.callers() as usize;
+        let Some(level) = self.level(node.level) else {
+            return false;
+        };
+        let Some(look) = self.on.look(&node.counts[..callers], level.top) else {
+            return false;
+        };
+        self.callers_are_followed(node, level, &look)
+    }
+
+    // Whether the next calls of all marked callers are followed.
+    fn callers_are_followed(&self, node: &Node, level: &Level, look: &Look) -> bool
+        requires cut { look.now.cut ≡ cut_at self.now.on.now.book.now node.now }
+        requires all { MarksAllNext self.now.on.now.book.now look.now.cut look.now.all }
+        requires fewer { IsMarkedWithin look.now.marks look.now.all }
+        requires wide { length look.now.cut ≡ length self.now.on.now.book.now }
+        ensures { IsTrue result → (i : ℕ) → IsMarked look.now.marks i → IsFollowed (R.reading self.now.on.now.reader.now) self.now.on.now.book.now (layers_of self.now.table.now.levels.items)
+            (nodes_of self.now.on.now.book.now self.now.table.now.nodes.keys) node.now.level (layer_of level.now) look.now.cut (next_call look.now.cut i) }
+    {
+        for caller in 0..self.on.book.callers() {
+            if !self.caller_is_followed(node, level, look, caller) {
+                return false;
+            }
+        }
+        true
+    }
+
+    // Whether the next call of a caller is followed, or the caller isn't marked.
+    fn caller_is_followed(&self, node: &Node, level: &Level, look: &Look, caller: u32) -> bool
+        requires cut { look.now.cut ≡ cut_at self.now.on.now.book.now node.now }
+        requires all { MarksAllNext self.now.on.now.book.now look.now.cut look.now.all }
+        requires fewer { IsMarkedWithin look.now.marks look.now.all }
+        requires caller { caller < length self.now.on.now.book.now }
+        requires wide { length look.now.cut ≡ length self.now.on.now.book.now }
+        ensures { IsTrue result → IsMarked look.now.marks caller → IsFollowed (R.reading self.now.on.now.reader.now) self.now.on.now.book.now (layers_of self.now.table.now.levels.items)
+            (nodes_of self.now.on.now.book.now self.now.table.now.nodes.keys) node.now.level (layer_of level.now) look.now.cut (next_call look.now.cut caller) }
+    {
+        if !look.marks.has(caller) {
+            return true;
+        }
+        let number = look.cut.get(caller);
+        self.is_followed(node, level, look, Call { caller, number })
+    }
+
+    // Whether a caller's next call is followed.
+    fn is_followed(&self, node: &Node, level: &Level, look: &Look, call: Call) -> bool
+        requires cut { look.now.cut ≡ cut_at self.now.on.now.book.now node.now }
+        requires all { MarksAllNext self.now.on.now.book.now look.now.cut look.now.all }
+        requires wide { length look.now.cut ≡ length self.now.on.now.book.now }
+        requires caller { call.caller < length self.now.on.now.book.now }
+        requires call { IsCall self.now.on.now.book.now call }
+        requires number { call.number ≡ slice_index look.now.cut call.caller }
+        ensures { IsTrue result → IsFollowed (R.reading self.now.on.now.reader.now) self.now.on.now.book.now (layers_of self.now.table.now.levels.items)
+            (nodes_of self.now.on.now.book.now self.now.table.now.nodes.keys) node.now.level (layer_of level.now) look.now.cut call }
+    {
+        if self.on.shows_another(level.top.last, call) {
+            return true;
+        }
+        if self.on.leaves_top(level.top.last, call) {
+            return true;
+        }
+        if self.leads(node, level, look, call) {
+            return true;
+        }
+        self.is_served(node, level, look, call)
+    }
+
+    // Whether the next call of a caller that serves for this one leads to the nodes.
+    fn is_served(&self, node: &Node, level: &Level, look: &Look, call: Call) -> bool
+        requires cut { look.now.cut ≡ cut_at self.now.on.now.book.now node.now }
+        requires all { MarksAllNext self.now.on.now.book.now look.now.cut look.now.all }
+        requires wide { length look.now.cut ≡ length self.now.on.now.book.now }
+        requires caller { call.caller < length self.now.on.now.book.now }
+        requires call { IsCall self.now.on.now.book.now call }
+        ensures { IsTrue result → IsServed (R.reading self.now.on.now.reader.now) self.now.on.now.book.now (layers_of self.now.table.now.levels.items)
+            (nodes_of self.now.on.now.book.now self.now.table.now.nodes.keys) node.now.level (layer_of level.now) look.now.cut call }
+    {
+        for caller in 0..self.on.book.callers() {
+            if self.serves(node, level, look, caller, call) {
+                return true;
+            }
+        }
+        false
+    }
+
+    // Whether the next call of a caller may come next, serves for another call, and leads to the nodes.
+    fn serves(&self, node: &Node, level: &Level, look: &Look, caller: u32, call: Call) -> bool
+        requires cut { look.now.cut ≡ cut_at self.now.on.now.book.now node.now }
+        requires all { MarksAllNext self.now.on.now.book.now look.now.cut look.now.all }
+        requires wide { length look.now.cut ≡ length self.now.on.now.book.now }
+        requires its_caller { caller < length self.now.on.now.book.now }
+        requires caller { call.caller < length self.now.on.now.book.now }
+        requires call { IsCall self.now.on.now.book.now call }
+        ensures { IsTrue result → IsServed (R.reading self.now.on.now.reader.now) self.now.on.now.book.now (layers_of self.now.table.now.levels.items)
+            (nodes_of self.now.on.now.book.now self.now.table.now.nodes.keys) node.now.level (layer_of level.now) look.now.cut call }
+    {
+        if !look.all.has(caller) {
+            return false;
+        }
+        let number = look.cut.get(caller);
+        let other = Call { caller, number };
+        if !self.on.serves(level.top.last, other, call) {
+            return false;
+        }
+        self.leads(node, level, look, other)
+    }
+
+    // Whether all that a call may make of a list that the level ends is among the nodes.
+    fn leads(&self, node: &Node, level: &Level, look: &Look, call: Call) -> bool
+        requires cut { look.now.cut ≡ cut_at self.now.on.now.book.now node.now }
+        requires caller { call.caller < length self.now.on.now.book.now }
+        requires call { IsCall self.now.on.now.book.now call }
+        requires number { call.number ≡ slice_index look.now.cut call.caller }
+        ensures { IsTrue result → CallLeads (R.reading self.now.on.now.reader.now) self.now.on.now.book.now (layers_of self.now.table.now.levels.items)
+            (nodes_of self.now.on.now.book.now self.now.table.now.nodes.keys) node.now.level (layer_of level.now) look.now.cut call }
+    {
+        let _callers = self.on.book.callers();
+        let counts = raised(&node.counts, call.caller);
+        match self.on.reader.role(self.on.book.op(call)) {
+            Role::Put(value) => self.put_leads(node.level, value, counts),
+            Role::Take => self.take_leads(node.level, level, counts),
+            Role::Other => self.has(node.level, counts),
+        }
+    }
+
+    // Whether a put of a value leads from a level to one of the nodes.
+    fn put_leads(&self, level: usize, value: u64, counts: [u16; MAX_CALLERS]) -> bool
+        ensures { IsTrue result → (m : ℕ) × LiesOn (layers_of self.now.table.now.levels.items) m level value
+            × nodes_of self.now.on.now.book.now self.now.table.now.nodes.keys m (take (length self.now.on.now.book.now) counts) }
+    {
+        if self.put_leads_to(level, value, counts, true) {
+            return true;
+        }
+        self.put_leads_to(level, value, counts, false)
+    }
+
+    // Whether it leads to one with this answer to whether the level is kept.
+    fn put_leads_to(&self, level: usize, value: u64, counts: [u16; MAX_CALLERS], kept: bool) -> bool
+        ensures { IsTrue result → (m : ℕ) × LiesOn (layers_of self.now.table.now.levels.items) m level value
+            × nodes_of self.now.on.now.book.now self.now.table.now.nodes.keys m (take (length self.now.on.now.book.now) counts) }
+    {
+        let top = Top {
+            last: Some(value),
+            kept,
+        };
+        match self.table.beginnings.get_full(&Beginning { counts, top }) {
+            Some((above, _)) => self.leads_to(above, level, value, counts),
+            None => false,
+        }
+    }
+
+    // Whether a level has this last word and another level below it, and is one of the nodes after these counts.
+    fn leads_to(&self, above: usize, level: usize, value: u64, counts: [u16; MAX_CALLERS]) -> bool
+        ensures { IsTrue result → LiesOn (layers_of self.now.table.now.levels.items) above level value
+            × nodes_of self.now.on.now.book.now self.now.table.now.nodes.keys above (take (length self.now.on.now.book.now) counts) }
+    {
+        if !self.lies_on(above, level, value) {
+            return false;
+        }
+        self.has(above, counts)
+    }
+
+    // Whether a level has this last word, and another level below it.
+    fn lies_on(&self, above: usize, level: usize, value: u64) -> bool
+        ensures { IsTrue result → LiesOn (layers_of self.now.table.now.levels.items) above level value }
+    {
+        let Some(upper) = self.level(above) else {
+            return false;
+        };
+        if !is_last(upper.top.last, value) {
+            return false;
+        }
+        is_among(&upper.parents, level)
+    }
+
+    // Whether a take leads from a level to the nodes: to each of the levels below it, and from the bottom nowhere
+    // else.
+    fn take_leads(&self, place: usize, level: &Level, counts: [u16; MAX_CALLERS]) -> bool
+        ensures { IsTrue result → TakeLeads (nodes_of self.now.on.now.book.now self.now.table.now.nodes.keys) place level.now.top.last
+            level.now.parents.items (take (length self.now.on.now.book.now) counts) }
+    {
+        match level.top.last {
+            Some(_) => self.has_all(&level.parents, counts),
+            None => self.has(place, counts),
+        }
+    }
+
+    // Whether all of these levels after these counts are among the nodes.
+    fn has_all(&self, parents: &[usize], counts: [u16; MAX_CALLERS]) -> bool
+        ensures { IsTrue result → (p : ℕ) → IsOneOf parents.now p
+            → nodes_of self.now.on.now.book.now self.now.table.now.nodes.keys p (take (length self.now.on.now.book.now) counts) }
+    {
+        for k in 0..parents.len() {
+            if !self.has(parents[k], counts) {
+                return false;
+            }
+        }
+        true
+    }
+}
+
+// Whether the last word is this value.
+fn is_last(last: Option<u64>, value: u64) -> bool
+    ensures { IsTrue result → last ≡ Some value }
+{
+    match last {
+        Some(word) => word == value,
+        None => false,
+    }
+}
+
+// Whether a level is one of these.
+fn is_among(levels: &[usize], level: usize) -> bool
+    ensures { IsTrue result → IsOneOf levels.now level }
+{
+    for k in 0..levels.len() {
+        if levels[k] == level {
+            return true;
+        }
+    }
+    false
+}

@@ -1,0 +1,97 @@
+ghost use Rattle.std.specs.Prelude.{◌≡◌, ℕ, [], IfOk};
+ghost use Rattle.book_base.specs.Decision.{IsRightDecision};
+ghost use Rattle.stack_pruning.specs.LastFirst.{GivesLastFirst};
+
+use crate::closure::Closure;
+use crate::order::calls_to;
+use crate::search::{Found, LevelSearch};
+use crate::stack_book::StackBook;
+use crate::table::LevelTable;
+use book_base::{Book, Decision, NoMemory, SeqObject, Sight};
+use next_calls::has_one_open;
+use object_foresight::Reader;
+use order_check::check_order;
+use queue_pairs::places_of;
+use std::alloc::Global;
+use value_pruning::sight_of_values;
+
+/// What the levels of a stack's book say of it: a search of pairs of a level and a cut, as of a pushdown system
+/// (Bouajjani, Esparza and Maler 1997), so that no list is kept.
+///
+/// Levels serve where values are put in more than once, so that many lists end alike: where all values differ, nothing
+/// is said, and a search of orders has few lists at each cut.
+///
+/// The search isn't trusted: the order that it finds is judged, and one that isn't legal isn't delivered; and the
+/// pairs that it found are looked at once more. No clause says how often anything is said: that costs time
+/// alone.
+pub fn decide_stack<S: SeqObject + Reader>(
+    alloc: Global,
+    stack: &S,
+    book: &Book,
+) -> Result<Decision, NoMemory>
+    // The object gives its last value first, and its values are below a bound.
+    requires stack { (bound : ℕ) × GivesLastFirst (S.reading stack.now) (S.next stack.now) bound }
+    // It begins with nothing.
+    requires empty { S.init stack.now ≡ [] }
+    // A decision with an order carries a legal one, and where it says that there is none, there is
+    // none.
+    ensures { IfOk result (IsRightDecision (S.init stack.now) (S.next stack.now) book.now) }
+{
+    if !has_one_open(book) {
+        return Ok(Decision::Unsaid);
+    }
+    let sight = sight_of_values(alloc, stack, book)?;
+    if !has_equal_puts(&sight) {
+        return Ok(Decision::Unsaid);
+    }
+    let on = StackBook {
+        reader: stack,
+        sight: &sight,
+        book,
+    };
+    let search = LevelSearch { alloc, on: &on };
+    match search.run()? {
+        Found::Whole(table, place) => order_of(alloc, stack, book, &table, place),
+        Found::DeadEnds(table) => {
+            let closure = Closure {
+                on: &on,
+                table: &table,
+            };
+            if closure.refute() {
+                return Ok(Decision::NoOrder);
+            }
+            Ok(Decision::Unsaid)
+        }
+        Found::Unsaid => Ok(Decision::Unsaid),
+    }
+}
+
+// Whether some value is put in more than once.
+fn has_equal_puts(sight: &Sight) -> bool {
+    for labelled in &sight.labelled {
+        if labelled.puts.len() > 1 {
+            return true;
+        }
+    }
+    false
+}
+
+// The order of the calls that lead to a node, where it is legal.
+fn order_of<S: SeqObject + Reader>(
+    alloc: Global,
+    stack: &S,
+    book: &Book,
+    table: &LevelTable,
+    place: usize,
+) -> Result<Decision, NoMemory>
+    ensures { IfOk result (IsRightDecision (S.init stack.now) (S.next stack.now) book.now) }
+{
+    let calls = calls_to(alloc, table, place)?;
+    let Some(places) = places_of(alloc, stack, book, &calls)? else {
+        return Ok(Decision::Unsaid);
+    };
+    match check_order(alloc, stack, book, &places)? {
+        Ok(()) => Ok(Decision::Order(places)),
+        Err(_) => Ok(Decision::Unsaid),
+    }
+}

@@ -1,0 +1,80 @@
+use crate::table::{LevelTable, Reached};
+use book_base::{Call, MAX_CALLERS, MAX_CALLS, NoMemory};
+use std::alloc::Global;
+
+// More steps than an order of a book's calls is read back in.
+const STEPS: u64 = 8 * MAX_CALLERS as u64 * MAX_CALLS + 8;
+
+/// What is still to be read back.
+#[derive(Clone, Copy)]
+enum Task {
+    /// The calls that lead to a node from the start.
+    ToNode(usize),
+    /// Those of them that follow the put of its level.
+    InLevel(usize),
+    /// Those that lead to a level's first put, and this put.
+    ToLevel(usize),
+    /// One call.
+    One(Call),
+}
+
+/// The calls that lead from the start to a node, in order.
+pub fn calls_to(alloc: Global, table: &LevelTable, place: usize) -> Result<Vec<Call>, NoMemory> {
+    let mut tasks = vec![in alloc; Task::ToNode(place)]?;
+    let mut calls = Vec::new(alloc);
+    for _ in 0..STEPS {
+        match tasks.pop() {
+            Some(Task::ToNode(place)) => {
+                if let Some(node) = table.nodes.get_index(place) {
+                    tasks.push(Task::ToLevel(node.level))?;
+                    tasks.push(Task::InLevel(place))?;
+                }
+            }
+            Some(Task::InLevel(place)) => read_in_level(table, place, &mut tasks, &mut calls)?,
+            Some(Task::ToLevel(level)) => read_to_level(table, level, &mut tasks, &mut calls)?,
+            Some(Task::One(call)) => calls.push(call)?,
+            None => break,
+        }
+    }
+    calls.reverse();
+    Ok(calls)
+}
+
+// The last call that leads to a node in its level, and what leads there. The calls are read from the last one on.
+fn read_in_level(
+    table: &LevelTable,
+    place: usize,
+    tasks: &mut Vec<Task>,
+    calls: &mut Vec<Call>,
+) -> Result<(), NoMemory> {
+    match table.reached.get(place) {
+        Some(Reached::Stays(from, call)) => {
+            calls.push(*call)?;
+            tasks.push(Task::InLevel(*from))?;
+        }
+        Some(Reached::Returns(origin, node, take)) => {
+            calls.push(*take)?;
+            tasks.push(Task::InLevel(origin.node))?;
+            tasks.push(Task::One(origin.put))?;
+            tasks.push(Task::InLevel(*node))?;
+        }
+        Some(Reached::Begins) | None => {}
+    }
+    Ok(())
+}
+
+// The first put of a level, and what leads there.
+fn read_to_level(
+    table: &LevelTable,
+    level: usize,
+    tasks: &mut Vec<Task>,
+    calls: &mut Vec<Call>,
+) -> Result<(), NoMemory> {
+    if let Some(level) = table.levels.get(level)
+        && let Some(origin) = level.origins.first()
+    {
+        calls.push(origin.put)?;
+        tasks.push(Task::ToNode(origin.node))?;
+    }
+    Ok(())
+}

@@ -1,0 +1,195 @@
+ghost use Rattle.std.specs.Prelude.{◌≡◌, ◌≢◌, ℕ, ◌<◌, false, List, None, Some, length, IfSome, IsTrue};
+ghost use Rattle.book_base.specs.Book.{IsAnswered, IsCall};
+ghost use Rattle.book_base.specs.Pruning.{HasOneOpen, IsMarkedWithin, MarksAllNext, MarksSuffice};
+ghost use Rattle.history_rules.specs.Calls.{IsNeverTaken, TakesOut};
+ghost use Rattle.stack_levels.specs.Levels.{AreAnsweredAlike, LeavesTop, ServesFor, ShowsAnother};
+ghost use Rattle.stack_pruning.specs.LastFirst.{GivesLastFirst, HasTop};
+ghost use Rattle.value_pruning.specs.Sights.{ListsValues};
+
+use book_base::{Book, Call, Cut, Marks, Sight};
+use next_calls::{all_next, cut_of, first_view, least_open};
+use object_foresight::{Reader, Role};
+use stack_pruning::{Top, narrow_by_top};
+use value_pruning::{is_read, value_taken};
+
+/// A stack's book, with the calls of each value.
+pub struct StackBook<'a, R> {
+    pub reader: &'a R,
+    pub sight: &'a Sight,
+    pub book: &'a Book,
+}
+
+impl<R> Drop for StackBook<'_, R> {
+    fn drop(self) {
+        let StackBook {
+            reader: _,
+            sight: _,
+            book: _,
+        } = self;
+    }
+}
+
+/// What may come next after a cut: the callers whose next calls may, and those of them that have to be tried.
+#[derive(Drop)]
+pub struct Look {
+    pub cut: Cut,
+    pub all: Marks,
+    pub marks: Marks,
+}
+
+impl<R: Reader> StackBook<'_, R> {
+    /// What may come next after the calls of a cut, at a list with this top; nothing is said where the cut holds all
+    /// answered calls.
+    pub fn look(&self, counts: &[u16], top: Top) -> Option<Look>
+        // The sight lists each call of the book that puts in a value, and each answered one that takes
+        // it out.
+        requires sight { ListsValues (R.reading self.now.reader.now) self.now.book.now self.now.sight.now }
+        // Each view of the book holds at most one unanswered call of each caller.
+        requires open { HasOneOpen self.now.book.now }
+        // The cut has a count for each caller of the book.
+        requires wide { length counts.now ≡ length self.now.book.now }
+        // The answer has the cut with these counts.
+        ensures cut { IfSome result (λ look. look.cut ≡ counts.now) }
+        // It says which callers' next calls may come next.
+        ensures all { IfSome result (λ look. MarksAllNext self.now.book.now look.cut look.all) }
+        // Those that have to be tried are among them.
+        ensures fewer { IfSome result (λ look. IsMarkedWithin look.marks look.all) }
+        // For each object that gives its last value first, and each list with this top, those that
+        // have to be tried suffice.
+        ensures suffice { IfSome result (λ look. (next : List ℕ → ℕ → List ℕ × ℕ) (bound : ℕ) (list : List ℕ)
+            → GivesLastFirst (R.reading self.now.reader.now) next bound
+            → HasTop (R.reading self.now.reader.now) self.now.book.now look.cut bound top list
+            → MarksSuffice self.now.book.now next look.cut list look.marks) }
+    {
+        let _callers = self.book.callers();
+        let first = least_open(self.book, counts)?;
+        let cut = cut_of(counts);
+        let view = first_view(self.book, counts, first);
+        let all = all_next(self.book, &cut, &view, first);
+        let marks = narrow_by_top(self.reader, self.sight, self.book, &cut, top, first, all);
+        Some(Look { cut, all, marks })
+    }
+
+    /// Whether an answered call takes, and shows something else than the last word.
+    pub fn shows_another(&self, last: Option<u64>, call: Call) -> bool
+        // The call is one of the book's.
+        requires caller { call.caller < length self.now.book.now }
+        requires call { IsCall self.now.book.now call }
+        ensures { IsTrue result → ShowsAnother (R.reading self.now.reader.now) self.now.book.now last call }
+    {
+        if call.number >= self.book.answers(call.caller) {
+            return false;
+        }
+        match self.reader.role(self.book.op(call)) {
+            Role::Take => is_another(self.reader.shown(self.book.record(call).reply), last),
+            Role::Put(_) | Role::Other => false,
+        }
+    }
+
+    /// Whether a call is unanswered, and leaves each list with this last word.
+    pub fn leaves_top(&self, last: Option<u64>, call: Call) -> bool
+        // The call is one of the book's.
+        requires caller { call.caller < length self.now.book.now }
+        requires call { IsCall self.now.book.now call }
+        ensures { IsTrue result → LeavesTop (R.reading self.now.reader.now) self.now.book.now last call }
+    {
+        if call.number < self.book.answers(call.caller) {
+            return false;
+        }
+        match self.reader.role(self.book.op(call)) {
+            Role::Take => is_none(last),
+            Role::Other => true,
+            Role::Put(_) => false,
+        }
+    }
+
+    /// Whether a call serves for another one at each list with this last word.
+    pub fn serves(&self, last: Option<u64>, one: Call, other: Call) -> bool
+        // Both calls are calls of the book.
+        requires one_caller { one.caller < length self.now.book.now }
+        requires one { IsCall self.now.book.now one }
+        requires other_caller { other.caller < length self.now.book.now }
+        requires other { IsCall self.now.book.now other }
+        ensures { IsTrue result → ServesFor (R.reading self.now.reader.now) self.now.book.now last one other }
+    {
+        if one.caller == other.caller {
+            return false;
+        }
+        if self.book.op(one) != self.book.op(other) {
+            return false;
+        }
+        if one.number >= self.book.answers(one.caller) {
+            return other.number >= self.book.answers(other.caller);
+        }
+        if other.number >= self.book.answers(other.caller) {
+            return self.takes_last(last, one);
+        }
+        self.are_alike(one, other)
+    }
+
+    /// Whether an answered call takes a value.
+    pub fn is_taken(&self, value: u64) -> bool
+        // The sight lists each call of the book that puts in a value, and each answered one that takes
+        // it out.
+        requires sight { ListsValues (R.reading self.now.reader.now) self.now.book.now self.now.sight.now }
+        // `false` is answered only where no answered call takes the value.
+        ensures { result ≡ false → IsNeverTaken (R.reading self.now.reader.now) self.now.book.now value }
+    {
+        let none = Cut::zero(self.book.callers());
+        is_read(self.reader, self.sight, self.book, &none, value)
+    }
+
+    // Whether an answered call takes the last word.
+    fn takes_last(&self, last: Option<u64>, call: Call) -> bool
+        ensures { IsTrue result → (v : ℕ) × (last ≡ Some v) × TakesOut (R.reading self.now.reader.now) self.now.book.now call v }
+    {
+        match last {
+            Some(value) => self.takes(value, call),
+            None => false,
+        }
+    }
+
+    // Whether an answered call takes a value.
+    fn takes(&self, value: u64, call: Call) -> bool
+        ensures { IsTrue result → TakesOut (R.reading self.now.reader.now) self.now.book.now call value }
+    {
+        match value_taken(self.reader, self.book, call) {
+            Some(shown) => shown == value,
+            None => false,
+        }
+    }
+
+    // Whether two answered calls have one reply, and the first has a view within that of the second.
+    fn are_alike(&self, one: Call, other: Call) -> bool
+        requires one { IsAnswered self.now.book.now one }
+        requires other { IsAnswered self.now.book.now other }
+        ensures { IsTrue result → AreAnsweredAlike self.now.book.now one other }
+    {
+        let mine = self.book.record(one);
+        let its = self.book.record(other);
+        mine.reply == its.reply && mine.view.within(&its.view)
+    }
+}
+
+// Whether there is no last word.
+fn is_none(last: Option<u64>) -> bool
+    ensures { IsTrue result → last ≡ None }
+{
+    match last {
+        Some(_) => false,
+        None => true,
+    }
+}
+
+// Whether what a take shows isn't the last word.
+fn is_another(shown: Option<u64>, last: Option<u64>) -> bool
+    ensures { IsTrue result → shown ≢ last }
+{
+    match shown {
+        Some(value) => match last {
+            Some(other) => value != other,
+            None => true,
+        },
+        None => last.is_some(),
+    }
+}

@@ -1,0 +1,125 @@
+ghost use Rattle.std.specs.Prelude.{◌≡◌, ℕ, ◌+◌, ◌<◌, IsTrue, slice_index, slice_set};
+ghost use Rattle.book_base.specs.declared.TheConstants.{MAX_CALLERS, MAX_CALLS};
+
+use book_base::{Call, MAX_CALLERS, NoMemory};
+use indexmap::IndexSet;
+use stack_pruning::Top;
+use std::alloc::Global;
+
+/// A level, by its number, and the counts of a cut after which it is the last item.
+#[derive(Clone, Copy, Debug, PartialEq, Eq, Hash)]
+pub struct Node {
+    pub level: usize,
+    pub counts: [u16; MAX_CALLERS],
+}
+
+/// What a level is shared by: all puts of one value that lead to one cut, with one answer to whether all below is kept.
+#[derive(Clone, Copy, Debug, PartialEq, Eq, Hash)]
+pub struct Beginning {
+    pub counts: [u16; MAX_CALLERS],
+    pub top: Top,
+}
+
+/// A put that began a level, and the number of the node that it comes from.
+#[derive(Clone, Copy)]
+pub struct Origin {
+    pub node: usize,
+    pub put: Call,
+}
+
+/// A take that ended a level, the number of the node that it comes from, and the counts that it leads to.
+#[derive(Clone, Copy)]
+pub struct Ending {
+    pub node: usize,
+    pub take: Call,
+    pub counts: [u16; MAX_CALLERS],
+}
+
+/// A level: what is known of the lists that it ends, the levels that may lie below it with the puts that come from each,
+/// and the takes that end it. The bottom has no last word, and no levels below it.
+#[derive(Drop)]
+pub struct Level {
+    pub top: Top,
+    pub parents: Vec<usize>,
+    pub origins: Vec<Origin>,
+    pub endings: Vec<Ending>,
+}
+
+/// How a node was reached first.
+#[derive(Clone, Copy)]
+pub enum Reached {
+    /// The level begins there.
+    Begins,
+    /// By a call that leaves the list, from another node of the level.
+    Stays(usize, Call),
+    /// From a node of the level by a put, and by a take that ended the level which the put began, from this node.
+    Returns(Origin, usize, Call),
+}
+
+/// The levels of a search and its nodes. The bottom is the first level; a level's number is that of its beginning, and
+/// a node's number that of how it was reached.
+#[derive(Drop)]
+pub struct LevelTable {
+    pub levels: Vec<Level>,
+    pub beginnings: IndexSet<Beginning>,
+    pub nodes: IndexSet<Node>,
+    pub reached: Vec<Reached>,
+    pub ended: IndexSet<Node>,
+}
+
+impl Node {
+    /// Whether both are one level and one cut.
+    pub fn is_same(&self, other: &Node) -> bool
+        ensures { IsTrue result → self.now ≡ other.now }
+    {
+        self.level == other.level && self.counts == other.counts
+    }
+}
+
+impl Level {
+    /// A level that nothing has led to yet.
+    pub fn new(alloc: Global, top: Top) -> Level {
+        Level {
+            top,
+            parents: Vec::new(alloc),
+            origins: Vec::new(alloc),
+            endings: Vec::new(alloc),
+        }
+    }
+}
+
+impl LevelTable {
+    /// The bottom after no call, and nothing else.
+    pub fn start(alloc: Global) -> Result<LevelTable, NoMemory> {
+        let top = Top {
+            last: None,
+            kept: true,
+        };
+        let counts = [0; MAX_CALLERS];
+        let mut table = LevelTable {
+            levels: Vec::new(alloc),
+            beginnings: IndexSet::new(alloc),
+            nodes: IndexSet::new(alloc),
+            reached: Vec::new(alloc),
+            ended: IndexSet::new(alloc),
+        };
+        table.levels.push(Level::new(alloc, top))?;
+        let _is_new = table.beginnings.insert(Beginning { counts, top })?;
+        let _is_new = table.nodes.insert(Node { level: 0, counts })?;
+        table.reached.push(Reached::Begins)?;
+        Ok(table)
+    }
+}
+
+/// The counts with one more call of a caller.
+pub fn raised(counts: &[u16; MAX_CALLERS], caller: u32) -> [u16; MAX_CALLERS]
+    // There is a count for the caller.
+    requires caller { caller < MAX_CALLERS }
+    // It is less than the number of calls that a caller may have.
+    requires few { slice_index counts.now caller < MAX_CALLS }
+    ensures { result ≡ slice_set counts.now caller (slice_index counts.now caller + 1) }
+{
+    let mut more = *counts;
+    more[caller as usize] += 1;
+    more
+}
