@@ -19,6 +19,7 @@ use crate::stack::Stack;
 use crate::whole::{put_whole, whole};
 use book_base::{Book, Cut, Decision, Foresight, Marks, NoMemory, OpWord, SeqObject, Sight, State};
 use queue_refutation::decide_queue;
+use stack_levels::decide_stack;
 use std::alloc::Global;
 
 /// A kind of sequential object.
@@ -214,12 +215,13 @@ impl SeqObject for Kind {
         }
     }
 
-    /// What is said of a whole book without a search: of a queue's by pairs of puts and takes.
+    /// What is said of a whole book without a search of orders: of a queue's by pairs of puts and takes, of a stack's by
+    /// levels.
     fn decide(&self, alloc: Global, book: &Book) -> Result<Decision, NoMemory> {
         match self {
             Kind::Queue => decide_queue(alloc, &Queue, book),
-            Kind::Stack
-            | Kind::Register
+            Kind::Stack => decide_stack(alloc, &Stack, book),
+            Kind::Register
             | Kind::Counter
             | Kind::IntSet
             | Kind::Pqueue
