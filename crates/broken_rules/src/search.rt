@@ -66,6 +66,9 @@ fn broken_by(kind: Kind, book: &Book, rule: Rule) -> Option<BrokenRule>
     ensures none { IfNone result ((first second : Call) → Breaks kind book.now
         (record { rule = rule; first = first; second = second }) → ⊥) }
 {
+    if !rule.is_kept_by(kind) {
+        return None;
+    }
     for caller in 0..book.callers() {
         match broken_by_caller(kind, book, rule, caller) {
             Some(broken) => return Some(broken),

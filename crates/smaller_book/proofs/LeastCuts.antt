@@ -173,6 +173,12 @@ within_one_less cut other i within less k =
       | inr other_one ↦ omega (arith, get_or-set_other cut i k (get_or cut i 0 - 1) 0 other_one, within k)
     ]
 
+-- The book at a cut at which it has no legal order has none.
+pub illegal_from_cut : (init : List ℕ) (next : List ℕ → ℕ → List ℕ × ℕ) (book : List Page) (cut : List ℕ) (part : List Page) → IsValid book → IsIllegalCut init next book cut
+    → IsBookAt book cut part → ¬ HasLegalOrder init next part
+illegal_from_cut init next book cut part valid is at h =
+    is.illegal (subst (λ (b : List Page). HasLegalOrder init next b) (is_the_only_one book cut part valid at) h)
+
 -- The book at a least cut has a legal order at each earlier cut, and has only calls that some view holds.
 pub earliest_from_least : (init : List ℕ) (next : List ℕ → ℕ → List ℕ × ℕ) (book : List Page) (cut : List ℕ) (part : List Page) → IsValid book → IsLeastCut init next book cut
     → IsBookAt book cut part → IsEarliest init next part
@@ -198,8 +204,7 @@ earliest_from_least init next book cut part valid is at =
 
 pub illegal_from_least : (init : List ℕ) (next : List ℕ → ℕ → List ℕ × ℕ) (book : List Page) (cut : List ℕ) (part : List Page) → IsValid book → IsLeastCut init next book cut
     → IsBookAt book cut part → ¬ HasLegalOrder init next part
-illegal_from_least init next book cut part valid is at h =
-    is.here.illegal (subst (λ (b : List Page). HasLegalOrder init next b) (is_the_only_one book cut part valid at) h)
+illegal_from_least init next book cut part valid is at = illegal_from_cut init next book cut part valid is.here at
 
 -- A legal order of the book gives one of the book at the cut.
 pub carried_to_cut : (next : List ℕ → ℕ → List ℕ × ℕ) (book : List Page) (cut : List ℕ) (part : List Page) → IsValid book → IsWithin cut (answered book) → IsBookAt book cut part

@@ -1,19 +1,20 @@
 //! The book at the earliest cuts at which it has no legal order.
-ghost use Rattle.std.specs.Prelude.{◌≡◌, ◌<◌, ◌≤◌, length, slice_index, slice_set, IfOk};
+ghost use Rattle.std.specs.Prelude.{◌≡◌, ◌<◌, ◌≤◌, length, slice_index, slice_set, IfOk, IfSome};
 ghost use Rattle.book_base.specs.Cut.{IsWithin};
 ghost use Rattle.book_base.specs.Book.{answers_of, answered};
 ghost use Rattle.book_base.specs.Order.{HasLegalOrder};
 ghost use Rattle.seq_objects.specs.Objects.{kind_init, kind_next};
 ghost use Rattle.smaller_book.specs.Part.{IsPart, CarriesOver};
+ghost use Rattle.smaller_book.specs.Numbers.{numbers_in};
+ghost use Rattle.smaller_book.specs.Minimal.{IsSmaller};
 ghost use Rattle.smaller_book.specs.Earliest.{all_numbers, IsEarliest, IsIllegalCut, IsLeastAt, IsLeastCut};
 
-use crate::judging::is_illegal_at;
-use book_base::{Book, Call, Cut, MAX_CALLERS, MAX_CALLS, NoMemory};
+use crate::composing::numbers_of_all;
+use crate::judging::{calls_of_all, is_illegal_at};
+use crate::removal::{Smaller, has_fewer};
+use book_base::{Book, Call, Cut, NoMemory};
 use seq_objects::Kind;
 use std::alloc::Global;
-
-/// No view holds more calls.
-const MOST_HELD: u64 = MAX_CALLERS as u64 * MAX_CALLS;
 
 /// The book at a cut at which it has no legal order, where it has one at each earlier cut. Its calls are
 /// those that its views hold.
@@ -42,6 +43,25 @@ pub fn earliest(alloc: Global, kind: Kind, book: &Book) -> Result<Book, NoMemory
     Ok(part)
 }
 
+/// The book without the calls that only later views hold than those of an earlier cut at which it has no legal order.
+pub fn without_later(alloc: Global, kind: Kind, book: &Book) -> Result<Option<Smaller>, NoMemory>
+    requires { ¬ HasLegalOrder (kind_init kind) (kind_next kind) book.now }
+    ensures { IfOk result (λ found. IfSome found (λ smaller.
+        IsSmaller kind book.now (numbers_in smaller.numbers.items) smaller.book)) }
+{
+    let _callers = book.callers();
+    let cut = first_illegal(alloc, kind, book)?;
+    let part = book.at(alloc, &cut)?;
+    if !has_fewer(&part, book) {
+        return Ok(None);
+    }
+    let numbers = numbers_of_all(alloc, &part)?;
+    Ok(Some(Smaller {
+        book: part,
+        numbers,
+    }))
+}
+
 // The cut that holds all records of a book.
 fn all_records(book: &Book) -> Cut
     ensures { result ≡ answered book.now }
@@ -54,7 +74,7 @@ fn all_records(book: &Book) -> Cut
 }
 
 // A cut at which the book has no legal order, of the records whose views hold at most so many calls: the least
-// such number.
+// such number. Where no record goes with a lower number, nothing is asked.
 fn first_illegal(alloc: Global, kind: Kind, book: &Book) -> Result<Cut, NoMemory>
     requires { ¬ HasLegalOrder (kind_init kind) (kind_next kind) book.now }
     ensures { IfOk result (IsIllegalCut (kind_init kind) (kind_next kind) book.now) }
@@ -62,11 +82,13 @@ fn first_illegal(alloc: Global, kind: Kind, book: &Book) -> Result<Cut, NoMemory
     let _callers = book.callers();
     let mut cut = all_records(book);
     let mut low = 0;
-    let mut high = MOST_HELD;
+    let mut high = calls_of_all(book);
     while low < high {
         let middle = low + (high - low) / 2;
         let tried = records_up_to(book, middle);
-        if is_illegal_at(alloc, kind, book, &tried)? {
+        if cut.within(&tried) {
+            high = middle;
+        } else if is_illegal_at(alloc, kind, book, &tried)? {
             cut = tried;
             high = middle;
         } else {

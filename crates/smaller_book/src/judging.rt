@@ -6,7 +6,9 @@ ghost use Rattle.book_base.specs.BookAt.{book_at};
 ghost use Rattle.book_base.specs.Order.{HasLegalOrder};
 ghost use Rattle.seq_objects.specs.Objects.{kind_init, kind_next};
 
+use crate::one_open::has_one_open;
 use book_base::{Book, Cut, NoMemory};
+use broken_rules::broken_rule;
 use frontier_check::{Verdict, check};
 use seq_objects::Kind;
 use std::alloc::Global;
@@ -18,10 +20,44 @@ pub fn is_illegal(alloc: Global, kind: Kind, book: &Book) -> Result<bool, NoMemo
     ensures legal { IfOk result (λ found. found ≡ false
         → HasLegalOrder (kind_init kind) (kind_next kind) book.now) }
 {
+    if breaks_rule(kind, book) {
+        return Ok(true);
+    }
     match check(alloc, &kind, book)? {
         Verdict::Legal(_) => Ok(false),
         Verdict::Illegal => Ok(true),
     }
+}
+
+/// All pairs of a book's calls are looked at for a broken rule, where it has no more calls than this.
+const MOST_PAIRED: u64 = 256;
+
+/// A book with a view that holds several unanswered calls of a caller may have more calls: a search finds little there
+/// that it may leave out.
+const MOST_PAIRED_OPEN: u64 = 512;
+
+// Whether a book is found to break a rule of its kind.
+fn breaks_rule(kind: Kind, book: &Book) -> bool
+    ensures { IsTrue result → ¬ HasLegalOrder (kind_init kind) (kind_next kind) book.now }
+{
+    let most = if has_one_open(book) {
+        MOST_PAIRED
+    } else {
+        MOST_PAIRED_OPEN
+    };
+    if calls_of_all(book) > most {
+        return false;
+    }
+    broken_rule(kind, book).is_some()
+}
+
+/// How many calls a book has.
+pub fn calls_of_all(book: &Book) -> u64 {
+    let mut calls: u64 = 0;
+    for caller in 0..book.callers() {
+        calls = calls.saturating_add(book.calls(caller));
+    }
+    calls
 }
 
 /// Whether a book has no legal order at a cut.

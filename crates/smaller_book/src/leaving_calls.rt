@@ -10,57 +10,110 @@ ghost use Rattle.smaller_book.specs.Minimal.{IsNeeded, IsSmaller};
 use crate::composing::smaller_still;
 use crate::judging::is_illegal;
 use crate::numbered::part;
-use crate::removal::{Smaller, has_fewer, leaves_every_list, push_if, without_one};
+use crate::removal::{Smaller, has_fewer, leaves_every_list, push_if, without, without_one};
 use book_base::{Book, Call, MAX_CALLS, NoMemory};
 use seq_objects::Kind;
 use std::alloc::Global;
 
-/// The book without calls that leave every list, many of them together and then one after another, as long
-/// as it has no legal order.
+/// The book without a call that leaves every list and isn't needed for the book to have no legal order.
 pub fn without_leaving(alloc: Global, kind: Kind, book: &Book) -> Result<Option<Smaller>, NoMemory>
     ensures smaller { IfOk result (λ found. IfSome found (λ smaller.
         IsSmaller kind book.now (numbers_in smaller.numbers.items) smaller.book)) }
     ensures none { IfOk result (λ found. IfNone found ((call : Call)
         → LeavesEveryList (kind_next kind) book.now call → IsNeeded kind book.now call)) }
 {
-    match without_slices(alloc, kind, book)? {
-        Some(smaller) => Ok(Some(smaller)),
-        None => match without_one(alloc, kind, book, 0)? {
-            None => Ok(None),
-            Some((smaller, caller)) => Ok(Some(without_more(alloc, kind, book, smaller, caller)?)),
+    match without_one(alloc, kind, book, 0)? {
+        None => Ok(None),
+        Some((smaller, _caller)) => Ok(Some(smaller)),
+    }
+}
+
+/// The book without single calls that leave every list. Each is tried once: what a book needs, each part of it that
+/// has no legal order needs too.
+pub fn without_singles(alloc: Global, kind: Kind, book: &Book) -> Result<Option<Smaller>, NoMemory>
+    ensures { IfOk result (λ found. IfSome found (λ smaller.
+        IsSmaller kind book.now (numbers_in smaller.numbers.items) smaller.book)) }
+{
+    let mut found = None;
+    for caller in 0..book.callers() {
+        found = without_singles_of(alloc, kind, book, found, caller)?;
+    }
+    Ok(found)
+}
+
+// The book without more single calls, of this caller: the last one is tried first, so that the numbers of those that
+// are still to be tried stay.
+fn without_singles_of(
+    alloc: Global,
+    kind: Kind,
+    book: &Book,
+    found: Option<Smaller>,
+    caller: u32,
+) -> Result<Option<Smaller>, NoMemory>
+    requires caller { caller < length book.now }
+    requires found { IfSome found (λ smaller.
+        IsSmaller kind book.now (numbers_in smaller.numbers.items) smaller.book) }
+    ensures { IfOk result (λ found. IfSome found (λ smaller.
+        IsSmaller kind book.now (numbers_in smaller.numbers.items) smaller.book)) }
+{
+    let mut fewest = found;
+    let count = book.answers(caller);
+    for tried in 0..count {
+        let call = Call {
+            caller,
+            number: count - 1 - tried,
+        };
+        fewest = without_single_too(alloc, kind, book, fewest, call)?;
+    }
+    Ok(fewest)
+}
+
+// The book without this call too, where it has no legal order without it.
+fn without_single_too(
+    alloc: Global,
+    kind: Kind,
+    book: &Book,
+    found: Option<Smaller>,
+    call: Call,
+) -> Result<Option<Smaller>, NoMemory>
+    requires { IfSome found (λ smaller.
+        IsSmaller kind book.now (numbers_in smaller.numbers.items) smaller.book) }
+    ensures { IfOk result (λ found. IfSome found (λ smaller.
+        IsSmaller kind book.now (numbers_in smaller.numbers.items) smaller.book)) }
+{
+    match found {
+        None => without_single(alloc, kind, book, call),
+        Some(smaller) => match without_single(alloc, kind, &smaller.book, call)? {
+            None => Ok(Some(smaller)),
+            Some(next) => Ok(Some(smaller_still(alloc, kind, book, smaller, next)?)),
         },
     }
 }
 
-// The book without more single calls, from this caller on.
-fn without_more(
+// The book without this call, where it is an answered one that leaves every list, and the book has no legal order
+// without it.
+fn without_single(
     alloc: Global,
     kind: Kind,
     book: &Book,
-    smaller: Smaller,
-    caller: u32,
-) -> Result<Smaller, NoMemory>
-    requires { IsSmaller kind book.now (numbers_in smaller.numbers.items) smaller.book }
-    ensures { IfOk result (λ fewest.
-        IsSmaller kind book.now (numbers_in fewest.numbers.items) fewest.book) }
+    call: Call,
+) -> Result<Option<Smaller>, NoMemory>
+    ensures { IfOk result (λ found. IfSome found (λ smaller.
+        IsSmaller kind book.now (numbers_in smaller.numbers.items) smaller.book)) }
 {
-    let mut fewest = smaller;
-    let mut from = caller;
-    'leaving: loop {
-        let found = without_one(alloc, kind, &fewest.book, from)?;
-        match found {
-            None => return Ok(fewest),
-            Some((next, caller)) => {
-                fewest = smaller_still(alloc, kind, book, fewest, next)?;
-                from = caller;
-            }
-        }
+    if call.caller >= book.callers() || call.number >= book.answers(call.caller) {
+        return Ok(None);
+    }
+    if leaves_every_list(kind, book, call) {
+        without(alloc, kind, book, call)
+    } else {
+        Ok(None)
     }
 }
 
-// The book without calls that leave every list, all those of a slice of numbers together: of all numbers, of
-// their halves, their quarters, down to single ones.
-fn without_slices(alloc: Global, kind: Kind, book: &Book) -> Result<Option<Smaller>, NoMemory>
+/// The book without calls that leave every list, all those of a slice of numbers together: of all numbers, of
+/// their halves, their quarters, down to single ones.
+pub fn without_slices(alloc: Global, kind: Kind, book: &Book) -> Result<Option<Smaller>, NoMemory>
     ensures { IfOk result (λ found. IfSome found (λ smaller.
         IsSmaller kind book.now (numbers_in smaller.numbers.items) smaller.book)) }
 {

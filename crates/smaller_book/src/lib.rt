@@ -13,6 +13,7 @@ mod numbered;
 mod one_open;
 mod removal;
 mod shrinking;
+mod thinning;
 
 pub use cuts::earliest;
 pub use numbered::part;

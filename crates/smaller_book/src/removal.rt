@@ -70,8 +70,13 @@ fn without_one_of(
     Ok(None)
 }
 
-// The book without this call, where it has no legal order without it.
-fn without(alloc: Global, kind: Kind, book: &Book, call: Call) -> Result<Option<Smaller>, NoMemory>
+/// The book without this call, where it has no legal order without it.
+pub fn without(
+    alloc: Global,
+    kind: Kind,
+    book: &Book,
+    call: Call,
+) -> Result<Option<Smaller>, NoMemory>
     requires { LeavesEveryList (kind_next kind) book.now call }
     ensures smaller { IfOk result (λ found. IfSome found (λ smaller.
         IsSmaller kind book.now (numbers_in smaller.numbers.items) smaller.book)) }

@@ -11,12 +11,13 @@ ghost use Rattle.smaller_book.specs.Leaving.{LeavesEveryList};
 ghost use Rattle.smaller_book.specs.Keys.{key_of_call, IsEvidence};
 ghost use Rattle.smaller_book.specs.Minimal.{IsNeeded, IsKeyNeeded, IsMinimal, IsSmaller, IsShrunk, size_of};
 
-use crate::composing::{numbers_of_all, numbers_through};
+use crate::composing::{numbers_of_all, numbers_through, smaller_still};
 use crate::cuts::earliest;
 use crate::judging::is_illegal;
-use crate::keyless::{without_halves, without_one_key};
+use crate::keyless::without_one_key;
 use crate::leaving_calls::without_leaving;
 use crate::removal::Smaller;
+use crate::thinning::thinned;
 use book_base::{Book, NoMemory};
 use seq_objects::Kind;
 use std::alloc::Global;
@@ -66,14 +67,15 @@ pub fn shrink(alloc: Global, kind: Kind, book: &Book) -> Result<Option<Smaller>,
     }
 }
 
-// The book without keys that aren't needed, at the earliest cuts at which that has no legal order.
+// The book without much that isn't needed, at the earliest cuts at which that has no legal order. Many calls go before
+// single records do: each record that goes leaves an unanswered call, and a search has more to try.
 fn begun(alloc: Global, kind: Kind, book: &Book) -> Result<Smaller, NoMemory>
     requires { ¬ HasLegalOrder (kind_init kind) (kind_next kind) book.now }
     ensures { IfOk result (λ smaller. IsShrunk kind
         book.now (numbers_in smaller.numbers.items) smaller.book) }
 {
-    match without_halves(alloc, kind, book)? {
-        Some(without) => settled(alloc, kind, book, without),
+    match thinned(alloc, kind, book)? {
+        Some(without) => at_earliest_after(alloc, kind, book, without),
         None => at_earliest(alloc, kind, book),
     }
 }
@@ -109,7 +111,7 @@ fn next_smaller(alloc: Global, kind: Kind, book: &Book) -> Result<Option<Smaller
     }
 }
 
-// The book without calls that aren't needed: by keys, or else by calls that leave every list.
+// The book without calls that aren't needed: those of a key, or else one that leaves every list.
 fn without_calls(alloc: Global, kind: Kind, book: &Book) -> Result<Option<Smaller>, NoMemory>
     ensures smaller { IfOk result (λ found. IfSome found (λ smaller.
         IsSmaller kind book.now (numbers_in smaller.numbers.items) smaller.book)) }
@@ -118,17 +120,35 @@ fn without_calls(alloc: Global, kind: Kind, book: &Book) -> Result<Option<Smalle
     ensures keys { IfOk result (λ found. IfNone found (HasOneOpen book.now → (call : Call) (key : ℕ)
         → IsCall book.now call → key_of_call kind book.now call ≡ Some key → IsKeyNeeded kind book.now key)) }
 {
-    match without_halves(alloc, kind, book)? {
+    match without_one_key(alloc, kind, book)? {
         Some(smaller) => Ok(Some(smaller)),
-        None => match without_one_key(alloc, kind, book)? {
-            Some(smaller) => Ok(Some(smaller)),
-            None => without_leaving(alloc, kind, book),
-        },
+        None => without_leaving(alloc, kind, book),
+    }
+}
+
+// A smaller book without much that isn't needed, at the earliest cuts at which that has no legal order.
+fn settled(alloc: Global, kind: Kind, book: &Book, without: Smaller) -> Result<Smaller, NoMemory>
+    requires { IsSmaller kind book.now (numbers_in without.numbers.items) without.book }
+    ensures shrunk { IfOk result (λ smaller. IsShrunk kind
+        book.now (numbers_in smaller.numbers.items) smaller.book) }
+    ensures fewer { IfOk result (λ smaller. size_of smaller.book < size_of book.now) }
+{
+    match thinned(alloc, kind, &without.book)? {
+        None => at_earliest_after(alloc, kind, book, without),
+        Some(next) => {
+            let thin = smaller_still(alloc, kind, book, without, next)?;
+            at_earliest_after(alloc, kind, book, thin)
+        }
     }
 }
 
 // A smaller book at the earliest cuts at which it has no legal order.
-fn settled(alloc: Global, kind: Kind, book: &Book, without: Smaller) -> Result<Smaller, NoMemory>
+fn at_earliest_after(
+    alloc: Global,
+    kind: Kind,
+    book: &Book,
+    without: Smaller,
+) -> Result<Smaller, NoMemory>
     requires { IsSmaller kind book.now (numbers_in without.numbers.items) without.book }
     ensures shrunk { IfOk result (λ smaller. IsShrunk kind
         book.now (numbers_in smaller.numbers.items) smaller.book) }

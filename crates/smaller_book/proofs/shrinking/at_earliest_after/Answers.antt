@@ -4,7 +4,7 @@ use Rattle.smaller_book.specs.Numbers.{numbers_in}
 use Rattle.smaller_book.specs.Minimal.{composed, IsShrunk}
 use Rattle.smaller_book.proofs.Removing.{size-within}
 use Rattle.smaller_book.proofs.PartsOfParts.{places_inside, shrunk_twice}
-use Rattle.smaller_book.proofs.shrinking.settled.Goals as goal
+use Rattle.smaller_book.proofs.shrinking.at_earliest_after.Goals as goal
 
 pub numbers_through-requires-clause-inside : goal.numbers_through-requires-clause-inside
 numbers_through-requires-clause-inside c =

@@ -1,0 +1,95 @@
+//! A book without much that it doesn't need to have no legal order.
+ghost use Rattle.std.specs.Prelude.{IfOk, IfSome};
+ghost use Rattle.book_base.specs.Order.{HasLegalOrder};
+ghost use Rattle.seq_objects.specs.Objects.{kind_init, kind_next};
+ghost use Rattle.smaller_book.specs.Numbers.{numbers_in};
+ghost use Rattle.smaller_book.specs.Minimal.{IsSmaller};
+
+use crate::composing::smaller_still;
+use crate::cuts::without_later;
+use crate::keyless::without_halves;
+use crate::leaving_calls::{without_singles, without_slices};
+use crate::removal::Smaller;
+use book_base::{Book, NoMemory};
+use seq_objects::Kind;
+use std::alloc::Global;
+
+/// The book up to the first views at which it has no legal order, without keys and calls that leave every list that can
+/// be left out: many at once, and then single ones (after Zeller and Hildebrandt 2002).
+///
+/// No answer of a call that stays is dropped: while each view holds at most one unanswered call of each caller, a
+/// search is short.
+pub fn thinned(alloc: Global, kind: Kind, book: &Book) -> Result<Option<Smaller>, NoMemory>
+    requires { ¬ HasLegalOrder (kind_init kind) (kind_next kind) book.now }
+    ensures { IfOk result (λ found. IfSome found (λ smaller.
+        IsSmaller kind book.now (numbers_in smaller.numbers.items) smaller.book)) }
+{
+    let early = without_later(alloc, kind, book)?;
+    let keyless = without_halves_too(alloc, kind, book, early)?;
+    let sliced = without_slices_too(alloc, kind, book, keyless)?;
+    let thin = without_singles_too(alloc, kind, book, sliced)?;
+    without_halves_too(alloc, kind, book, thin)
+}
+
+// The book without the keys too that can be left out one half after another.
+fn without_halves_too(
+    alloc: Global,
+    kind: Kind,
+    book: &Book,
+    found: Option<Smaller>,
+) -> Result<Option<Smaller>, NoMemory>
+    requires { IfSome found (λ smaller.
+        IsSmaller kind book.now (numbers_in smaller.numbers.items) smaller.book) }
+    ensures { IfOk result (λ found. IfSome found (λ smaller.
+        IsSmaller kind book.now (numbers_in smaller.numbers.items) smaller.book)) }
+{
+    match found {
+        None => without_halves(alloc, kind, book),
+        Some(smaller) => match without_halves(alloc, kind, &smaller.book)? {
+            None => Ok(Some(smaller)),
+            Some(next) => Ok(Some(smaller_still(alloc, kind, book, smaller, next)?)),
+        },
+    }
+}
+
+// The book without the calls too that leave every list and can be left out by slices.
+fn without_slices_too(
+    alloc: Global,
+    kind: Kind,
+    book: &Book,
+    found: Option<Smaller>,
+) -> Result<Option<Smaller>, NoMemory>
+    requires { IfSome found (λ smaller.
+        IsSmaller kind book.now (numbers_in smaller.numbers.items) smaller.book) }
+    ensures { IfOk result (λ found. IfSome found (λ smaller.
+        IsSmaller kind book.now (numbers_in smaller.numbers.items) smaller.book)) }
+{
+    match found {
+        None => without_slices(alloc, kind, book),
+        Some(smaller) => match without_slices(alloc, kind, &smaller.book)? {
+            None => Ok(Some(smaller)),
+            Some(next) => Ok(Some(smaller_still(alloc, kind, book, smaller, next)?)),
+        },
+    }
+}
+
+// The book without the single calls too that leave every list and can be left out.
+fn without_singles_too(
+    alloc: Global,
+    kind: Kind,
+    book: &Book,
+    found: Option<Smaller>,
+) -> Result<Option<Smaller>, NoMemory>
+    requires { IfSome found (λ smaller.
+        IsSmaller kind book.now (numbers_in smaller.numbers.items) smaller.book) }
+    ensures { IfOk result (λ found. IfSome found (λ smaller.
+        IsSmaller kind book.now (numbers_in smaller.numbers.items) smaller.book)) }
+{
+    match found {
+        None => without_singles(alloc, kind, book),
+        Some(smaller) => match without_singles(alloc, kind, &smaller.book)? {
+            None => Ok(Some(smaller)),
+            Some(next) => Ok(Some(smaller_still(alloc, kind, book, smaller, next)?)),
+        },
+    }
+}
