@@ -3,3 +3,4 @@ pub mod Answers
 pub mod Logging
 pub mod CoreLogs
 pub mod OneWordReplies
+pub mod LogLaws

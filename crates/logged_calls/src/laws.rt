@@ -1,7 +1,18 @@
-//! What every run over an object inside the world says of its calls, for every number of callers and cap. Each law
-//! is the contract of a function with nothing in it.
+//! What one log for all calls says of them, call by call; and what every run over an object inside the world says
+//! of its calls, for every number of callers and cap. Each law is the contract of a function with nothing in it.
 
+ghost use Rattle.logged_calls.specs.LogLaws.{AnswersComeFromTheLog, EntriesAreOfCalls};
 ghost use Rattle.logged_calls.specs.Runs.{RunsOfLogsAreLogged, RunsOfTalliesAreFormed, RunsOfCellsAreFormed};
+
+/// Each answered call stands in the log, and its reply is the answer to the log up to it.
+pub fn answers_come_from_the_log()
+    ensures { AnswersComeFromTheLog }
+{}
+
+/// Each entry of the log is of a call that its caller asked for.
+pub fn entries_are_of_calls()
+    ensures { EntriesAreOfCalls }
+{}
 
 /// The calls of every run of a log are in one log, from which all of them were answered: a call that was announced
 /// and not asked isn't in it, and one that was asked is, whether or not its caller has its record.

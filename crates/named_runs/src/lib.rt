@@ -5,11 +5,9 @@ mod behaviour;
 mod fresh;
 mod inside;
 mod inside_run;
-mod laws;
 mod named;
 mod named_machine;
 mod named_object;
 
 pub use behaviour::{monitor_behaviour, replay_behaviour, run_behaviour};
 pub use fresh::{monitor_fresh, replay_fresh, run_fresh};
-pub use laws::{answers_come_from_the_log, entries_are_of_calls};

@@ -12,7 +12,7 @@ use Rattle.shared_log.proofs.Logs.{calls_by-append, All-behind}
 use Rattle.call_lines.specs.Phases.{asked, answered, operations_of}
 use Rattle.lawful_objects.specs.Pairs.{pairs_of, pairs_behind}
 use Rattle.lawful_objects.proofs.Pairing.{behind_own}
-use Rattle.named_runs.specs.LogLaws.{AnswersComeFromTheLog, EntriesAreOfCalls}
+use Rattle.logged_calls.specs.LogLaws.{AnswersComeFromTheLog, EntriesAreOfCalls}
 
 -- ---- a pair of a log stands there
 

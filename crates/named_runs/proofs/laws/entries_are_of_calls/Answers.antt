@@ -1,5 +1,0 @@
-use Rattle.named_runs.proofs.LogLaws as lemmas
-use Rattle.named_runs.proofs.laws.entries_are_of_calls.Goals as goal
-
-pub returns : goal.returns
-returns c = lemmas.entries_are_of_calls
