@@ -1,12 +1,22 @@
 -- Lists with an item for each of n callers, as they grow and shrink at their end.
 use Rattle.std.proofs.Common.{◌≡◌, ◌∙◌, sym, subst, ap, refl, ℕ, zero, suc, ◌+◌, ◌<◌, inl, inr, List, [], ◌∷◌, ◌++◌, Some, length, take, drop, slice_get, arith}
+use Rattle.std.specs.Prelude.{Option, option_to_list}
 use Rattle.std.specs.List.{All, AllZip}
 use Rattle.std.proofs.lemmas.List.Elements.{All-nil, All-cons}
+use Rattle.std.proofs.lemmas.Slice.Zip.{AllZip-long}
 use Rattle.std.proofs.lemmas.List.{length_push}
 use Rattle.std.proofs.lemmas.Option.{none-some, same_Some}
 use Rattle.std.proofs.Math.Seq.{take-append_seam}
 use Rattle.list_laws.proofs.Places.{slice_get-push_old, slice_get-push_last, slice_get-push_cases}
 use Rattle.bench_clients.specs.Places.{AreDownFrom, AreInOrder}
+
+-- what stands in a list that got one more item at its end
+pub still_at : {X : Type 0} (xs xs' : List X) (x y : X) (i : ℕ) → xs' ≡ xs ++ x ∷ [] → slice_get xs i ≡ Some y → slice_get xs' i ≡ Some y
+still_at xs xs' x y i put there = subst (λ (ys : List _). slice_get ys i ≡ Some y) (sym put) (slice_get-push_old xs x i y there)
+
+pub last_at : {X : Type 0} (xs xs' : List X) (x : X) (k : ℕ) → xs' ≡ xs ++ x ∷ [] → length xs ≡ k → slice_get xs' k ≡ Some x
+last_at xs xs' x k put long =
+    subst (λ (m : ℕ). slice_get xs' m ≡ Some x) long (subst (λ (ys : List _). slice_get ys (length xs) ≡ Some x) (sym put) (slice_get-push_last xs x))
 
 -- an empty list has no item of any caller
 pub none_down : {X : Type 0} (n : ℕ) (Is : ℕ → X → Type 0) (xs : List X) → xs ≡ [] → AreDownFrom n Is xs
@@ -26,23 +36,19 @@ one_more_down n Is xs xs' k x put place one h i j y at there =
 -- one item less
 pub one_less_down : {X : Type 0} (n : ℕ) (Is : ℕ → X → Type 0) (xs xs' : List X) (x : X)
     → xs ≡ xs' ++ x ∷ [] → AreDownFrom n Is xs → AreDownFrom n Is xs'
-one_less_down n Is xs xs' x took h i j y at there =
-    h i j y at (subst (λ (ys : List _). slice_get ys j ≡ Some y) (sym took) (slice_get-push_old xs' x j y there))
+one_less_down n Is xs xs' x took h i j y at there = h i j y at (still_at xs' xs x y j took there)
 
 -- the item that is taken
 pub last_down : {X : Type 0} (n : ℕ) (Is : ℕ → X → Type 0) (xs xs' : List X) (k : ℕ) (x : X)
     → xs ≡ xs' ++ x ∷ [] → k + length xs' + 1 ≡ n → AreDownFrom n Is xs → Is k x
-last_down n Is xs xs' k x took place h =
-    h k (length xs') x place (subst (λ (ys : List _). slice_get ys (length xs') ≡ Some x) (sym took) (slice_get-push_last xs' x))
+last_down n Is xs xs' k x took place h = h k (length xs') x place (last_at xs' xs x (length xs') took refl)
 
 -- items in order, one less
 pub one_less_in_order : {X : Type 0} (Is : ℕ → X → Type 0) (xs xs' : List X) (x : X) → xs ≡ xs' ++ x ∷ [] → AreInOrder Is xs → AreInOrder Is xs'
-one_less_in_order Is xs xs' x took h i y there =
-    h i y (subst (λ (ys : List _). slice_get ys i ≡ Some y) (sym took) (slice_get-push_old xs' x i y there))
+one_less_in_order Is xs xs' x took h i y there = h i y (still_at xs' xs x y i took there)
 
 pub last_in_order : {X : Type 0} (Is : ℕ → X → Type 0) (xs xs' : List X) (k : ℕ) (x : X) → xs ≡ xs' ++ x ∷ [] → k ≡ length xs' → AreInOrder Is xs → Is k x
-last_in_order Is xs xs' k x took place h =
-    h k x (subst (λ (ys : List _). slice_get ys k ≡ Some x) (sym took) (subst (λ (m : ℕ). slice_get (xs' ++ x ∷ []) m ≡ Some x) (sym place) (slice_get-push_last xs' x)))
+last_in_order Is xs xs' k x took place h = h k x (last_at xs' xs x k took (sym place))
 
 -- what two lists of related items have at one place
 related_at : {X Y : Type 0} (R : X → Y → Type 0) (xs : List X) (ys : List Y) (j : ℕ) (y : Y)
@@ -60,18 +66,16 @@ down_across n Is Then R xs ys one h zip i j y at there =
     let before = related_at R xs ys j y zip there in
     one i before.0 y (h i j before.0 at before.1) before.2
 
-pub as_long : {X Y : Type 0} (R : X → Y → Type 0) (xs : List X) (ys : List Y) → AllZip R xs ys → length ys ≡ length xs
-as_long R [] [] h = refl
-as_long R [] (y ∷ ys) h = absurd h
-as_long R (x ∷ xs) [] h = absurd h
-as_long R (x ∷ xs) (y ∷ ys) h = ap suc (as_long R xs ys h.1)
-
 -- a list that was lent as a slice, behind what was done to the slice
 pub written_back : {X : Type 0} (R : X → X → Type 0) (n : ℕ) (xs lent ys : List X) → lent ≡ xs → length lent ≡ n → AllZip R lent ys → AllZip R xs (take n (ys ++ drop (length ys) xs))
 written_back R n xs lent ys is long h =
     let all : AllZip R xs ys = subst (λ (l : List _). AllZip R l ys) is h in
-    let whole : take n (ys ++ drop (length ys) xs) ≡ ys = ap (λ (m : ℕ). take m (ys ++ drop (length ys) xs)) (sym long ∙ sym (as_long R lent ys h)) ∙ take-append_seam ys (drop (length ys) xs) in
+    let whole : take n (ys ++ drop (length ys) xs) ≡ ys = ap (λ (m : ℕ). take m (ys ++ drop (length ys) xs)) (sym long ∙ sym (AllZip-long R lent ys h)) ∙ take-append_seam ys (drop (length ys) xs) in
     subst (λ (l : List _). AllZip R xs l) (sym whole) all
+
+-- what a list was before its last item was popped
+pub popped : {X : Type 0} (xs ys : List X) (o : Option X) (x : X) → xs ≡ ys ++ option_to_list o → o ≡ Some x → xs ≡ ys ++ x ∷ []
+popped xs ys o x items is = items ∙ ap (λ (p : Option _). ys ++ option_to_list p) is
 
 -- a list with one item more than another is one longer
 pub one_longer : {X : Type 0} (xs ys : List X) (x : X) → xs ≡ ys ++ x ∷ [] → length xs ≡ length ys + 1

@@ -1,5 +1,5 @@
 -- Turns, one by one.
-use Rattle.std.proofs.Common.{◌≡◌, ◌≢◌, ◌∙◌, sym, subst, ap, refl, inl, inr, ℕ, zero, suc, ◌+◌, ◌*◌, ◌<◌, ◌≤◌, ◌⊎◌, ◌==◌, min, List, [], ◌∷◌, Some, length, take, set, get_or, slice_get, slice_index, arith}
+use Rattle.std.proofs.Common.{◌≡◌, ◌≢◌, ◌∙◌, sym, subst, ap, refl, inl, inr, ℕ, zero, suc, ◌+◌, ◌<◌, ◌⊎◌, ◌==◌, min, List, [], ◌∷◌, Some, length, take, set, get_or, slice_get, slice_index, arith}
 use Rattle.std.specs.Prelude.{Option}
 use Rattle.std.specs.List.{AllByRecursion}
 use Rattle.std.proofs.lemmas.Bool.{eq-eqb, ne_eqb}
@@ -17,12 +17,12 @@ use Rattle.call_phases.specs.declared.client.Client.{Client}
 use Rattle.call_phases.specs.Asking.{Fits, PassCount}
 use Rattle.call_phases.specs.Ends.{Sequential}
 use Rattle.call_phases.specs.Stands.{GoesOnFrom}
-use Rattle.call_phases.specs.Clients.{phases_by, HasSpent}
+use Rattle.call_phases.specs.Clients.{phases_by, HasSpent, IsSameClient}
 use Rattle.call_phases.proofs.Spending.{spent_by, spent_exact, spent_more}
-use Rattle.bench_clients.specs.Work.{Says}
-use Rattle.bench_clients.specs.Starts.{run_allotments, replay_allotments, Course, course_of, IsClientOf, IsStart}
+use Rattle.bench_clients.specs.Work.{Says, IsAtWork}
+use Rattle.bench_clients.specs.Starts.{run_allotments, replay_allotments, Course, course_of, IsStart}
 use Rattle.bench_clients.specs.Returns.{IsSpent}
-use Rattle.bench_clients.specs.Turns.{IsTurned, IsTurning, HasTurned}
+use Rattle.bench_clients.specs.Turns.{IsTurned, IsTurning}
 use Rattle.bench_clients.specs.declared.worker.Worker.{Worker}
 
 -- a caller is halted or goes on
@@ -59,50 +59,42 @@ module _ {P T E : Type 0} (meaning : P → ℕ → ℕ → Meaning) (r : Rows P)
     left = λ goes. omega (arith, h.left goes, h.within);
   }
 
-  -- one more turn
-  pub one_more_turn : (i turns : ℕ) (w d : Worker P T E) → Turned i turns w → HasTurned meaning r says object fits count w d → Turned i (turns + 1) d
-  one_more_turn i turns w d h t =
+  -- a turn at which nothing is done, since no phase is left or the client is halted
+  pub still_turned : (i turns : ℕ) (w d : Worker P T E) → d.client ≡ w.client → d.allotment ≡ w.allotment
+      → ((c : Client P T E) → w.client ≡ Some c → GoesOnFrom c.stand → w.allotment ≡ 0) → Turned i turns w → Turned i (turns + 1) d
+  still_turned i turns w d same left none h =
       let a = slice_index course.allotments i in
-      let mine : h.client ≡ t.before = same_Some h.client t.before (sym h.here ∙ t.was) in
-      let of : IsClientOf meaning r says object fits count course i t.before = subst (λ (c : Client P T E). IsClientOf meaning r says object fits count course i c) mine h.of in
-      let spent : HasSpent (min a turns) t.before = subst (λ (c : Client P T E). HasSpent (min a turns) c) mine h.spent in
-      let left : GoesOnFrom t.before.stand → phases_by t.before + w.allotment ≡ a = subst (λ (c : Client P T E). GoesOnFrom c.stand → phases_by c + w.allotment ≡ a) mine h.left in
-      let within : a ≤ 5 * length t.before.sheet.operations.now = subst (λ (c : Client P T E). a ≤ 5 * length c.sheet.operations.now) mine h.within in
-      let lines = length t.before.sheet.lines.items in
-      let still : HasSpent (min a (turns + 1)) t.after × (GoesOnFrom t.after.stand → phases_by t.after + d.allotment ≡ a) =
-      elim t.turns [
-        | inl nothing ↦
-            let same : t.before ≡ t.after = sym nothing.0 in
-            let more : HasSpent (min a (turns + 1)) t.before =
-            elim (goes_or_not t.before.stand) [
-              | inl goes ↦
-                  elim nothing.2 [
-                    | inl none ↦ spent_by (min a (turns + 1)) lines t.before.stand (omega (arith, spent_exact (min a turns) lines t.before.stand goes spent, left goes, none))
-                    | inr stops ↦ absurd (stops goes)
-                  ]
-              | inr stops ↦ spent_more (min a turns) (min a (turns + 1)) lines t.before.stand stops (omega arith) spent
-            ] in (
-              subst (λ (c : Client P T E). HasSpent (min a (turns + 1)) c) same more,
-              subst (λ (c : Client P T E). GoesOnFrom c.stand → phases_by c + d.allotment ≡ a) same (λ goes. omega (arith, left goes, nothing.1)),
-            )
-        | inr phase ↦
-            let all : phases_by t.after ≡ min a (turns + 1) = omega (arith, spent_exact (min a turns) lines t.before.stand phase.0 spent, left phase.0, phase.1, phase.2) in (
-              spent_by (min a (turns + 1)) (length t.after.sheet.lines.items) t.after.stand all,
-              λ goes. omega (arith, left phase.0, phase.1, phase.2),
-            )
-      ] in
+      let lines = length h.client.sheet.lines.items in
       record {
-        client = t.after;
-        here = t.is;
-        of = record {
-          work = t.work;
-          who = t.same.who ∙ of.who;
-          operations = t.same.operations ∙ of.operations;
-          judges = t.judges ∙ of.judges;
-        };
-        spent = still.0;
-        left = still.1;
-        within = omega (arith, within, ap (λ (o : List ℕ). length o) t.same.operations);
+        client = h.client;
+        here = same ∙ h.here;
+        of = h.of;
+        spent =
+            elim (goes_or_not h.client.stand) [
+              | inl goes ↦ spent_by (min a (turns + 1)) lines h.client.stand (omega (arith, spent_exact (min a turns) lines h.client.stand goes h.spent, h.left goes, none h.client h.here goes))
+              | inr stops ↦ spent_more (min a turns) (min a (turns + 1)) lines h.client.stand stops (omega arith) h.spent
+            ];
+        left = λ goes. omega (arith, h.left goes, left);
+        within = h.within;
+      }
+
+  -- a turn at which a phase is made
+  pub phase_turned : (i turns : ℕ) (w d : Worker P T E) (before after : Client P T E) → w.client ≡ Some before → d.client ≡ Some after
+      → IsAtWork meaning r says object fits count after → IsSameClient before after → object after.sheet.ending ≡ object before.sheet.ending
+      → GoesOnFrom before.stand → phases_by after ≡ phases_by before + 1 → w.allotment ≡ d.allotment + 1 → Turned i turns w → Turned i (turns + 1) d
+  phase_turned i turns w d before after was is work same judges goes phase fewer h =
+      let a = slice_index course.allotments i in
+      let f : IsSameClient h.client after × (object after.sheet.ending ≡ object h.client.sheet.ending) × GoesOnFrom h.client.stand × (phases_by after ≡ phases_by h.client + 1) =
+      subst (λ (c : Client P T E). IsSameClient c after × (object after.sheet.ending ≡ object c.sheet.ending) × GoesOnFrom c.stand × (phases_by after ≡ phases_by c + 1))
+      (same_Some before h.client (sym was ∙ h.here)) (same, judges, goes, phase) in
+      let made = spent_exact (min a turns) (length h.client.sheet.lines.items) h.client.stand f.2 h.spent in
+      record {
+        client = after;
+        here = is;
+        of = record { work = work; who = f.0.who ∙ h.of.who; operations = f.0.operations ∙ h.of.operations; judges = f.1 ∙ h.of.judges };
+        spent = spent_by (min a (turns + 1)) (length after.sheet.lines.items) after.stand (omega (arith, made, h.left f.2, f.3, fewer));
+        left = λ goes. omega (arith, h.left f.2, f.3, fewer);
+        within = omega (arith, h.within, ap (λ (o : List ℕ). length o) f.0.operations);
       }
 
 all_at : (Is : ℕ → Type 0) (xs : List ℕ) (k d : ℕ) → k < length xs → AllByRecursion Is xs → Is (get_or xs k d)
@@ -139,7 +131,8 @@ module _ {P T E : Type 0} (meaning : P → ℕ → ℕ → Meaning) (r : Rows P)
 
   -- one more turn, of the worker at its place
   pub turned_set : (n k place : ℕ) (turns : List ℕ) (ws : List (Worker P T E)) (w d : Worker P T E) → k < length turns → place + get_or turns k 0 + 1 ≡ n
-      → slice_get ws place ≡ Some w → HasTurned meaning r says object fits count w d → Are n (take k turns) ws → Are n (take (k + 1) turns) (set ws place d)
+      → slice_get ws place ≡ Some w → ((i turns : ℕ) → IsTurned meaning r says object fits count course i turns w → IsTurned meaning r says object fits count course i (turns + 1) d)
+      → Are n (take k turns) ws → Are n (take (k + 1) turns) (set ws place d)
   turned_set n k place turns ws w d low at there turned all i j x here gets =
       elim (set_cases ws place j d x gets) [
         | inl mine ↦
@@ -147,7 +140,7 @@ module _ {P T E : Type 0} (meaning : P → ℕ → ℕ → Meaning) (r : Rows P)
             let before = all i place w (omega (arith, here, mine.0)) there in
             subst (λ (v : Worker P T E). IsTurned meaning r says object fits count course i (turns_of (take (k + 1) turns) i) v) (sym mine.1)
             (subst (λ (m : ℕ). IsTurned meaning r says object fits count course i m d) (sym (more_named turns k i low named))
-            (one_more_turn meaning r says object fits count course i (turns_of (take k turns) i) w d before turned))
+            (turned i (turns_of (take k turns) i) before))
         | inr other ↦
             let unnamed : get_or turns k 0 ≢ i = λ same. other.0 (omega (arith, at, here, same)) in
             subst (λ (m : ℕ). IsTurned meaning r says object fits count course i m x) (sym (more_other turns k i low unnamed)) (all i j x here other.1)

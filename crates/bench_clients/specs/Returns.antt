@@ -1,5 +1,5 @@
 -- What callers leave that are back on their bench.
-use Rattle.std.specs.Prelude.{◌≡◌, ℕ, ◌%◌, ◌<◌, ◌≤◌, Bool, false, List, [], ◌∷◌, ◌++◌, Option, Some, None, IfSome, slice_get, slice_index}
+use Rattle.std.specs.Prelude.{◌≡◌, ℕ, ◌%◌, ◌<◌, ◌≤◌, Bool, false, List, Option, Some, None, IfSome, slice_get, slice_index}
 use Rattle.world_core.specs.Shape.{Meaning, Shape}
 use Rattle.world_core.specs.Local.{Local}
 use Rattle.world_core.specs.CallSteps.{all_steps_of}
@@ -67,23 +67,8 @@ module _ {P T : Type 0} where
     pub back : IsBackWith (shape_of meaning r) fits count operations allotments i phases local pass
     pub stands : StandsAgain b i phases local
 
-  -- What a caller i leaves that comes back to the bench: its pass is put behind the others, and so are its lines. Where no
-  -- line is an error and it stopped between two calls, or made all of them, it is free for its next call.
-  pub record ComesBack (meaning : P → ℕ → ℕ → Meaning) (r : Rows P) (says : Says) (fits : Fits T) (count : T → Option PassCount) (course : Course) (i : ℕ) (b : Bench P) (passes passes' : List T) (lines lines' : List (List Line)) (wanted : Bool) : Type 0 where
-    pub local : Local
-    pub pass : T
-    pub own : List Line
-    pub phases : ℕ
-    pub here : on_bench b i ≡ Some local
-    pub pass_put : passes' ≡ passes ++ pass ∷ []
-    pub lines_put : lines' ≡ lines ++ own ∷ []
-    pub back : IsBackWith (shape_of meaning r) fits count course.operations course.allotments i phases local pass
-    pub stands : StandsAgain b i phases local
-    pub free : wanted ≡ false → any_error own ≡ false → phases % 5 ≡ 0 → stands.stance ≡ fresh_stance
-    pub left : wanted ≡ false → HasLeftLines says r.callers course i phases local own
-
-  -- Caller i is back on the bench with its pass, and its lines are among these. Where memory was wanted, of whichever caller, nothing is
-  -- said of lines.
+  -- Caller i is back on the bench with its pass, and its lines are among these. Where no line is an error and it stopped between two
+  -- calls, or made all of them, it is free for its next call. Where memory was wanted, of whichever caller, nothing is said of lines.
   pub record IsBack (meaning : P → ℕ → ℕ → Meaning) (r : Rows P) (says : Says) (fits : Fits T) (count : T → Option PassCount) (course : Course) (b : Bench P) (passes : List T) (lines : List (List Line)) (wanted : Bool) (i : ℕ) : Type 0 where
     pub on : IsBackOn meaning r fits count course.operations course.allotments b passes i
     pub own : List Line

@@ -1,11 +1,11 @@
 -- Workers that take turns.
-use Rattle.std.specs.Prelude.{◌≡◌, ℕ, ◌+◌, ◌*◌, ◌≤◌, ◌⊎◌, min, Option, Some, length, slice_index}
+use Rattle.std.specs.Prelude.{◌≡◌, ℕ, ◌+◌, ◌*◌, ◌≤◌, min, Option, Some, length, slice_index}
 use Rattle.world_core.specs.Shape.{Meaning}
 use Rattle.row_table.specs.declared.rows.Rows.{Rows}
 use Rattle.call_phases.specs.Asking.{Fits, PassCount}
 use Rattle.call_phases.specs.Ends.{Sequential}
 use Rattle.call_phases.specs.Stands.{GoesOnFrom}
-use Rattle.call_phases.specs.Clients.{phases_by, HasSpent, IsSameClient}
+use Rattle.call_phases.specs.Clients.{phases_by, HasSpent}
 use Rattle.call_phases.specs.declared.client.Client.{Client}
 use Rattle.bench_clients.specs.Work.{Says, IsAtWork}
 use Rattle.bench_clients.specs.Starts.{Course, IsClientOf}
@@ -28,20 +28,3 @@ module _ {P T E : Type 0} where
     pub here : w.client ≡ Some client
     pub work : IsAtWork meaning r says object fits count client
     pub left : GoesOnFrom client.stand → phases_by client + w.allotment ≤ 5 * length client.sheet.operations.now
-
-  -- At a turn nothing is done, since no phase is left or the client is halted; or a phase is made.
-  abbrev pub Turns : Worker P T E → Worker P T E → Client P T E → Client P T E → Type 0
-  Turns w d before after =
-      ((after ≡ before) × (d.allotment ≡ w.allotment) × ((w.allotment ≡ 0) ⊎ (GoesOnFrom before.stand → ⊥)))
-      ⊎ (GoesOnFrom before.stand × (phases_by after ≡ phases_by before + 1) × (w.allotment ≡ d.allotment + 1))
-
-  -- A worker has taken a turn.
-  pub record HasTurned (meaning : P → ℕ → ℕ → Meaning) (r : Rows P) (says : Says) (object : E → Sequential) (fits : Fits T) (count : T → Option PassCount) (w d : Worker P T E) : Type 0 where
-    pub before : Client P T E
-    pub after : Client P T E
-    pub was : w.client ≡ Some before
-    pub is : d.client ≡ Some after
-    pub work : IsAtWork meaning r says object fits count after
-    pub same : IsSameClient before after
-    pub judges : object after.sheet.ending ≡ object before.sheet.ending
-    pub turns : Turns w d before after

@@ -1,12 +1,14 @@
-ghost use Rattle.std.specs.Prelude.{◌≡◌, ◌≢◌, ℕ, ◌<◌, ◌≤◌, [], None, length, vec_len, vec_capacity, slice_index};
+ghost use Rattle.std.specs.Prelude.{◌≡◌, ◌≢◌, ◌++◌, ◌∷◌, ℕ, ◌<◌, ◌≤◌, false, List, [], None, length, vec_len, vec_capacity, slice_index, IfOk};
+ghost use Rattle.call_lines.specs.declared.line.Line.{Line};
 ghost use Rattle.row_table.specs.Callers.{IsBenchOf, on_bench, stance_on};
 ghost use Rattle.call_phases.specs.Clients.{HasSpent};
 ghost use Rattle.reports.specs.ReportLayout.{lines_in};
 ghost use Rattle.bench_clients.specs.Places.{AreDownFrom};
 ghost use Rattle.bench_clients.specs.Starts.{Course, IsClientOf, AreAlikeFrom};
-ghost use Rattle.bench_clients.specs.Returns.{IsSpent, ComesBack, AreBack};
+ghost use Rattle.bench_clients.specs.Returns.{IsSpent, IsBackOn, IsBack, AreBack};
 
 use crate::worker::Worker;
+use book_base::NoMemory;
 use call_phases::{Asks, Client, Ending, Finished, Shared};
 use client_scripts::Script;
 use reports::Own;
@@ -14,7 +16,7 @@ use row_table::Bench;
 use world_core::Program;
 
 // Finishes the client of a caller, which comes back to its bench, and puts its pass and its lines
-// behind the others. Whether its last call wasn't judged for want of memory.
+// after those of the callers before it. Whether its last call wasn't judged for want of memory.
 fn bring_back<'a, P: Program, T, E: Ending + Drop, A: Asks<Program = P, Pass = T>>(
     shared: &Shared<A, P>,
     client: Client<'a, P, T, E>,
@@ -28,13 +30,15 @@ fn bring_back<'a, P: Program, T, E: Ending + Drop, A: Asks<Program = P, Pass = T
     requires spent { HasSpent (slice_index course.allotments client.sheet.who) client }
     requires bench { IsBenchOf P.meaning shared.now.rows.now bench.old }
     requires gone { on_bench bench.old client.sheet.who ≡ None }
+    requires next_pass { length passes.old.items ≡ client.sheet.who }
+    requires next_lines { length (lines_in lines.old.items) ≡ client.sheet.who }
     requires passes { vec_len passes.old < vec_capacity passes.old }
     requires lines { vec_len lines.old < vec_capacity lines.old }
     ensures bench { IsBenchOf P.meaning shared.now.rows.now bench.new }
-    ensures back { ComesBack P.meaning shared.now.rows.now E.says
-        (A.fits shared.now.asks.now) A.count course client.entry.sheet.who bench.new
-        passes.old.items passes.new.items
-        (lines_in lines.old.items) (lines_in lines.new.items) result }
+    ensures back { IsBack P.meaning shared.now.rows.now E.says (A.fits shared.now.asks.now) A.count
+        course bench.new passes.new.items (lines_in lines.new.items) result client.entry.sheet.who }
+    ensures passes { passes.new.items ≡ passes.old.items ++ client.entry.pass ∷ [] }
+    ensures lines { (own : List Line) × (lines_in lines.new.items ≡ lines_in lines.old.items ++ own ∷ []) }
     ensures others { (i : ℕ) → i ≢ client.entry.sheet.who
         → (on_bench bench.new i ≡ on_bench bench.old i) × (stance_on bench.new i ≡ stance_on bench.old i) }
     ensures capacity { (vec_capacity passes.old ≤ vec_capacity passes.new)
@@ -54,15 +58,19 @@ fn bring_back<'a, P: Program, T, E: Ending + Drop, A: Asks<Program = P, Pass = T
 }
 
 /// Finishes the clients of all workers, whose callers come back to their bench with their passes
-/// and lines, in order. Whether memory was wanted.
+/// and lines, in order, whatever the answer.
+///
+/// The answer is the lines of each caller, in order. Want of memory is answered where it was wanted
+/// for a judgement.
 pub fn end_all<'a, P: Program, T, E: Ending + Drop, A: Asks<Program = P, Pass = T>>(
     shared: &Shared<A, P>,
     script: &Script,
+    _ending: &E,
     mut workers: Vec<Worker<'a, P, T, E>>,
+    mut lines: Vec<Own>,
     bench: &mut Bench<P>,
     passes: &mut Vec<T>,
-    lines: &mut Vec<Own>,
-) -> bool
+) -> Result<Vec<Own>, NoMemory>
     ghost course: { Course }
     // There is one worker for each caller of the script.
     requires all { vec_len workers ≡ length script.now.operations }
@@ -70,6 +78,10 @@ pub fn end_all<'a, P: Program, T, E: Ending + Drop, A: Asks<Program = P, Pass = 
     // at work on the course, which has made all phases of its allotment or was halted before.
     requires workers { AreDownFrom (length script.now.operations)
         (IsSpent P.meaning shared.now.rows.now E.says E.object (A.fits shared.now.asks.now) A.count course) workers.items }
+    // No lines are in their list yet.
+    requires no_lines { lines.items ≡ [] }
+    // The list of lines has room for those of each caller of the script.
+    requires lines { length script.now.operations ≤ vec_capacity lines }
     // The bench is one of these rows.
     requires bench { IsBenchOf P.meaning shared.now.rows.now bench.old }
     // The bench holds none of the script's callers.
@@ -78,28 +90,29 @@ pub fn end_all<'a, P: Program, T, E: Ending + Drop, A: Asks<Program = P, Pass = 
     requires no_passes { passes.old.items ≡ [] }
     // The list of passes has room for one for each caller of the script.
     requires passes { length script.now.operations ≤ vec_capacity passes.old }
-    // No lines are in their list yet.
-    requires no_lines { lines.old.items ≡ [] }
-    // The list of lines has room for those of each caller of the script.
-    requires lines { length script.now.operations ≤ vec_capacity lines.old }
     // The bench is still one of these rows.
     ensures bench { IsBenchOf P.meaning shared.now.rows.now bench.new }
-    // Each caller of the script is back on the bench with its pass and its lines, and has made a
-    // prefix of its phases; where no memory was wanted, its lines are those of its allotment and
-    // tell of just these phases, and where none of them is an error and it stopped between two
-    // calls, or made all of them, it is free for its next call.
-    ensures back { AreBack P.meaning shared.now.rows.now E.says
-        (A.fits shared.now.asks.now) A.count
-        (length script.now.operations) (length script.now.operations) course bench.new
-        passes.new.items (lines_in lines.new.items) result }
     // The callers after those of the script are on the bench as before.
     ensures others { AreAlikeFrom (length script.now.operations) bench.old bench.new }
     // There is one pass for each caller of the script.
     ensures all_passes { vec_len passes.new ≡ length script.now.operations }
     // The list of passes has at least the capacity that it had.
     ensures capacity { vec_capacity passes.old ≤ vec_capacity passes.new }
-    // There is one list of lines for each caller of the script.
-    ensures all_lines { vec_len lines.new ≡ length script.now.operations }
+    // Each caller of the script is back on the bench with its pass, which fits it, and has made a
+    // prefix of its phases: at most as many as its allotment; where the pass counts calls, it
+    // counts those that were asked.
+    ensures back { (i : ℕ) → i < length script.now.operations
+        → IsBackOn P.meaning shared.now.rows.now (A.fits shared.now.asks.now) A.count
+        course.operations course.allotments bench.new passes.new.items i }
+    // With lines there is one list of them for each caller of the script.
+    ensures all_lines { IfOk result (λ lines. vec_len lines ≡ length script.now.operations) }
+    // With lines each caller's are those of its allotment and tell of just the phases that it has
+    // made; where none of them is an error and it stopped between two calls, or made all of them,
+    // it is free for its next call.
+    ensures lines { IfOk result (λ lines. AreBack P.meaning shared.now.rows.now E.says
+        (A.fits shared.now.asks.now) A.count
+        (length script.now.operations) (length script.now.operations) course
+        bench.new passes.new.items (lines_in lines.items) false) }
 {
     let mut wants_memory = false;
     while let Some(worker) = workers.pop() {
@@ -108,8 +121,11 @@ pub fn end_all<'a, P: Program, T, E: Ending + Drop, A: Asks<Program = P, Pass = 
             allotment: _,
         } = worker;
         let client = client.unwrap();
-        wants_memory |= bring_back(shared, client, bench, passes, lines);
+        wants_memory |= bring_back(shared, client, bench, passes, &mut lines);
     }
     workers.destroy_empty();
-    wants_memory
+    if wants_memory {
+        return Err(NoMemory);
+    }
+    Ok(lines)
 }

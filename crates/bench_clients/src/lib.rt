@@ -3,13 +3,11 @@
 
 pub mod cases;
 mod end;
-mod run;
 mod start;
 mod turns;
 mod worker;
 
 pub use end::end_all;
-pub use run::{make_room, run_all};
 pub use start::{allotment_of, start_all};
-pub use turns::replay_all;
-pub use worker::Worker;
+pub use turns::take_turns;
+pub use worker::{Worker, run_workers};

@@ -1,4 +1,5 @@
 ghost use Rattle.std.specs.Prelude.{◌≡◌, ◌+◌, ◌*◌, ◌<◌, ◌≤◌, length};
+ghost use Rattle.std.specs.List.{All, AllZip};
 ghost use Rattle.call_phases.specs.Stands.{GoesOnFrom};
 ghost use Rattle.call_phases.specs.Clients.{phases_by, HasSpent, IsSameClient};
 ghost use Rattle.bench_clients.specs.Work.{IsAtWork, IsReady, HasRun};
@@ -7,7 +8,8 @@ use call_phases::{Asks, Client, Ending, Shared};
 use row_table::Steps;
 use std::marker::Brand;
 use std::sync::ledger::{Blank, Ledger};
-use work_halves::Work;
+use std::thread::Threads;
+use work_halves::{Work, work_all};
 use world_core::Program;
 
 /// A client, and how many further phases it is to make.
@@ -69,4 +71,25 @@ impl<
             Some(_) => unreachable!(),
         }
     }
+}
+
+/// Lets all workers of a list make their phases, each in a thread of its own where one can be had.
+pub fn run_workers<
+    'a,
+    R: Threads + Sync,
+    P: Program + Send + Sync,
+    T: Send,
+    E: Ending + Send,
+    A: Asks<Program = P, Pass = T> + Sync,
+>(rt: &R, shared: &Shared<A, P>, workers: &mut Vec<Worker<'a, P, T, E>>)
+    // Each worker is ready: the passes serve these rows, and its client is at work, goes on and has
+    // as many phases left as it is to make.
+    requires { All (IsReady P.meaning shared.now.rows.now E.says E.object
+        (A.fits shared.now.asks.now) A.count
+        (A.serves shared.now.asks.now shared.now.rows.now)) workers.old.items }
+    // Each worker's client has made these phases, or was halted before.
+    ensures { AllZip (HasRun P.meaning shared.now.rows.now E.says E.object
+        (A.fits shared.now.asks.now) A.count) workers.old.items workers.new.items }
+{
+    work_all(rt, shared, workers.as_mut_slice());
 }

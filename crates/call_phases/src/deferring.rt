@@ -34,4 +34,8 @@ impl Ending for Deferring {
         let view = seen.view();
         Ended::GoesOn(seen.defer(), LineEnd::Unchecked(Record { reply, view }))
     }
+
+    fn another(&self) -> Self {
+        Deferring
+    }
 }

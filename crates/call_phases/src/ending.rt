@@ -67,6 +67,11 @@ pub trait Ending {
         // What is kept of an order now stands for the object in the book that is gathered now.
         ensures standing { StandsBy (object self.new) gathered.new standing.new };
 
+    /// The same ending, for another caller.
+    fn another(&self) -> Self
+        // The ending judges by the same sequential object.
+        ensures { object result ≡ object self.now };
+
     /// What the end of a line says stays so while the caller goes on.
     ghost stays: { (o : Sequential) (n : ℕ) (l m : Local) (r : Record) (cut : List ℕ) (end : LineEnd) → Grows l m → says o n l r cut end → says o n m r cut end };
 }

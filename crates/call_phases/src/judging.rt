@@ -16,20 +16,8 @@ use world_core::Program;
 /// Judges each call by a sequential object.
 #[derive(Drop)]
 pub struct Judging<'a, S> {
-    alloc: Global,
-    sequential: &'a S,
-}
-
-impl<'a, S> Judging<'a, S> {
-    ghost use Rattle.std.specs.Prelude.{◌≡◌};
-
-    /// Judges by this object.
-    pub fn new(alloc: Global, sequential: &'a S) -> Judging<'a, S>
-        // The ending judges by this object.
-        ensures { result.sequential.now ≡ sequential.now }
-    {
-        Judging { alloc, sequential }
-    }
+    pub alloc: Global,
+    pub sequential: &'a S,
 }
 
 // How a call has ended whose line ends so.
@@ -70,6 +58,13 @@ impl<S: SeqObject> Ending for Judging<'_, S> {
         ) {
             Ok((caller, end)) => ended_by(caller, end),
             Err(unjudged) => Ended::WantsMemory(unjudged),
+        }
+    }
+
+    fn another(&self) -> Self {
+        Judging {
+            alloc: self.alloc,
+            sequential: self.sequential,
         }
     }
 }

@@ -37,7 +37,7 @@ use Rattle.call_phases.specs.Ends.{Sequential, silent, SaysDeferred, EndsAs, Are
 use Rattle.bench_clients.specs.Places.{AreInOrder}
 use Rattle.bench_clients.specs.Starts.{run_allotments, course_of, IsUnused, MayBegin}
 use Rattle.bench_clients.specs.Returns.{IsCountOf, AreBack, IsBackOn}
-use Rattle.bench_clients.proofs.Places.{as_long}
+use Rattle.std.proofs.lemmas.Slice.Zip.{AllZip-long}
 use Rattle.run_report.proofs.Workers.{the_local, lines_here}
 use Rattle.run_report.proofs.Reports.{at_most, none_behind}
 use Rattle.monitor.specs.declared.witness.Witness.{Witness}
@@ -84,14 +84,14 @@ all_but_last : (object : Sequential) (n : ℕ) (operations : List ℕ) (p : ℕ)
     → (k : ℕ) (line : Line) → slice_get own k ≡ Some line → k + 1 < length own → IsSome (answer_in line.end)
 all_but_last object n operations p l own lines made k line there low =
     let long : length own ≡ length (marks_after p) =
-    as_long _ (calls_in l) own lines ∙ sym (length-map (calls_in l) (λ (c : Made). mark_of c.reached)) ∙ ap (λ (ms : List Mark). length ms) made.marks in
+    AllZip-long _ (calls_in l) own lines ∙ sym (length-map (calls_in l) (λ (c : Made). mark_of c.reached)) ∙ ap (λ (ms : List Mark). length ms) made.marks in
     answered_to object n l (calls_in l) own (p / 5) (mark_under_way (p % 5)) lines made.marks k line there (omega (arith, low, long, length-marks_after p))
 
 -- there are no more lines than operations
 no_more_lines : (object : Sequential) (n : ℕ) (operations : List ℕ) (p : ℕ) (l : Local) (own : List Line) → AreLinesOfCalls (SaysDeferred object n l) (calls_in l) own → HasMade operations p l
     → length own ≤ length operations
 no_more_lines object n operations p l own lines made =
-    omega (arith, as_long _ (calls_in l) own lines, sym (length-map (calls_in l) (λ (c : Made). c.operation)), ap (λ (os : List ℕ). length os) made.in_order, length-take ((p + 4) / 5) operations)
+    omega (arith, AllZip-long _ (calls_in l) own lines, sym (length-map (calls_in l) (λ (c : Made). c.operation)), ap (λ (os : List ℕ). length os) made.in_order, length-take ((p + 4) / 5) operations)
 
 -- counts for callers with these allotments, and none for two more
 same_counts : (counts allotments : List ℕ) → length counts ≡ length allotments + 2

@@ -12,7 +12,7 @@ ghost use Rattle.bench_clients.specs.Starts.{run_allotments, course_of, IsUnused
 ghost use Rattle.bench_clients.specs.Returns.{IsBackOn, AreBack};
 ghost use Rattle.monitored_runs.specs.Monitoring.{IsMonitor, HasWatched};
 
-use bench_clients::{Worker, end_all, make_room, start_all};
+use bench_clients::{Worker, end_all, start_all};
 use book_base::{NoMemory, SeqObject};
 use call_phases::{Asks, Deferring, Shared};
 use client_scripts::Script;
@@ -22,17 +22,6 @@ use row_table::Bench;
 use std::alloc::Global;
 use std::thread::Threads;
 use world_core::Program;
-
-// For each of so many callers an ending that judges nothing.
-fn make_deferrings(alloc: Global, callers: u32) -> Result<Vec<Deferring>, NoMemory>
-    ensures { IfOk result (λ endings. vec_len endings ≡ callers) }
-{
-    let mut endings = Vec::with_capacity(alloc, callers as usize)?;
-    for _i in 0..callers {
-        endings.push(Deferring)?;
-    }
-    Ok(endings)
-}
 
 // All workers of a list work, and beside them two callers of the bench watch.
 fn watch_in<
@@ -131,11 +120,8 @@ pub(crate) fn watch_all<
         bench.new (length script.now.operations + 1) l rounds left.2.own) }
 {
     let callers = script.callers();
-    let room = make_room(alloc, script)?;
-    let endings = make_deferrings(alloc, callers)?;
-    let mut lines = Vec::with_capacity(alloc, callers as usize + 2)?;
-    let mut workers = Vec::with_capacity(alloc, callers as usize)?;
-    start_all(shared, bench, passes, script, room, endings, &mut workers);
+    let ending = Deferring;
+    let (mut workers, lines) = start_all(alloc, shared, bench, passes, script, &ending)?;
     let (one, other) = watch_in(
         rt,
         alloc,
@@ -146,8 +132,8 @@ pub(crate) fn watch_all<
         callers,
         rounds,
     );
-    let wanted = end_all(shared, script, workers, bench, passes, &mut lines);
-    if wanted || one.wants_memory || other.wants_memory {
+    let lines = end_all(shared, script, &ending, workers, lines, bench, passes)?;
+    if one.wants_memory || other.wants_memory {
         return Err(NoMemory);
     }
     Ok((lines, one, other))

@@ -2,7 +2,7 @@
 use Rattle.std.proofs.Common.{◌≡◌, sym, subst, ap, refl, inl, inr, ℕ, zero, suc, ◌+◌, ◌<◌, ◌≤◌, ◌^◌, List, [], ◌∷◌, Some, length, map, take, slice_index, arith}
 use Rattle.std.specs.Prelude.{IsSome}
 use Rattle.std.specs.List.{All, AllByRecursion}
-use Rattle.std.proofs.lemmas.List.Elements.{All-head, All-tail}
+use Rattle.std.proofs.lemmas.List.Elements.{All-head, All-tail, recursion_from_All}
 use Rattle.reports.specs.declared.report.Own.{Own}
 use Rattle.reports.specs.ReportLayout.{lines_in}
 use Rattle.std.proofs.lemmas.Bool.{cases_lt}
@@ -79,17 +79,12 @@ replies_fit [] caller number r h there = absurd (none-some r there)
 replies_fit (own ∷ lines) zero number r h there = reply_among own number r h.0 there
 replies_fit (own ∷ lines) (suc caller) number r h there = replies_fit lines caller number r h.1 there
 
--- from places to recursion
-all_by : {X : Type 0} (Is : X → Type 0) (xs : List X) → All Is xs → AllByRecursion Is xs
-all_by Is [] h = tt
-all_by Is (x ∷ xs) h = (All-head Is x xs h, all_by Is xs (All-tail Is x xs h))
-
 pub words_of_all : (lines : List Own) → All (λ (own : Own). All (λ (line : Line). HasWord line.end) own.lines.items) lines
     → AllByRecursion (AllByRecursion (λ (line : Line). HasWord line.end)) (lines_in lines)
 words_of_all [] h = tt
 words_of_all (own ∷ lines) h =
     let each = λ (own : Own). All (λ (line : Line). HasWord line.end) own.lines.items in
-    (all_by (λ (line : Line). HasWord line.end) own.lines.items (All-head each own lines h), words_of_all lines (All-tail each own lines h))
+    (recursion_from_All (λ (line : Line). HasWord line.end) own.lines.items (All-head each own lines h), words_of_all lines (All-tail each own lines h))
 
 -- behind the last caller there are no lines
 pub none_behind : (lines : List (List Line)) (i : ℕ) → length lines ≤ i → lines_at lines i ≡ []

@@ -1,5 +1,5 @@
 -- What the callers leave that are back on their bench is what workers leave.
-use Rattle.std.proofs.Common.{◌≡◌, ◌∙◌, sym, subst, ap, refl, ℕ, zero, suc, ◌%◌, ◌<◌, ◌≤◌, false, List, [], ◌∷◌, Some, None, length, map, arith, slice_get, slice_index}
+use Rattle.std.proofs.Common.{◌≡◌, ◌∙◌, sym, subst, ap, refl, ℕ, zero, suc, ◌%◌, ◌<◌, false, List, [], ◌∷◌, Some, None, length, map, arith, slice_get, slice_index}
 use Rattle.std.specs.Prelude.{Option, Result, Ok, Err, slice_index_or, IfSome, IfOk}
 use Rattle.std.proofs.lemmas.Option.{none-some, same_Some, slice_get_within}
 use Rattle.seq_objects.specs.declared.kind.Kind.{Kind}
@@ -19,15 +19,13 @@ use Rattle.row_table.specs.declared.stance.Stance.{Stance}
 use Rattle.row_table.specs.Callers.{shape_of, locals_on, IsBenchOf, HoldsAll}
 use Rattle.reports.specs.Findings.{Findings}
 use Rattle.call_phases.specs.Asking.{Fits, PassCount, fits_own, own_count}
-use Rattle.call_phases.specs.Ends.{Sequential, silent, SaysJudged}
+use Rattle.call_phases.specs.Ends.{SaysJudged}
 use Rattle.call_phases.specs.Finishing.{KeepsAsked}
 use Rattle.call_phases.proofs.Told.{if_some_as}
 use Rattle.call_phases.proofs.Worked.{judging_clients_have_worked}
-use Rattle.std.specs.List.{All}
-use Rattle.std.proofs.lemmas.List.Elements.{All-nil, All-head}
-use Rattle.run_report.specs.Reporting.{first_object, IsFreeAgain, IsToldIn, IsCountIn, IsCountedIn}
+use Rattle.run_report.specs.Reporting.{IsFreeAgain, IsToldIn, IsCountIn, IsCountedIn}
 use Rattle.bench_clients.specs.Places.{AreInOrder}
-use Rattle.bench_clients.specs.Starts.{Course, course_of, MayBegin, AreFreshPasses}
+use Rattle.bench_clients.specs.Starts.{Course, MayBegin, AreFreshPasses}
 use Rattle.client_scripts.specs.Plans.{Plan}
 use Rattle.run_report.specs.Passes.{IsOwnPass, IsUnusedPass, AreUnusedPasses}
 use Rattle.bench_clients.specs.Returns.{IsCountOf, IsBack, AreBack, IsBackOn}
@@ -156,19 +154,3 @@ pub counted_told : {T : Type 0} (made cap : T → ℕ) (told : T → Option (Lis
 counted_told made cap told allotments findings passes all i pass there =
     let h = all i pass there in
     record { asked_for = h.asked_for; told_is = h.told_is }
-
--- where all endings judge by one object, they judge by that of the first
-pub all_by_first : {E : Type 0} (object : E → Sequential) (o : Sequential) (endings : List E) → All (λ e. object e ≡ o) endings → All (λ e. object e ≡ first_object object endings) endings
-all_by_first object o [] h = All-nil (λ e. object e ≡ silent)
-all_by_first object o (e ∷ endings) h =
-    subst (λ (p : Sequential). All (λ e. object e ≡ p) (e ∷ endings)) (sym (All-head (λ e. object e ≡ o) e endings h)) h
-
-pub first_is : {E : Type 0} (object : E → Sequential) (o : Sequential) (endings : List E) → 1 ≤ length endings → All (λ e. object e ≡ o) endings → first_object object endings ≡ o
-first_is object o [] some h = absurd (omega (arith, some))
-first_is object o (e ∷ endings) some h = All-head (λ e. object e ≡ o) e endings h
-
--- all are back, by the same object under another name
-pub back_by : {P T : Type 0} (meaning : P → ℕ → ℕ → Meaning) (r : Rows P) (fit : Fits T) (count : T → Option PassCount) (n : ℕ) (plan : Plan) (allotments : List ℕ) (a o : Sequential) (b : Bench P) (passes : List T) (lines : List (List Line)) → a ≡ o
-    → AreBack meaning r SaysJudged fit count n n (course_of plan allotments a) b passes lines false → AreBack meaning r SaysJudged fit count n n (course_of plan allotments o) b passes lines false
-back_by meaning r fit count n plan allotments a o b passes lines same h =
-    subst (λ (p : Sequential). AreBack meaning r SaysJudged fit count n n (course_of plan allotments p) b passes lines false) same h

@@ -1,5 +1,5 @@
 -- The report of the callers of a plan, by the locals that they leave.
-use Rattle.std.specs.Prelude.{◌≡◌, ℕ, ◌%◌, ◌<◌, false, List, [], ◌∷◌, Option, Some, IfSome, map, slice_index}
+use Rattle.std.specs.Prelude.{◌≡◌, ℕ, ◌%◌, ◌<◌, false, List, Option, Some, IfSome, map, slice_index}
 use Rattle.book_base.specs.declared.TheConstants.{MAX_CALLS}
 use Rattle.world_core.specs.Shape.{Shape}
 use Rattle.world_core.specs.Programs.{outside}
@@ -14,7 +14,6 @@ use Rattle.row_table.specs.Benches.{fresh_stance}
 use Rattle.row_table.specs.Callers.{stance_on}
 use Rattle.client_scripts.specs.Plans.{Plan}
 use Rattle.call_phases.specs.Asking.{PassCount}
-use Rattle.call_phases.specs.Ends.{Sequential, silent}
 use Rattle.call_phases.specs.Finishing.{KeepsAsked}
 use Rattle.reports.specs.Findings.{Findings}
 
@@ -41,11 +40,6 @@ IsFreeAgain b allotments findings i =
     any_error (lines_at findings.lines i) ≡ false
     → phases_of (slice_index allotments i) (lines_at findings.lines i) % 5 ≡ 0
     → stance_on b i ≡ Some fresh_stance
-
--- The sequential object that the first of some endings judges by.
-abbrev pub first_object : {E : Type 0} → (E → Sequential) → List E → Sequential
-first_object object [] = silent
-first_object object (ending ∷ endings) = object ending
 
 -- The pass of caller i was asked for exactly the calls that the caller's lines tell of, and tells, where it tells anything, an
 -- operation and a reply for each of them.

@@ -5,11 +5,10 @@ ghost use Rattle.bench_clients.specs.Starts.{run_allotments, MayBegin, AreFreshP
 ghost use Rattle.bench_clients.specs.Returns.{IsBackOn};
 ghost use Rattle.run_report.specs.Reporting.{IsReportOf, IsFreeAgain, IsCountedIn};
 
-use crate::judgements::make_judgements;
 use crate::report::report_of;
-use bench_clients::run_all;
+use bench_clients::{end_all, run_workers, start_all};
 use book_base::{NoMemory, SeqObject};
-use call_phases::{Asks, Shared};
+use call_phases::{Asks, Judging, Shared};
 use client_scripts::Script;
 use reports::Report;
 use row_table::Bench;
@@ -76,7 +75,9 @@ pub fn run_asked<
     ensures counted { IfOk result (λ report. AreInOrder
         (IsCountedIn A.count (run_allotments script.now) report) passes.new.items) }
 {
-    let endings = make_judgements(alloc, sequential, script.callers())?;
-    let lines = run_all(rt, alloc, shared, bench, passes, script, endings)?;
+    let ending = Judging { alloc, sequential };
+    let (mut workers, lines) = start_all(alloc, shared, bench, passes, script, &ending)?;
+    run_workers(rt, shared, &mut workers);
+    let lines = end_all(shared, script, &ending, workers, lines, bench, passes)?;
     Ok(report_of(shared, bench, sequential, passes, script, lines))
 }

@@ -3,12 +3,12 @@
 
 mod asked;
 pub mod cases;
-mod judgements;
+mod passes;
 mod replay;
 mod report;
 mod run;
 
 pub use asked::run_asked;
-pub use judgements::passes_are_fresh;
+pub use passes::passes_are_fresh;
 pub use replay::replay_over;
 pub use run::run_over;

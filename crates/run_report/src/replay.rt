@@ -7,16 +7,18 @@ ghost use Rattle.bench_clients.specs.Returns.{IsBackOn};
 ghost use Rattle.run_report.specs.Passes.{IsOwnPass, AreUnusedPasses};
 ghost use Rattle.run_report.specs.Reporting.{IsReportOf, IsFreeAgain, IsToldIn};
 
-use crate::judgements::{make_judgements, passes_are_fresh};
+use crate::passes::passes_are_fresh;
 use crate::report::report_of;
-use bench_clients::replay_all;
+use bench_clients::{end_all, start_all, take_turns};
 use book_base::{NoMemory, SeqObject};
-use call_phases::{OutsideObject, Shared};
+use call_phases::{Judging, OutsideObject, Shared};
 use client_scripts::Script;
 use drv_wrapper::BlackBox;
 use reports::Report;
 use row_table::{Bench, Rows};
 use std::alloc::Global;
+use std::marker::Brand;
+use std::sync::ledger::Blank;
 use world_core::{Outside, Program};
 
 /// Runs all callers of a script in one thread, by its turns: at each turn the caller that it names
@@ -75,10 +77,12 @@ pub fn replay_over<S: SeqObject, B: BlackBox>(
         (replay_allotments script.now) report) passes.new.items) }
 {
     passes_are_fresh(rows, object, passes, script);
-    let endings = make_judgements(alloc, sequential, script.callers())?;
+    let ending = Judging { alloc, sequential };
     let asks = OutsideObject { object };
     let shared = Shared { rows, asks: &asks };
-    let lines = replay_all(alloc, &shared, bench, passes, script, endings)?;
+    let (mut workers, lines) = start_all(alloc, &shared, bench, passes, script, &ending)?;
+    take_turns::<_, _, _, _, Brand>(&shared, script, &ending, &mut workers, Blank::new(1));
+    let lines = end_all(&shared, script, &ending, workers, lines, bench, passes)?;
     let report = report_of(&shared, bench, sequential, passes, script, lines);
     Ok(report)
 }

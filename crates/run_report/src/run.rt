@@ -8,7 +8,7 @@ ghost use Rattle.run_report.specs.Passes.{IsOwnPass, AreUnusedPasses};
 ghost use Rattle.run_report.specs.Reporting.{IsReportOf, IsFreeAgain, IsToldIn};
 
 use crate::asked::run_asked;
-use crate::judgements::passes_are_fresh;
+use crate::passes::passes_are_fresh;
 use book_base::{NoMemory, SeqObject};
 use call_phases::{OutsideObject, Shared};
 use client_scripts::Script;

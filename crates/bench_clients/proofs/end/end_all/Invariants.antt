@@ -17,7 +17,7 @@ invariant-loop-worker g l =
       count : vec_len l.workers + vec_len l.passes ≡ length l.script.operations;
       lines_count : vec_len l.lines ≡ vec_len l.passes;
       passes_capacity : vec_capacity l.initial.passes ≤ vec_capacity l.passes;
-      lines_capacity : vec_capacity l.initial.lines ≤ vec_capacity l.lines;
+      lines_capacity : length l.script.operations ≤ vec_capacity l.lines;
       others : AreAlikeFrom (length l.script.operations) l.initial.bench l.bench;
       back : AreBack g.P.Program.meaning l.shared.rows.now g.E.Ending.says (g.A.Asks.fits l.shared.asks.now) g.A.Asks.count (length l.script.operations) (vec_len l.passes) g.course l.bench l.passes.items (lines_in l.lines.items) l.wants_memory;
     }

@@ -1,40 +1,56 @@
-use Rattle.std.proofs.Common.{◌≡◌, ◌∙◌, sym, subst, ap, ℕ, ◌+◌, ◌-◌, Bool, [], ◌∷◌, ◌++◌, length, arith}
-use Rattle.std.specs.Prelude.{Some, Option, option_to_list, if◌then◌else◌}
-use Rattle.std.specs.Result.{is_ok}
-use Rattle.std.proofs.lemmas.List.Elements.{All-pop}
+use Rattle.std.proofs.Common.{◌≡◌, ◌∙◌, sym, subst, refl, ℕ, ◌+◌, ◌-◌, [], ◌∷◌, length, arith}
+use Rattle.std.proofs.lemmas.Slice.{pushed}
 use Rattle.row_table.specs.Callers.{who_of}
-use Rattle.bench_clients.specs.Starts.{run_allotments, course_of, IsUnused, HoldsBelow, IsRoomFor, IsFreshPass, IsStart}
-use Rattle.bench_clients.proofs.Places.{one_more_down, one_less_in_order, last_in_order, one_longer}
+use Rattle.bench_clients.specs.Starts.{IsUnused, HoldsBelow}
+use Rattle.bench_clients.proofs.Places.{none_down, one_more_down, one_less_in_order, last_in_order, popped, one_longer}
 use Rattle.bench_clients.proofs.Starts.{fresh_from_bench, one_less_held}
 use Rattle.bench_clients.proofs.start.start_all.Goals as goal
+
+pub loop-left-init : goal.loop-left-init
+loop-left-init g c =
+    let count = c.callers-left.ensures.count in
+    record {
+      few = omega (arith, count);
+      bench = c.requires.starts.bench_of;
+      held = record { below = λ i low. (refl, refl); gone = λ i high within. absurd (omega (arith, high, within, count)); others = λ i high. (refl, refl) };
+      all_passes = omega (arith, c.requires.passes.as_many, count);
+      passes_capacity = refl;
+      passes = c.requires.passes.each;
+      all_rooms = omega (arith, c.in_ok-lines.ensures.all, count);
+      lines_capacity = c.in_ok-lines.ensures.capacity;
+      rooms = c.in_ok-lines.ensures.room;
+      workers_count = omega (arith, c.in_ok-workers.ensures.len, count);
+      workers_capacity = omega (arith, c.in_ok-workers.ensures.capacity, count);
+      workers = none_down _ _ _ c.in_ok-workers.ensures.items;
+    }
 
 pub part-caller-requires-clause-held : goal.part-caller-requires-clause-held
 part-caller-requires-clause-held g c =
     let i = c.loop-left.left - 1 in
-    let unused : IsUnused c.args.bench.now i = c.requires.1.1.1.1.0.unused i (omega (arith, c.loop-left.invariant.few, c.loop-left-test.true)) in
+    let unused : IsUnused c.args.bench.now i = c.requires.starts.unused i (omega (arith, c.loop-left.invariant.few, c.loop-left-test.true)) in
     (unused.local, (c.loop-left.invariant.held.below i (omega (arith, c.loop-left-test.true))).0 ∙ unused.here)
 
 pub begin-worker-requires : goal.begin-worker-requires
-begin-worker-requires g c κs within =
+begin-worker-requires g c =
     let i = c.loop-left.left - 1 in
-    let asked = c.requires.1.1.1.1 in
     let inv = c.loop-left.invariant in
     let who : who_of c.part-caller.result ≡ i = c.part-caller.ensures.caller.1 in
-    let pass_items : c.loop-left.passes.items ≡ c.pop.new.self.items ++ c.unwrap-pass.result ∷ [] =
-    c.pop.ensures.items ∙ ap (λ (o : Option _). c.pop.new.self.items ++ option_to_list o) c.unwrap-pass.ensures in
-    let own_items : c.loop-left.room.items ≡ c.pop-in-loop-left.new.self.items ++ c.unwrap-own.result ∷ [] =
-    c.pop-in-loop-left.ensures.items ∙ ap (λ (o : Option _). c.pop-in-loop-left.new.self.items ++ option_to_list o) c.unwrap-own.ensures in
-    let ending_items : c.loop-left.endings.items ≡ c.pop-in-loop-left-2.new.self.items ++ c.unwrap-ending.result ∷ [] =
-    c.pop-in-loop-left-2.ensures.items ∙ ap (λ (o : Option _). c.pop-in-loop-left-2.new.self.items ++ option_to_list o) c.unwrap-ending.ensures in
-    let free = last_in_order _ _ _ i c.unwrap-pass.result pass_items (omega (arith, inv.all_passes, one_longer _ _ _ pass_items)) inv.passes in
-    let room = last_in_order _ _ _ i c.unwrap-own.result own_items (omega (arith, inv.all_rooms, one_longer _ _ _ own_items)) inv.rooms in
+    let pass_items = popped _ _ _ _ c.pop.ensures.items c.unwrap-pass.ensures in
+    let own_items = popped _ _ _ _ c.pop-in-loop-left.ensures.items c.unwrap-own.ensures in
+    let pass = last_in_order _ _ _ (who_of c.part-caller.result) c.unwrap-pass.result pass_items (omega (arith, who, inv.all_passes, one_longer _ _ _ pass_items)) inv.passes in
+    let own = last_in_order _ _ _ (who_of c.part-caller.result) c.unwrap-own.result own_items (omega (arith, who, inv.all_rooms, one_longer _ _ _ own_items)) inv.rooms in
     let below = inv.held.below i (omega (arith, c.loop-left-test.true)) in
-    let unused : IsUnused c.args.bench.now i = asked.0.unused i (omega (arith, inv.few, c.loop-left-test.true)) in
+    let unused : IsUnused c.args.bench.now i = c.requires.starts.unused i (omega (arith, inv.few, c.loop-left-test.true)) in
     let fresh = fresh_from_bench c.args.bench.now i c.part-caller.result unused (sym below.0 ∙ c.part-caller.ensures.local) (sym below.1 ∙ c.part-caller.ensures.stance) in
-    let pass = subst (λ (k : ℕ). IsFreshPass c.args.shared.now.rows.now (g.A.Asks.fits c.args.shared.now.asks.now) g.A.Asks.count c.args.script.now.operations k c.unwrap-pass.result) (sym who) free in
-    let own = subst (λ (k : ℕ). IsRoomFor c.args.script.now.operations k c.unwrap-own.result) (sym who) room in
-    let ending = (All-pop (λ e. g.E.Ending.object e ≡ g.object) _ _ (Some c.unwrap-ending.result) ending_items inv.endings).1 in
-    (within.0, (within.1.0, (within.1.1.0, (within.1.1.1, (c.callers-left.ensures.plan, (asked.0.rows_for, (c.part-caller.ensures.caller.0, (fresh, (pass, (own, (ending, omega (arith, who, inv.few, c.loop-left-test.true))))))))))))
+    record {
+      plan = c.callers-left.ensures.plan;
+      rows = c.requires.starts.rows_for;
+      caller = c.part-caller.ensures.caller.0;
+      fresh = fresh;
+      pass = pass;
+      room = own;
+      below = omega (arith, who, inv.few, c.loop-left-test.true);
+    }
 
 pub loop-left-preserved : goal.loop-left-preserved
 loop-left-preserved g c =
@@ -42,14 +58,9 @@ loop-left-preserved g c =
     let n = length c.args.script.now.operations in
     let inv = c.loop-left.invariant in
     let who : who_of c.part-caller.result ≡ i = c.part-caller.ensures.caller.1 in
-    let pass_items : c.loop-left.passes.items ≡ c.pop.new.self.items ++ c.unwrap-pass.result ∷ [] =
-    c.pop.ensures.items ∙ ap (λ (o : Option _). c.pop.new.self.items ++ option_to_list o) c.unwrap-pass.ensures in
-    let own_items : c.loop-left.room.items ≡ c.pop-in-loop-left.new.self.items ++ c.unwrap-own.result ∷ [] =
-    c.pop-in-loop-left.ensures.items ∙ ap (λ (o : Option _). c.pop-in-loop-left.new.self.items ++ option_to_list o) c.unwrap-own.ensures in
-    let ending_items : c.loop-left.endings.items ≡ c.pop-in-loop-left-2.new.self.items ++ c.unwrap-ending.result ∷ [] =
-    c.pop-in-loop-left-2.ensures.items ∙ ap (λ (o : Option _). c.pop-in-loop-left-2.new.self.items ++ option_to_list o) c.unwrap-ending.ensures in
-    let put : c.push.new.self.items ≡ c.loop-left.workers.items ++ c.begin-worker.result ∷ [] =
-    c.push.ensures.items ∙ ap (λ (b : Bool). if b then c.loop-left.workers.items ++ c.begin-worker.result ∷ [] else c.loop-left.workers.items) (ap is_ok c.unwrap.ensures) in
+    let pass_items = popped _ _ _ _ c.pop.ensures.items c.unwrap-pass.ensures in
+    let own_items = popped _ _ _ _ c.pop-in-loop-left.ensures.items c.unwrap-own.ensures in
+    let put = pushed (c.begin-worker.result ∷ []) refl c.unwrap.ensures c.push.ensures.items in
     let left : c.loop-left.left ≡ i + 1 = omega (arith, c.loop-left-test.true) in
     record {
       few = omega (arith, inv.few);
@@ -60,12 +71,12 @@ loop-left-preserved g c =
       passes_capacity = c.pop.ensures.capacity ∙ inv.passes_capacity;
       passes = one_less_in_order _ _ _ c.unwrap-pass.result pass_items inv.passes;
       all_rooms = omega (arith, inv.all_rooms, one_longer _ _ _ own_items);
+      lines_capacity = omega (arith, inv.lines_capacity, c.pop-in-loop-left.ensures.capacity);
       rooms = one_less_in_order _ _ _ c.unwrap-own.result own_items inv.rooms;
-      all_endings = omega (arith, inv.all_endings, one_longer _ _ _ ending_items);
-      endings = (All-pop (λ e. g.E.Ending.object e ≡ g.object) _ _ (Some c.unwrap-ending.result) ending_items inv.endings).0;
       workers_count = omega (arith, inv.workers_count, one_longer _ _ _ put, left);
       workers_capacity = omega (arith, inv.workers_capacity, c.push.ensures.lower_bound);
-      workers = one_more_down n _ _ _ i c.begin-worker.result put (omega (arith, inv.workers_count, left))
-          (subst (λ (k : ℕ). IsStart g.P.Program.meaning c.args.shared.now.rows.now g.E.Ending.says g.E.Ending.object (g.A.Asks.fits c.args.shared.now.asks.now) g.A.Asks.count (course_of c.args.script.now (run_allotments c.args.script.now) g.object) k c.begin-worker.result) who c.begin-worker.ensures)
-          inv.workers;
+      workers = one_more_down n _ _ _ (who_of c.part-caller.result) c.begin-worker.result put (omega (arith, who, inv.workers_count, left)) c.begin-worker.ensures inv.workers;
     }
+
+pub returns-clause-gone : goal.returns-clause-gone
+returns-clause-gone g c i low = c.loop-left.invariant.held.gone i (omega (arith, c.loop-left-test.false)) low

@@ -1,12 +1,8 @@
 use Rattle.std.proofs.Common.{◌≡◌, ◌≤◌, ◌+◌, vec_len, vec_capacity, length}
-use Rattle.std.specs.List.{All}
 use Rattle.row_table.specs.Callers.{IsBenchOf}
 use Rattle.bench_clients.specs.Places.{AreDownFrom, AreInOrder}
 use Rattle.bench_clients.specs.Starts.{run_allotments, course_of, HoldsBelow, IsRoomFor, IsFreshPass, IsStart}
 use Rattle.bench_clients.proofs.start.start_all.Given as goal
-
-abbrev pub ghost-begin : goal.ghost-begin
-ghost-begin g a = g.object
 
 abbrev pub invariant-loop-left : goal.invariant-loop-left
 invariant-loop-left g l =
@@ -17,13 +13,12 @@ invariant-loop-left g l =
       all_passes : vec_len l.passes ≡ l.left;
       passes_capacity : vec_capacity l.passes ≡ vec_capacity l.initial.passes;
       passes : AreInOrder (IsFreshPass l.shared.rows.now (g.A.Asks.fits l.shared.asks.now) g.A.Asks.count l.script.operations) l.passes.items;
-      all_rooms : vec_len l.room ≡ l.left;
-      rooms : AreInOrder (IsRoomFor l.script.operations) l.room.items;
-      all_endings : vec_len l.endings ≡ l.left;
-      endings : All (λ e. g.E.Ending.object e ≡ g.object) l.endings.items;
+      all_rooms : vec_len l.lines ≡ l.left;
+      lines_capacity : length l.script.operations ≤ vec_capacity l.lines;
+      rooms : AreInOrder (IsRoomFor l.script.operations) l.lines.items;
       workers_count : vec_len l.workers + l.left ≡ length l.script.operations;
       workers_capacity : length l.script.operations ≤ vec_capacity l.workers;
-      workers : AreDownFrom (length l.script.operations) (IsStart g.P.Program.meaning l.shared.rows.now g.E.Ending.says g.E.Ending.object (g.A.Asks.fits l.shared.asks.now) g.A.Asks.count (course_of l.script (run_allotments l.script) g.object)) l.workers.items;
+      workers : AreDownFrom (length l.script.operations) (IsStart g.P.Program.meaning l.shared.rows.now g.E.Ending.says g.E.Ending.object (g.A.Asks.fits l.shared.asks.now) g.A.Asks.count (course_of l.script (run_allotments l.script) (g.E.Ending.object l.ending))) l.workers.items;
     }
 
 abbrev pub decreases-loop-left : goal.decreases-loop-left

@@ -16,12 +16,11 @@ index_mut-requires g c =
 
 pub loop-turn-init : goal.loop-turn-init
 loop-turn-init g c =
-    let asked = c.requires.1.1.1.1.1 in
     record {
-      all = asked.1.1.0;
+      all = c.requires.all;
       last = omega (arith, c.callers.ensures.count, c.callers.ensures.plan.some);
       turns = c.turns-turn-items.ensures;
-      workers = λ i j w at there. no_turn _ _ _ _ _ _ _ i w (asked.1.1.1 i j w at there);
+      workers = λ i j w at there. no_turn _ _ _ _ _ _ _ i w (c.requires.workers i j w at there);
     }
 
 pub take_turn-requires-clause-turning : goal.take_turn-requires-clause-turning
@@ -46,7 +45,7 @@ loop-turn-preserved g c =
       last = c.loop-turn.invariant.last;
       turns = c.loop-turn.invariant.turns;
       workers = turned_set _ _ _ _ _ _ _ _ c.loop-turn.turn-index place c.turns-turn-items.result.now c.loop-turn.workers.items c.index_mut.result.now c.take_turn.new.self
-          c.loop-turn-test.true (omega (arith, within, c.callers.ensures.count)) there c.take_turn.ensures c.loop-turn.invariant.workers;
+          c.loop-turn-test.true (omega (arith, within, c.callers.ensures.count)) there (c.take_turn.ensures _) c.loop-turn.invariant.workers;
     }
 
 pub returns-clause-workers : goal.returns-clause-workers
@@ -54,6 +53,6 @@ returns-clause-workers g c i j w at there =
     let plan = c.args.script.now in
     let all : take c.loop-turn.turn-index c.turns-turn-items.result.now ≡ plan.turns =
     ap (λ (k : ℕ). take k c.turns-turn-items.result.now) (omega (arith, c.loop-turn-test.false, c.loop-turn.auto.turn-index-end)) ∙ take-length c.turns-turn-items.result.now ∙ c.turns-turn-items.ensures in
-    turned_spent _ _ _ _ _ _ plan g.object i w (omega (arith, at))
-    (subst (λ (turns : List ℕ). IsTurned g.P.Program.meaning c.args.shared.now.rows.now g.E.Ending.says g.E.Ending.object (g.A.Asks.fits c.args.shared.now.asks.now) g.A.Asks.count (course_of plan (run_allotments plan) g.object) i (turns_of turns i) w) all
+    turned_spent _ _ _ _ _ _ plan (g.E.Ending.object c.args._ending.now) i w (omega (arith, at))
+    (subst (λ (turns : List ℕ). IsTurned g.P.Program.meaning c.args.shared.now.rows.now g.E.Ending.says g.E.Ending.object (g.A.Asks.fits c.args.shared.now.asks.now) g.A.Asks.count (course_of plan (run_allotments plan) (g.E.Ending.object c.args._ending.now)) i (turns_of turns i) w) all
     (c.loop-turn.invariant.workers i j w at there))

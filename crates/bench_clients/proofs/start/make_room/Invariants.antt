@@ -1,7 +1,7 @@
 use Rattle.std.proofs.Common.{◌≡◌, ◌≤◌, vec_len, vec_capacity}
 use Rattle.bench_clients.specs.Places.{AreInOrder}
 use Rattle.bench_clients.specs.Starts.{IsRoomFor}
-use Rattle.bench_clients.proofs.run.make_room.Given as goal
+use Rattle.bench_clients.proofs.start.make_room.Given as goal
 
 abbrev pub invariant-loop-i : goal.invariant-loop-i
 invariant-loop-i l =
