@@ -26,12 +26,13 @@ use Rattle.byte_streams.proofs.WritingLemmas.{EndsWriting-weaker}
 use Rattle.call_phases.specs.Ends.{Sequential}
 use Rattle.run_writer.specs.Runs.{IsWitnessText, IsRunOutput, RunEnds, object_of_kind, FormsWriteOneText, CertificatesAreLegal, CertificatesAreOfTheirKind, CertificatesTellOneBook}
 
--- what is written of a report is written of a run with such a report
-pub RunEnds-from_report : (object : Sequential) (IsReportOf : Findings → Type 0) (form : Form) (report : Findings) (result : Status) (taken taken' : Option (List ℕ)) → IsReportOf report
-    → RunEnds object (λ other. other ≡ report) form result taken taken' → RunEnds object IsReportOf form result taken taken'
-RunEnds-from_report object IsReportOf form report result taken taken' is ends =
-    EndsWriting-weaker (IsRunOutput object (λ other. other ≡ report) form) (IsRunOutput object IsReportOf form) result taken taken'
-    (λ status text output. (output.0, subst IsReportOf (sym output.1) is, output.2, output.3)) ends
+-- what is written of a report is written of a run with such a report, by an object that is the same
+pub RunEnds-from_report : (object other : Sequential) (IsReportOf : Findings → Type 0) (form : Form) (report : Findings) (result : Status) (taken taken' : Option (List ℕ)) → object ≡ other → IsReportOf report
+    → RunEnds object (λ other. other ≡ report) form result taken taken' → RunEnds other IsReportOf form result taken taken'
+RunEnds-from_report object other IsReportOf form report result taken taken' same is ends =
+    subst (λ (o : Sequential). RunEnds o IsReportOf form result taken taken') same
+    (EndsWriting-weaker (IsRunOutput object (λ other. other ≡ report) form) (IsRunOutput object IsReportOf form) result taken taken'
+    (λ status text output. (output.0, subst IsReportOf (sym output.1) is, output.2, output.3)) ends)
 
 -- ---- a form but the certificate writes one text of a report
 

@@ -1,5 +1,5 @@
 -- A bench has one report, and that has each form.
-use Rattle.std.proofs.Common.{◌≡◌, ◌∙◌, refl, ap, subst, inr, ◌⊎◌, List, Option, ℕ, ◌<◌, length, true, false}
+use Rattle.std.proofs.Common.{◌≡◌, ◌∙◌, refl, ap, subst, inr, ◌⊎◌, List, ℕ, ◌<◌, length, true, false}
 use Rattle.std.specs.List.{list_any}
 use Rattle.world_core.specs.Shape.{Meaning, Shape}
 use Rattle.world_core.specs.Local.{Local}
@@ -20,9 +20,8 @@ use Rattle.run_writer.specs.declared.form.Form.{Form}
 use Rattle.run_writer.specs.declared.form.Form.TheVariants.{Report, Counts, Certificate}
 use Rattle.byte_streams.specs.declared.status.Status.{Status}
 use Rattle.byte_streams.specs.declared.status.Status.TheVariants.{Fine, Found, WriteFault, NoMemory}
-use Rattle.bench_clients.specs.Starts.{object_by}
 use Rattle.run_writer.specs.Running.{IsBenchReport, EndsByReport}
-use Rattle.run_writer.specs.Runs.{HasForm, RunEnds}
+use Rattle.run_writer.specs.Runs.{HasForm}
 
 module _ (s : Shape) (locals : List Local) (plan : Plan) (allotments : List ℕ) where
   -- the report by the object of the script's kind
@@ -44,20 +43,12 @@ module _ (s : Shape) (locals : List Local) (plan : Plan) (allotments : List ℕ)
       subst (λ (lines : List (List Line)). IsFreeAgain b allotments (record { kind = g.kind; lines = lines }) i)
       (locals_determine_lines init next locals f.lines g.lines a.lines other.lines) (free i low)
 
-  -- a lawful report has each form
-  pub has_form : (object : Sequential) (form : Form) (f : Findings) → IsReportOf object.init object.next s locals plan allotments f → HasForm object form f
-  has_form object Report f is = tt
-  has_form object Counts f is = tt
-  has_form object Certificate f is = lawful_reports_have_an_order object.init object.next s plan.operations allotments f.lines is.lawful
-
--- what is written by an object is written by one that is the same
-pub ends_by_object : {S : Type 0} (init : S → List ℕ) (next : S → List ℕ → ℕ → List ℕ × ℕ) (s t : S) → s ≡ t → (IsOne : Findings → Type 0) (form : Form) (result : Status) (taken taken' : Option (List ℕ))
-    → RunEnds (object_by init next s) IsOne form result taken taken' → RunEnds (object_by init next t) IsOne form result taken taken'
-ends_by_object init next s t same IsOne form result taken taken' ends = subst (λ (x : _). RunEnds (object_by init next x) IsOne form result taken taken') same ends
-
--- a report has its forms by an object that is the same
-pub form_by_object : {S : Type 0} (init : S → List ℕ) (next : S → List ℕ → ℕ → List ℕ × ℕ) (s t : S) → s ≡ t → (form : Form) (f : Findings) → HasForm (object_by init next s) form f → HasForm (object_by init next t) form f
-form_by_object init next s t same form f has = subst (λ (x : _). HasForm (object_by init next x) form f) same has
+  -- a lawful report has each form, by an object that is the same
+  pub has_form : (object other : Sequential) (form : Form) (f : Findings) → object ≡ other → IsReportOf object.init object.next s locals plan allotments f → HasForm other form f
+  has_form object other Report f same is = tt
+  has_form object other Counts f same is = tt
+  has_form object other Certificate f same is =
+      subst (λ (o : Sequential). HasForm o Certificate f) same (lawful_reports_have_an_order object.init object.next s plan.operations allotments f.lines is.lawful)
 
 -- where memory was wanted, no report decides
 pub no_memory_ends : {P : Type 0} (object : Sequential) (meaning : P → ℕ → ℕ → Meaning) (rows : Rows P) (bench : Bench P) (plan : Plan) (allotments : List ℕ) → EndsByReport object meaning rows bench plan allotments NoMemory

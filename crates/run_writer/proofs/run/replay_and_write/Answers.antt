@@ -1,18 +1,17 @@
-use Rattle.seq_objects.specs.Objects.{kind_init, kind_next}
+use Rattle.std.proofs.Common.{refl, ap}
 use Rattle.run_writer.proofs.RunLemmas.{RunEnds-from_report}
-use Rattle.run_writer.proofs.RunningLemmas.{ends_by_object, by_its_kind, ends_by_one, no_memory_ends, has_form}
+use Rattle.run_writer.proofs.RunningLemmas.{by_its_kind, ends_by_one, no_memory_ends, has_form}
 use Rattle.run_writer.specs.Runs.{object_of_kind}
 use Rattle.run_writer.proofs.run.replay_and_write.Goals as goal
 
 pub write_report-requires : goal.write_report-requires
-write_report-requires g c = record { form = has_form _ _ _ _ (object_of_kind c.kind-kind.result) c.args.form _ c.in-Ok.ensures.report }
+write_report-requires g c = record { form = has_form _ _ _ _ (object_of_kind c.kind-kind.result) _ c.args.form _ refl c.in-Ok.ensures.report }
 
 pub returns-in-Ok-clause-ends : goal.returns-in-Ok-clause-ends
 returns-in-Ok-clause-ends g c =
-    ends_by_object kind_init kind_next _ _ c.kind-kind.ensures _ _ _ _ _
-    (RunEnds-from_report _ _ _ _ _ _ _
+    RunEnds-from_report _ _ _ _ _ _ _ _ (ap object_of_kind c.kind-kind.ensures)
     (record { report = by_its_kind _ _ _ _ _ _ c.kind-kind.ensures c.in-Ok.ensures.report; told_in = c.in-Ok.ensures.told })
-    c.write_report.ensures.ends)
+    c.write_report.ensures.ends
 
 pub returns-in-Ok-clause-reported : goal.returns-in-Ok-clause-reported
 returns-in-Ok-clause-reported g c =
