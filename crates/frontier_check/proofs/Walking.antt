@@ -18,7 +18,8 @@ use Rattle.frontier_check.specs.declared.front.Front.{Front}
 use Rattle.frontier_check.specs.Front.{IsFront}
 use Rattle.book_base.specs.Pruning.{IsLeast, IsDeadEnd, IsReached}
 use Rattle.frontier_check.specs.Search.{places_of, Fits, IsOpen, Leads, IsWalk, order_of, weigh, weight}
-use Rattle.frontier_check.proofs.Choosing.{may_come-from_least, open-last, open-rest, dead_end}
+use Rattle.next_calls.proofs.Least.{may_come-from_least}
+use Rattle.frontier_check.proofs.Choosing.{open-last, open-rest, dead_end}
 use Rattle.frontier_check.proofs.Leading.{leads-push, leads-pop, standing, reached-from_leads, legal-from_leads, lowered}
 use Rattle.frontier_check.proofs.Weighing.{weigh-push, weigh-skip, weigh-pop}
 

@@ -7,7 +7,6 @@ mod front;
 mod guide;
 mod mark;
 mod memo;
-mod one_open;
 mod plan;
 mod remaining;
 mod resume;

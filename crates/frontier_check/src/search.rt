@@ -18,6 +18,7 @@ use crate::plan::Plan;
 use crate::twins::choose;
 use crate::walk::{Level, Outcome, ROOM, Walk, load, places, set_count};
 use book_base::{Book, Call, Cut, Foresight, Marks, NoMemory, Place, SeqObject, Sight, State};
+use next_calls::{all_next, cut_of, first_view, least_open};
 use std::alloc::Global;
 use std::mem;
 
@@ -95,7 +96,7 @@ impl<S: SeqObject> Search<'_, S> {
         ensures none { IfOk result (λ begun. IfNone begun (HoldsAnswered self.now.book.now self.now.front.now.cut)) }
     {
         let counts = counts_of(self.alloc, &self.front.cut)?;
-        let Some(first) = self.least_open(&counts) else {
+        let Some(first) = least_open(self.book, &counts) else {
             return Ok(None);
         };
         let mut here = State::with_room(self.alloc, ROOM)?;
@@ -192,7 +193,7 @@ impl<S: SeqObject> Search<'_, S> {
             return Ok(Outcome::GoesOn);
         }
         let words = Vec::from_slice(self.alloc, spare.words())?;
-        match self.least_open(&walk.counts) {
+        match least_open(self.book, &walk.counts) {
             None => {
                 let choices = mem::replace(&mut walk.choices, Vec::new(self.alloc));
                 walk.levels.push(Level {
@@ -277,7 +278,7 @@ impl<S: SeqObject> Search<'_, S> {
         ensures open { IfOk result (λ choices. IsOpen self.now.book.now (S.next self.now.object.now) counts.now here.now.words (places_of choices.items)) }
         ensures few { IfOk result (λ choices. length choices.items ≤ length self.now.book.now) }
     {
-        let view = self.first_view(counts, first);
+        let view = first_view(self.book, counts, first);
         let mut choices = Vec::new(self.alloc);
         if let Some(place) = self.at_once(counts, &view, here, spare, first) {
             choices.push(Choice { turn: 0, place })?;
@@ -459,70 +460,6 @@ impl<S: SeqObject> Search<'_, S> {
         };
         choose(self.book, self.one_open, choices, Choice { turn, place })
     }
-
-    // Of the callers with an answered call outside a cut the one whose first such call has the least view;
-    // there is none where the cut holds all answered calls.
-    fn least_open(&self, counts: &[u16]) -> Option<u32>
-        requires { length counts.now ≡ length self.now.book.now }
-        ensures least { IfSome result (IsLeast self.now.book.now counts.now (length self.now.book.now)) }
-        ensures none { IfNone result (HoldsAnswered self.now.book.now counts.now) }
-    {
-        let mut least = None;
-        for caller in 0..self.book.callers() {
-            if u64::from(counts[caller as usize]) < self.book.answers(caller)
-                && self.is_before(counts, caller, least)
-            {
-                least = Some(caller);
-            }
-        }
-        least
-    }
-
-    // Whether the view of a caller's first call outside a cut is within that of another's, where there is
-    // another.
-    fn is_before(&self, counts: &[u16], caller: u32, other: Option<u32>) -> bool
-        requires wide { length counts.now ≡ length self.now.book.now }
-        requires answered { IsAnswered self.now.book.now (next_call counts.now caller) }
-        requires other { IfSome other (λ o. IsAnswered self.now.book.now (next_call counts.now o)) }
-        ensures { IsTrue result ↔ IfSome other (λ o. ViewsAreWithin self.now.book.now (next_call counts.now caller) (next_call counts.now o)) }
-    {
-        match other {
-            None => true,
-            Some(other) => {
-                let view = self.first_view(counts, caller);
-                view.within(&self.first_view(counts, other))
-            }
-        }
-    }
-
-    // The view of a caller's first call outside a cut.
-    fn first_view(&self, counts: &[u16], caller: u32) -> Cut
-        requires wide { length counts.now ≡ length self.now.book.now }
-        requires answered { IsAnswered self.now.book.now (next_call counts.now caller) }
-        ensures view { (r : Record) → record_of self.now.book.now (next_call counts.now caller) ≡ Some r → r.view ≡ result }
-        ensures wide { length result ≡ length self.now.book.now }
-    {
-        let number = u64::from(counts[caller as usize]);
-        self.book.record(Call { caller, number }).view
-    }
-}
-
-// The callers whose next calls may come next after a cut. The caller's first call outside the cut has the least
-// view of all such calls.
-fn all_next(book: &Book, cut: &Cut, view: &Cut, first: u32) -> Marks
-    requires wide { length cut.now ≡ length book.now }
-    requires first { IsLeast book.now cut.now (length book.now) first }
-    requires view { (r : Record) → record_of book.now (next_call cut.now first) ≡ Some r → r.view ≡ view.now }
-    requires views { length view.now ≡ length book.now }
-    ensures { MarksAllNext book.now cut.now result }
-{
-    let mut marks = Marks::none();
-    for caller in 0..book.callers() {
-        if cut.get(caller) < view.get(caller) {
-            marks = marks.with(caller);
-        }
-    }
-    marks
 }
 
 // The counts of a cut, as a walk keeps them.
@@ -535,20 +472,6 @@ fn counts_of(alloc: Global, cut: &Cut) -> Result<Vec<u16>, NoMemory>
         counts.push(*count as u16)?;
     }
     Ok(counts)
-}
-
-// The cut with these counts.
-fn cut_of(counts: &[u16]) -> Cut
-    requires some { 1 ≤ length counts.now }
-    requires few { length counts.now ≤ MAX_CALLERS }
-    ensures { result ≡ counts.now }
-{
-    let callers = counts.len() as u32;
-    let mut cut = Cut::zero(callers);
-    for caller in 0..callers {
-        cut.set(caller, u64::from(counts[caller as usize]));
-    }
-    cut
 }
 
 // Whether a reply is the recorded one, where the call is answered.

@@ -11,12 +11,12 @@ use crate::fresh::{calls_after, holds_answered, put_fresh};
 use crate::front::{Front, leaves_open, limit_of};
 use crate::guide::Guide;
 use crate::mark::{Mark, Standing};
-use crate::one_open::has_one_open;
 use crate::plan::Plan;
 use crate::remaining::decided_after;
 use crate::resume::resume;
 use crate::search::Search;
 use book_base::{Book, Call, Decision, Foresight, NoMemory, Place, SeqObject, Sight};
+use next_calls::has_one_open;
 use std::alloc::Global;
 
 /// Whether a book has a legal order.

@@ -1,5 +1,5 @@
 use Rattle.std.proofs.Common.{arith}
-use Rattle.frontier_check.proofs.Choosing.{may_come-from_least}
+use Rattle.next_calls.proofs.Least.{may_come-from_least}
 use Rattle.frontier_check.proofs.search.Search.at_once.Goals as goal
 
 pub leaving-place-requires-clause-may : goal.leaving-place-requires-clause-may
