@@ -137,7 +137,7 @@ impl Case {
     pub fn run<R: AllocGlobal + Threads + Sync>(&self, rt: &R) -> Result<Outcome> {
         match self.trial {
             Trial::Once => self.run_once(rt),
-            Trial::Fronts => self.run_fronts(rt),
+            Trial::Prefixes => self.run_prefixes(rt),
             Trial::Reads => self.run_failing_reads(rt),
             Trial::Writes => self.run_failing_writes(rt),
             Trial::AnySchedule(told) => Outcome::of(
@@ -148,7 +148,7 @@ impl Case {
         }
     }
 
-    // The output is looked at in place of being compared.
+    // The output is looked at instead of being compared.
     fn run_any_schedule<R: AllocGlobal + Threads + Sync>(&self, rt: &R, told: Told) -> Result<()> {
         let mut sink = self.sink(rt.alloc(), &self.sink_fails, self.sink_most)?;
         let mut source = SteadySource::new(self.input.to_vec(rt.alloc())?);
@@ -172,13 +172,13 @@ impl Case {
         self.run_on(rt, &attempt)
     }
 
-    // Each front of the input that isn't whole is refused as a text that is cut.
-    fn run_fronts<R: AllocGlobal + Threads + Sync>(&self, rt: &R) -> Result<Outcome> {
+    // Each prefix of the input that isn't whole is refused as a text that is cut.
+    fn run_prefixes<R: AllocGlobal + Threads + Sync>(&self, rt: &R) -> Result<Outcome> {
         for count in 0..self.input.len() {
-            let front = &self.input[..count];
-            let wanted = refusal_of_front(rt.alloc(), front)?;
+            let prefix = &self.input[..count];
+            let wanted = refusal_of_prefix(rt.alloc(), prefix)?;
             let attempt = Attempt {
-                input: front,
+                input: prefix,
                 source_fails: &self.source_fails,
                 source_most: self.source_most,
                 sink_fails: &self.sink_fails,
@@ -195,7 +195,7 @@ impl Case {
     }
 
     // The source gives one byte a read, and the last read finds the end: each of these reads fails in turn, and then the read
-    // behind the last, which isn't made.
+    // after the last, which isn't made.
     fn run_failing_reads<R: AllocGlobal + Threads + Sync>(&self, rt: &R) -> Result<Outcome> {
         let last = (self.input.len() as u64).saturating_add(1);
         for failing in 1..=last.saturating_add(1) {
@@ -217,7 +217,7 @@ impl Case {
         Outcome::good(rt.alloc())
     }
 
-    // The sink takes one byte a write: each write of the wanted output fails in turn, and then the write behind the last, which
+    // The sink takes one byte a write: each write of the wanted output fails in turn, and then the write after the last, which
     // isn't made.
     fn run_failing_writes<R: AllocGlobal + Threads + Sync>(&self, rt: &R) -> Result<Outcome> {
         for taken in 0..=self.wanted.len() {
@@ -293,8 +293,8 @@ impl Case {
     }
 }
 
-// The answer to a front of a text that isn't whole: the line that is cut is the one behind the last line feed.
-fn refusal_of_front(alloc: Global, front: &[u8]) -> Result<String> {
-    let line_feeds = front.iter().filter(|byte| **byte == b'\n').count();
+// The answer to a prefix of a text that isn't whole: the line that is cut is the one after the last line feed.
+fn refusal_of_prefix(alloc: Global, prefix: &[u8]) -> Result<String> {
+    let line_feeds = prefix.iter().filter(|byte| **byte == b'\n').count();
     Ok(format!(in alloc; "refused {} Cut\n", line_feeds.saturating_add(1))?)
 }

@@ -68,7 +68,7 @@ fn is_within_records(book: &Book, cut: &Cut) -> bool
     true
 }
 
-// Goes on to the next cut within the record counts, the count of the first caller rising first; false behind the last.
+// Goes on to the next cut within the record counts, the count of the first caller rising first; false after the last.
 fn step(book: &Book, cut: &mut Cut) -> bool {
     for i in 0..book.callers() {
         if i >= cut.n() {

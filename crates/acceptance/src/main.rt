@@ -8,13 +8,13 @@
 //! | `in LINE` | a line of the input, with its line feed; `in` alone is an empty line |
 //! | `in-cut TEXT` | a piece of the input without a line feed |
 //! | `in-byte N` | one byte of the input, as a number |
-//! | `in-fill COUNT` | so many bytes `x` of the input |
-//! | `in-calls CALLER COUNT OP` | so many lines of the input: the caller, a number that counts from 0, and the operation |
-//! | `in-turns CALLER COUNT` | the line of a script's turns, with so many turns of the caller |
+//! | `in-fill COUNT` | this many bytes `x` of the input |
+//! | `in-calls CALLER COUNT OP` | this many lines of the input: the caller, a number that counts from 0, and the operation |
+//! | `in-turns CALLER COUNT` | the line of a script's turns, with this many turns of the caller |
 //! | `in-each CALLERS COUNT OP, ..` | the lines of a script from `callers` to its last call: each caller has COUNT calls, which take the operations in turn; a `*` in an operation is a number that no other call has |
 //! | `in-rounds CALLERS COUNT TURNS` | the line of a script's turns: COUNT rounds, in each of which each caller has TURNS turns in a row |
-//! | `in-answered CALLER COUNT OP REPLY` | so many such lines, each with the reply, and a view of the caller's calls up to this one |
-//! | `fronts` | each front of the input that isn't whole is tried in its place: it is refused as a text that is cut |
+//! | `in-answered CALLER COUNT OP REPLY` | this many such lines, each with the reply, and a view of the caller's calls up to this one |
+//! | `prefixes` | each prefix of the input that isn't whole is tried in its place: it is refused as a text that is cut |
 //! | `each-read-fails` | the source gives one byte a read; each read fails in turn, up to the one that finds the end: status 4 and nothing written; and then none fails |
 //! | `each-write-fails` | the sink takes one byte a write; each write fails in turn, up to the last: status 5 and the bytes before it; and then none fails |
 //! | `delivered COUNT` | the output, which the schedule decides, is the text of a report of COUNT calls, all of them delivered |
@@ -38,7 +38,7 @@
 //! the verdict must be the same.
 //!
 //! Empty lines and lines that begin with `#` are passed over. A line is printed for each case that fails, with what
-//! was answered in place of what was wanted, and `N passed, M failed` last.
+//! was answered instead of what was wanted, and `N passed, M failed` last.
 #![tactic(auto)]
 
 mod alone;

@@ -24,7 +24,7 @@ pub fn try_told<R: AllocGlobal + Threads + Sync>(rt: &R, told: Told, output: &[u
     }
 }
 
-// The report with this text, of so many calls that were all delivered.
+// The report with this text, of this many calls that were all delivered.
 fn read_delivered(alloc: Global, text: &[u8], calls: u64) -> Result<Report> {
     let report = read_report(alloc, text).map_err(|_| anyhow!("the report can't be read"))?;
     let counts = report.counts();

@@ -24,7 +24,7 @@ pub fn take_line(alloc: Global, case: &mut Case, line: &str) -> Result<()> {
         "in-turns" => take_turns(&mut case.input, value),
         "in-each" => take_each(&mut case.input, value),
         "in-rounds" => take_rounds(&mut case.input, value),
-        "fronts" => set_trial(case, Trial::Fronts),
+        "fronts" => set_trial(case, Trial::Prefixes),
         "each-read-fails" => set_trial(case, Trial::Reads),
         "each-write-fails" => set_trial(case, Trial::Writes),
         "delivered" => {
@@ -142,7 +142,7 @@ fn take_operations(bytes: &mut Vec<u8>, caller: u64, count: u64, operations: &st
 fn take_operation(bytes: &mut Vec<u8>, caller: u64, number: u64, operation: &str) -> Result<()> {
     let own = caller.saturating_mul(256).saturating_add(number);
     match operation.split_once('*') {
-        Some((before, behind)) => writeln!(bytes, "{caller} {number} {before}{own}{behind}")?,
+        Some((before, suffix)) => writeln!(bytes, "{caller} {number} {before}{own}{suffix}")?,
         None => writeln!(bytes, "{caller} {number} {operation}")?,
     }
     Ok(())
@@ -161,7 +161,7 @@ fn take_rounds(bytes: &mut Vec<u8>, value: &str) -> Result<()> {
     Ok(())
 }
 
-// So many turns of each caller, one caller behind the other.
+// So many turns of each caller, one caller after the other.
 fn take_round(bytes: &mut Vec<u8>, callers: u64, turns: u64) -> Result<()> {
     for caller in 0..callers {
         for _ in 0..turns {

@@ -3,8 +3,8 @@
 pub enum Trial {
     /// The case as it stands.
     Once,
-    /// Each front of the input that isn't whole.
-    Fronts,
+    /// Each prefix of the input that isn't whole.
+    Prefixes,
     /// Each read of bytes that come one at a time fails.
     Reads,
     /// Each write of bytes that go one at a time fails.

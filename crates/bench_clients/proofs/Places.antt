@@ -66,7 +66,7 @@ down_across n Is Then R xs ys one h zip i j y at there =
     let before = related_at R xs ys j y zip there in
     one i before.0 y (h i j before.0 at before.1) before.2
 
--- a list that was lent as a slice, behind what was done to the slice
+-- a list that was lent as a slice, after what was done to the slice
 pub written_back : {X : Type 0} (R : X → X → Type 0) (n : ℕ) (xs lent ys : List X) → lent ≡ xs → length lent ≡ n → AllZip R lent ys → AllZip R xs (take n (ys ++ drop (length ys) xs))
 written_back R n xs lent ys is long h =
     let all : AllZip R xs ys = subst (λ (l : List _). AllZip R l ys) is h in

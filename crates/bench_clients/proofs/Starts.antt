@@ -87,7 +87,7 @@ module _ {P : Type 0} where
         (other.0 ∙ before.0, other.1 ∙ before.1);
     gone = λ i high within.
         elim (cases_lt k i) [
-          | inl behind ↦ (others i (λ same. omega (arith, behind, same))).0 ∙ held.gone i (omega (arith, behind)) within
+          | inl suffix ↦ (others i (λ same. omega (arith, suffix, same))).0 ∙ held.gone i (omega (arith, suffix)) within
           | inr before ↦ let same : k ≡ i = omega (arith, high, before) in subst (λ (m : ℕ). on_bench d m ≡ None) same gone
         ];
     others = λ i high.
@@ -108,7 +108,7 @@ operations_within most [] i h = omega arith
 operations_within most (ops ∷ operations) zero h = h.0
 operations_within most (ops ∷ operations) (suc i) h = operations_within most operations i h.1
 
--- a run may begin on rows that were opened for a plan's callers and so many more, with their bench
+-- a run may begin on rows that were opened for a plan's callers and this many more, with their bench
 pub may_begin : {P : Type 0} (meaning : P → ℕ → ℕ → Meaning) (plan : Plan) (beside n cap : ℕ) (r : Rows P) (b : Bench P) → n ≡ length plan.operations + beside → AreAtMost cap (sizes plan.operations)
     → r.callers ≡ n → r.cap ≡ cap → IsBenchOf meaning r b → ((i : ℕ) → i < n → (on_bench b i ≡ Some fresh) × (stance_on b i ≡ Some fresh_stance)) → MayBegin meaning plan beside r b
 may_begin meaning plan beside n cap r b all few callers most of opened =
@@ -124,7 +124,7 @@ may_begin meaning plan beside n cap r b all few callers most of opened =
       others = λ i high low. unused i (omega (arith, low, callers));
     }
 
--- no stop is behind all phases
+-- no stop is after all phases
 pub stops_within : (operations : List (List ℕ)) (stops : List (Option ℕ)) (i : ℕ) → AreStops (sizes operations) stops
     → phases_for (stop_at stops i) (length (operations_at operations i)) ≤ 5 * length (operations_at operations i)
 stops_within [] [] i h = omega arith

@@ -146,7 +146,7 @@ module _ {P T E : Type 0} (meaning : P → ℕ → ℕ → Meaning) (r : Rows P)
             subst (λ (m : ℕ). IsTurned meaning r says object fits count course i m x) (sym (more_other turns k i low unnamed)) (all i j x here other.1)
       ]
 
--- behind all turns each worker has spent what it was given
+-- after all turns each worker has spent what it was given
 pub turned_spent : {P T E : Type 0} (meaning : P → ℕ → ℕ → Meaning) (r : Rows P) (says : Says) (object : E → Sequential) (fits : Fits T) (count : T → Option PassCount) (plan : Plan) (judged : Sequential)
     (i : ℕ) (w : Worker P T E) → i < length plan.operations → IsTurned meaning r says object fits count (course_of plan (run_allotments plan) judged) i (turns_of plan.turns i) w
     → IsSpent meaning r says object fits count (course_of plan (replay_allotments plan) judged) i w

@@ -4,7 +4,7 @@ use Rattle.world_core.specs.Local.{Local, fresh}
 use Rattle.world_core.specs.Programs.{outside}
 use Rattle.bench_clients.specs.Returns.{IsBackWith}
 
--- The local of a caller with this second operation, and with so many records published: the first call, which has the operation 5, was
+-- The local of a caller with this second operation, and with this many records published: the first call, which has the operation 5, was
 -- answered 50, saw a cut and was judged by it, and the second call is announced.
 abbrev pub in_second_call : ℕ → ℕ → Local
 in_second_call second published = record fresh {
@@ -21,7 +21,7 @@ pub record Pass : Type 0 where
   pub made : ℕ
   pub told : Option (List (ℕ × ℕ))
 
--- The caller with the operations 5 and 7 that is given so many phases is back with this local and this pass, and has made p of them.
+-- The caller with the operations 5 and 7 that is given this many phases is back with this local and this pass, and has made p of them.
 abbrev pub IsBackAfter : ℕ → ℕ → Local → Pass → Type 0
 IsBackAfter given p l pass =
     IsBackWith (record { callers = 1; cap = 2; program = outside }) (λ n cap (pass : Pass) who steps. who ≡ 0)

@@ -35,7 +35,7 @@ pub record IsCountOf (p : ℕ) (l : Local) (count : PassCount) : Type 0 where
   pub asked_for : count.made ≡ asked p
   pub told_is : IfSome count.told (IsTold p (calls_in l))
 
--- Caller i of a world of this shape is back with this local and this pass: it has made so many first phases of its allotment, which its pass
+-- Caller i of a world of this shape is back with this local and this pass: it has made this many first phases of its allotment, which its pass
 -- counts, where it counts any, and the pass fits it as it stands now.
 pub record IsBackWith {T : Type 0} (s : Shape) (fits : Fits T) (count : T → Option PassCount) (operations : List (List ℕ)) (allotments : List ℕ) (i p : ℕ) (l : Local) (pass : T) : Type 0 where
   pub fits_caller : fits s.callers s.cap pass i (all_steps_of l)
@@ -49,7 +49,7 @@ abbrev pub HasLeftLines : Says → ℕ → Course → ℕ → ℕ → Local → 
 HasLeftLines says n course i p l own =
     HasLeftAt (says course.object) n (operations_at course.operations i) (slice_index course.allotments i) p l own
 
--- How caller i stands on the bench that has made so many phases: within a call it is halted, and where it is live it is free for its
+-- How caller i stands on the bench that has made this many phases: within a call it is halted, and where it is live it is free for its
 -- next call.
 pub record StandsAgain {P : Type 0} (b : Bench P) (i phases : ℕ) (l : Local) : Type 0 where
   pub stance : Stance

@@ -68,7 +68,7 @@ module _ {P : Type 0} where
     pub bench_of : IsBenchOf meaning r b
     pub unused : (i : ℕ) → i < length plan.operations → IsUnused b i
 
-  -- A whole run of a plan may begin, with so many callers beside the plan's: its callers may start, the rows have just these callers, and
+  -- A whole run of a plan may begin, with this many callers beside the plan's: its callers may start, the rows have just these callers, and
   -- those beside the plan's are unused too.
   pub record MayBegin (meaning : P → ℕ → ℕ → Meaning) (plan : Plan) (beside : ℕ) (r : Rows P) (b : Bench P) : Type 0 where
     pub starts : MayStart meaning plan r b
@@ -91,7 +91,7 @@ pub record IsRoomFor (operations : List (List ℕ)) (i : ℕ) (own : Own) : Type
   pub none : own.lines.items ≡ []
   pub has_room : length (operations_at operations i) ≤ vec_capacity own.lines
 
--- With a pass that counts no call was made, it has a call for each of so many operations, and it tells of none.
+-- With a pass that counts no call was made, it has a call for each of this many operations, and it tells of none.
 pub record IsNewCount (operations : ℕ) (count : PassCount) : Type 0 where
   pub none : count.made ≡ 0
   pub has_room : operations ≤ count.room

@@ -12,7 +12,7 @@ use Rattle.bench_clients.specs.Starts.{Course, IsClientOf}
 use Rattle.bench_clients.specs.declared.worker.Worker.{Worker}
 
 module _ {P T E : Type 0} where
-  -- The worker of caller i, after so many turns that named it: its client has spent a phase at each, but none beyond its allotment, and
+  -- The worker of caller i, after this many turns that named it: its client has spent a phase at each, but none beyond its allotment, and
   -- where it isn't halted it has the rest of its allotment left.
   pub record IsTurned (meaning : P → ℕ → ℕ → Meaning) (r : Rows P) (says : Says) (object : E → Sequential) (fits : Fits T) (count : T → Option PassCount) (course : Course) (i turns : ℕ) (w : Worker P T E) : Type 0 where
     pub client : Client P T E

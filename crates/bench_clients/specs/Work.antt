@@ -1,4 +1,4 @@
--- Clients before, in and behind their work.
+-- Clients before, in and after their work.
 use Rattle.std.specs.Prelude.{◌≡◌, ℕ, ◌+◌, ◌*◌, ◌≤◌, List, length, Option, Some}
 use Rattle.book_base.specs.declared.call.Record.{Record}
 use Rattle.world_core.specs.Shape.{Meaning}

@@ -6,7 +6,7 @@ ghost use Rattle.bench_clients.specs.Cases.{in_second_call, with_object_step, si
 /// A caller that is in its second call has made its sixth phase, or its seventh as well, in which the
 /// object was asked. It was given as many phases or more; its calls have the operations that it was
 /// given, and its record is published. Before the object was asked, its call has no object step.
-pub fn callers_are_back_behind_their_phases()
+pub fn callers_are_back_after_their_phases()
     // A caller in its second call whose pass tells of its first call alone has made 6 of 6 phases.
     ensures announced { IsBackAfter 6 6 (in_second_call 7 1) (pass_of ((5, 50) ∷ [])) }
     // A caller in its second call whose pass tells of both calls has made 7 of 7 phases.

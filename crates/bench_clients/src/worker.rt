@@ -18,7 +18,7 @@ pub struct Worker<'a, P, T, E> {
     pub allotment: u64,
 }
 
-// The client makes so many further phases, or is halted within them. Its steps are counted by
+// The client makes this many further phases, or is halted within them. Its steps are counted by
 // themselves.
 fn run_counted<'a, P: Program, T, E: Ending, A: Asks<Program = P, Pass = T>, L: Ledger>(
     client: Client<'a, P, T, E>,

@@ -11,7 +11,7 @@ use Rattle.book_base.specs.declared.TheConstants.{MAX_CALLERS}
 use Rattle.book_base.specs.Cut.{Holds}
 use Rattle.book_base.specs.Book.{Page, page_of, calls_of, IsCall}
 use Rattle.book_base.specs.Order.{StandsAt}
-use Rattle.book_base.specs.Foresight.{Known, no_bar, bars_of, bar_of, rank_of, HasBar, IsBelow, HasEarly, IsHopeless, IsForesight, MustComeFirst, blank_bars, with_bar, held_back, limited}
+use Rattle.book_base.specs.Foresight.{Known, no_bar, bars_of, bar_of, rank_of, HasBar, IsBelow, HasEarly, IsInfeasible, IsForesight, MustComeFirst, blank_bars, with_bar, held_back, limited}
 use Rattle.book_base.proofs.PageLemmas.{empty, caller_from_call}
 use Rattle.book_base.proofs.ViewLemmas.{same_call}
 
@@ -66,16 +66,16 @@ has_bar-with_bar known call bar other has h =
     ] in
     (callers, calls)
 
--- Another bar of a call keeps what is known right where that bar forbids the call only where it is hopeless.
+-- Another bar of a call keeps what is known right where that bar forbids the call only where it is infeasible.
 pub with_bar_is_right : (init : List ℕ) (next : List ℕ → ℕ → List ℕ × ℕ) (book : List Page) (known : Known) (call : Call) (bar : Bar) → HasBar known call → IsForesight init next book known
-    → ((cut list : List ℕ) → IsBelow cut bar.floor ⊎ HasEarly known.ranks list bar.limit → IsHopeless init next book cut list call) → IsForesight init next book (with_bar known call bar)
-with_bar_is_right init next book known call bar has right hopeless cut list other forbids =
+    → ((cut list : List ℕ) → IsBelow cut bar.floor ⊎ HasEarly known.ranks list bar.limit → IsInfeasible init next book cut list call) → IsForesight init next book (with_bar known call bar)
+with_bar_is_right init next book known call bar has right infeasible cut list other forbids =
     let says : Bar → Type 0 = λ b. IsBelow cut b.floor ⊎ HasEarly known.ranks list b.limit in
     elim (cases_call other call) [
       | inr apart ↦ right cut list other (subst says (bar_of-with_bar_other known call bar other has apart) forbids)
       | inl same ↦
           let here : says (bar_of (with_bar known call bar) call) = subst (λ (c : Call). says (bar_of (with_bar known call bar) c)) same forbids in
-          subst (λ (c : Call). IsHopeless init next book cut list c) (sym same) (hopeless cut list (subst says (bar_of-with_bar_same known call bar has) here))
+          subst (λ (c : Call). IsInfeasible init next book cut list c) (sym same) (infeasible cut list (subst says (bar_of-with_bar_same known call bar has) here))
     ]
 
 -- ---- a higher floor
@@ -84,23 +84,23 @@ slice_get-middle : {X : Type 0} (xs : List X) (y : X) (ys : List X) → slice_ge
 slice_get-middle [] y ys = refl
 slice_get-middle (x ∷ xs) y ys = slice_get-middle xs y ys
 
-slice_get-front : {X : Type 0} (xs ys : List X) (k : ℕ) → k < length xs → slice_get (xs ++ ys) k ≡ slice_get xs k
-slice_get-front [] ys k lt = absurd (omega arith)
-slice_get-front (x ∷ xs) ys zero lt = refl
-slice_get-front (x ∷ xs) ys (suc k) lt = slice_get-front xs ys k (omega arith)
+slice_get-prefix : {X : Type 0} (xs ys : List X) (k : ℕ) → k < length xs → slice_get (xs ++ ys) k ≡ slice_get xs k
+slice_get-prefix [] ys k lt = absurd (omega arith)
+slice_get-prefix (x ∷ xs) ys zero lt = refl
+slice_get-prefix (x ∷ xs) ys (suc k) lt = slice_get-prefix xs ys k (omega arith)
 
 set_at_most : (xs : List ℕ) (i v : ℕ) → get_or (set xs i v) i 0 ≤ v
 set_at_most [] i v = omega arith
 set_at_most (x ∷ xs) zero v = omega arith
 set_at_most (x ∷ xs) (suc i) v = set_at_most xs i v
 
--- where a call that must come first isn't in the cut, a call is hopeless
-hopeless_from_first : (init : List ℕ) (next : List ℕ → ℕ → List ℕ × ℕ) (book : List Page) (cut list : List ℕ) (call other : Call) → MustComeFirst init next book other call
-    → (Holds cut other → ⊥) → IsHopeless init next book cut list call
-hopeless_from_first init next book cut list call other first lacks before rest reply reaches legal =
+-- where a call that must come first isn't in the cut, a call is infeasible
+infeasible_from_first : (init : List ℕ) (next : List ℕ → ℕ → List ℕ × ℕ) (book : List Page) (cut list : List ℕ) (call other : Call) → MustComeFirst init next book other call
+    → (Holds cut other → ⊥) → IsInfeasible init next book cut list call
+infeasible_from_first init next book cut list call other first lacks before rest reply reaches legal =
     let place : Place = record { caller = call.caller; number = call.number; reply = reply } in
     let found = first (before ++ place ∷ rest) legal (length before) (place, slice_get-middle before place rest, refl) in
-    let there : StandsAt before found.0 other = (found.2.0, sym (slice_get-front before (place ∷ rest) found.0 found.1) ∙ found.2.1, found.2.2) in
+    let there : StandsAt before found.0 other = (found.2.0, sym (slice_get-prefix before (place ∷ rest) found.0 found.1) ∙ found.2.1, found.2.2) in
     lacks (reaches.holds found.0 other there)
 
 -- what a raised floor holds and a cut lacks
@@ -128,7 +128,7 @@ held_back_is_right init next book known call other has right first =
     with_bar_is_right init next book known call raised has right (λ (cut list : List ℕ) (forbids : IsBelow cut raised.floor ⊎ HasEarly known.ranks list raised.limit). elim forbids [
       | inl below ↦ elim (below_raised cut bar.floor other below) [
         | inl low ↦ right cut list call (inl low)
-        | inr lacks ↦ hopeless_from_first init next book cut list call other first lacks
+        | inr lacks ↦ infeasible_from_first init next book cut list call other first lacks
       ]
       | inr early ↦ right cut list call (inr early)
     ])
@@ -145,28 +145,28 @@ early_either ranks list a b (word, inside, early) = elim (below_either (rank_of 
   | inr low ↦ inr (word, inside, low)
 ]
 
--- Limiting a call by ranks whose words make it hopeless keeps what is known right.
+-- Limiting a call by ranks whose words make it infeasible keeps what is known right.
 pub limited_is_right : (init : List ℕ) (next : List ℕ → ℕ → List ℕ × ℕ) (book : List Page) (known : Known) (call : Call) (limit : ℕ) → HasBar known call
-    → IsForesight init next book known → ((cut list : List ℕ) → HasEarly known.ranks list limit → IsHopeless init next book cut list call)
+    → IsForesight init next book known → ((cut list : List ℕ) → HasEarly known.ranks list limit → IsInfeasible init next book cut list call)
     → IsForesight init next book (limited known call limit)
-limited_is_right init next book known call limit has right hopeless =
+limited_is_right init next book known call limit has right infeasible =
     let bar : Bar = bar_of known call in
     let higher : Bar = record bar { limit = max bar.limit limit } in
     with_bar_is_right init next book known call higher has right (λ (cut list : List ℕ) (forbids : IsBelow cut higher.floor ⊎ HasEarly known.ranks list higher.limit). elim forbids [
       | inl below ↦ right cut list call (inl below)
       | inr early ↦ elim (early_either known.ranks list bar.limit limit early) [
         | inl old ↦ right cut list call (inr old)
-        | inr new ↦ hopeless cut list new
+        | inr new ↦ infeasible cut list new
       ]
     ])
 
 -- ---- another rank
 
--- Another rank of a word keeps what is known right where each call that it forbids at a list with the word is hopeless there.
+-- Another rank of a word keeps what is known right where each call that it forbids at a list with the word is infeasible there.
 pub ranked_is_right : (init : List ℕ) (next : List ℕ → ℕ → List ℕ × ℕ) (book : List Page) (known new : Known) (word rank : ℕ) → new.bars ≡ known.bars
     → ((other : ℕ) → rank_of new.ranks other ≡ cond (other == word) (Some rank) (rank_of known.ranks other)) → IsForesight init next book known
-    → ((cut list : List ℕ) (call : Call) → Contains list word → rank < (bar_of known call).limit → IsHopeless init next book cut list call) → IsForesight init next book new
-ranked_is_right init next book known new word rank bars ranks right hopeless cut list call forbids =
+    → ((cut list : List ℕ) (call : Call) → Contains list word → rank < (bar_of known call).limit → IsInfeasible init next book cut list call) → IsForesight init next book new
+ranked_is_right init next book known new word rank bars ranks right infeasible cut list call forbids =
     let bar : bar_of new call ≡ bar_of known call = ap (λ (b : List (List Bar)). get_or (get_or b call.caller []) call.number no_bar) bars in
     elim (subst (λ (b : Bar). IsBelow cut b.floor ⊎ HasEarly new.ranks list b.limit) bar forbids) [
       | inl below ↦ right cut list call (inl below)
@@ -174,7 +174,7 @@ ranked_is_right init next book known new word rank bars ranks right hopeless cut
         | inl same ↦
             let now : rank_of new.ranks other ≡ Some rank = ranks other ∙ cond-true (other == word) (Some rank) (rank_of known.ranks other) same.0 in
             let low : rank < (bar_of known call).limit = subst (λ (o : Option ℕ). IsSomeAnd o (λ r. r < (bar_of known call).limit)) now early in
-            hopeless cut list call (subst (λ (w : ℕ). Contains list w) same.1 inside) low
+            infeasible cut list call (subst (λ (w : ℕ). Contains list w) same.1 inside) low
         | inr apart ↦
             let now : rank_of new.ranks other ≡ rank_of known.ranks other = ranks other ∙ cond-false (other == word) (Some rank) (rank_of known.ranks other) apart.0 in
             right cut list call (inr (other, inside, subst (λ (o : Option ℕ). IsSomeAnd o (λ r. r < (bar_of known call).limit)) now early))

@@ -13,7 +13,7 @@ use Rattle.book_base.specs.Book.{Page, record_of}
 use Rattle.book_base.specs.Sequential.{IsRunFrom}
 use Rattle.book_base.specs.Order.{call_at, StandsAt, step_at}
 use Rattle.book_base.specs.Foresight.{list_after_run, Reaches}
-use Rattle.book_base.specs.ForesightLaws.{NoPlacesReachTheStart, OneMorePlaceReachesOn, OneCutIsReached, PrecedingComesFirst, LeavingMayBeLeftOut, WhatStandsIsNotHopeless}
+use Rattle.book_base.specs.ForesightLaws.{NoPlacesReachTheStart, OneMorePlaceReachesOn, OneCutIsReached, PrecedingComesFirst, ReadOnlyMayBeLeftOut, WhatStandsIsNotInfeasible}
 use Rattle.book_base.proofs.ViewLemmas.{same_call}
 
 -- the list after one more step
@@ -89,8 +89,8 @@ one_cut_is_reached init next book order a b x y wide first second = (
   sym first.reached ∙ second.reached,
 )
 
-pub what_stands_is_not_hopeless : WhatStandsIsNotHopeless
-what_stands_is_not_hopeless init next book before rest place cut list legal reaches hopeless = hopeless before rest place.reply reaches legal
+pub what_stands_is_not_infeasible : WhatStandsIsNotInfeasible
+what_stands_is_not_infeasible init next book before rest place cut list legal reaches infeasible = infeasible before rest place.reply reaches legal
 
 pub preceding_comes_first : PrecedingComesFirst
 preceding_comes_first init next book a b precedes order legal q stands =
@@ -106,8 +106,8 @@ preceding_comes_first init next book a b precedes order legal q stands =
           (found.0, found.1, subst (λ (i : ℕ). StandsAt order found.0 (record { caller = i; number = a.number })) (sym own.0) found.2)
     ]
 
-pub leaving_may_be_left_out : LeavingMayBeLeftOut
-leaving_may_be_left_out next op reply list steps leaves gives =
+pub read_only_may_be_left_out : ReadOnlyMayBeLeftOut
+read_only_may_be_left_out next op reply list steps leaves gives =
     let same : (next list op).0 ≡ list = leaves list gives in (
       λ run. subst (λ (l : List ℕ). IsRunFrom next l steps) same run.1,
       λ run. (gives, subst (λ (l : List ℕ). IsRunFrom next l steps) (sym same) run),

@@ -3,7 +3,7 @@ use Rattle.std.proofs.Common.{◌≡◌, ℕ, ◌+◌, ◌<◌, ◌≤◌, ◌�
 use Rattle.std.proofs.lemmas.Bool.{cases_lt, cases_eq}
 use Rattle.std.proofs.lemmas.Option.{same_Some, slice_get_cases, slice_get_within}
 use Rattle.std.proofs.lemmas.List.{get_or-map, get_or_past, get_or_append_left, get_or_push, length-map, length-append, length-take-le, take_all}
-use Rattle.list_laws.proofs.Fronts.{slice_get-take_below, slice_get-take_within}
+use Rattle.list_laws.proofs.Prefixes.{slice_get-take_below, slice_get-take_within}
 use Rattle.list_laws.proofs.Places.{slice_get-take}
 use Rattle.book_base.specs.declared.call.Call.{Call}
 use Rattle.book_base.specs.declared.call.Record.{Record}
@@ -152,38 +152,38 @@ pub held_is_call : (book : List Page) (cut : List ℕ) (call : Call) → IsValid
 held_is_call book cut call valid h = omega (arith, h.4, below_calls book h.1.view (valid.within h.0 h.1 h.3) call.caller)
 
 -- A page is the one of a caller in the book at a cut.
-pub record IsFrontAt (book : List Page) (cut : List ℕ) (i : ℕ) (p : Page) : Type 0 where
+pub record IsPrefixAt (book : List Page) (cut : List ℕ) (i : ℕ) (p : Page) : Type 0 where
   pub held : (number : ℕ) → number < length p.operations ↔ IsHeldBySomeView book cut (record { caller = i; number = number })
   pub same : (number : ℕ) → number < length p.operations → slice_get p.operations number ≡ slice_get (page_of book i).operations number
-  pub front : p.records ≡ take (get_or cut i 0) (page_of book i).records
+  pub prefix : p.records ≡ take (get_or cut i 0) (page_of book i).records
 
-pub front_at : (book : List Page) (cut : List ℕ) (i calls : ℕ) (p : Page) → calls ≤ calls_of book i
+pub prefix_at : (book : List Page) (cut : List ℕ) (i calls : ℕ) (p : Page) → calls ≤ calls_of book i
     → ((number : ℕ) → number < calls ↔ IsHeldBySomeView book cut (record { caller = i; number = number }))
-    → p ≡ record { operations = take calls (page_of book i).operations; records = take (get_or cut i 0) (page_of book i).records } → IsFrontAt book cut i p
-front_at book cut i calls p few held is =
+    → p ≡ record { operations = take calls (page_of book i).operations; records = take (get_or cut i 0) (page_of book i).records } → IsPrefixAt book cut i p
+prefix_at book cut i calls p few held is =
     let long : length p.operations ≡ calls = ap (λ (q : Page). length q.operations) is ∙ length-take-le calls (page_of book i).operations few in
     record {
       held = λ number. subst (λ (n : ℕ). number < n ↔ IsHeldBySomeView book cut (record { caller = i; number = number })) (sym long) (held number);
       same = λ number lt. ap (λ (q : Page). slice_get q.operations number) is ∙ slice_get-take_within calls (page_of book i).operations number (omega (arith, lt, long));
-      front = ap (λ (q : Page). q.records) is;
+      prefix = ap (λ (q : Page). q.records) is;
     }
 
 -- The pages of the first callers are those of the book at a cut.
 pub record IsPartTo (book : List Page) (cut : List ℕ) (part : List Page) (n : ℕ) : Type 0 where
   pub rows : length part ≡ n
-  pub fronts : (i : ℕ) → i < n → IsFrontAt book cut i (page_of part i)
+  pub prefixes : (i : ℕ) → i < n → IsPrefixAt book cut i (page_of part i)
 
 pub part_to_none : (book : List Page) (cut : List ℕ) → IsPartTo book cut [] 0
-part_to_none book cut = record { rows = refl; fronts = λ i lt. absurd (omega arith) }
+part_to_none book cut = record { rows = refl; prefixes = λ i lt. absurd (omega arith) }
 
-pub part_to_more : (book : List Page) (cut : List ℕ) (part : List Page) (n : ℕ) (p : Page) → IsPartTo book cut part n → IsFrontAt book cut n p → IsPartTo book cut (part ++ p ∷ []) (n + 1)
+pub part_to_more : (book : List Page) (cut : List ℕ) (part : List Page) (n : ℕ) (p : Page) → IsPartTo book cut part n → IsPrefixAt book cut n p → IsPartTo book cut (part ++ p ∷ []) (n + 1)
 part_to_more book cut part n p so_far next = record {
   rows = omega (arith, so_far.rows, length-append part (p ∷ []));
-  fronts = λ i lt. elim (cases_lt i n) [
-    | inl below ↦ subst (IsFrontAt book cut i) (sym (get_or_append_left part (p ∷ []) empty i (omega (arith, so_far.rows)))) (so_far.fronts i below)
+  prefixes = λ i lt. elim (cases_lt i n) [
+    | inl below ↦ subst (IsPrefixAt book cut i) (sym (get_or_append_left part (p ∷ []) empty i (omega (arith, so_far.rows)))) (so_far.prefixes i below)
     | inr last ↦
         let same : i ≡ n = omega arith in
-        subst (IsFrontAt book cut i) (sym (get_or_push part p empty i (so_far.rows ∙ sym same))) (subst (λ (k : ℕ). IsFrontAt book cut k p) (sym same) next)
+        subst (IsPrefixAt book cut i) (sym (get_or_push part p empty i (so_far.rows ∙ sym same))) (subst (λ (k : ℕ). IsPrefixAt book cut k p) (sym same) next)
   ];
 }
 
@@ -191,18 +191,18 @@ pub part_to_all : (book : List Page) (cut : List ℕ) (part : List Page) (n : �
 part_to_all book cut part n valid all h = record {
   callers = h.rows ∙ all;
   records = λ (i : ℕ). elim (cases_lt i n) [
-    | inl inside ↦ (h.fronts i inside).front
+    | inl inside ↦ (h.prefixes i inside).prefix
     | inr past ↦
         ap (λ (p : Page). p.records) (page_past part i (omega (arith, h.rows)))
         ∙ (sym (take_all (get_or cut i 0) [] (omega arith)) ∙ ap (λ (p : Page). take (get_or cut i 0) p.records) (sym (page_past book i (omega (arith, all)))))
   ];
   calls = λ (call : Call). (
-    λ (there : IsCall part call). ((h.fronts call.caller (omega (arith, caller_from_call part call.caller call.number there, h.rows))).held call.number).0 there,
+    λ (there : IsCall part call). ((h.prefixes call.caller (omega (arith, caller_from_call part call.caller call.number there, h.rows))).held call.number).0 there,
     λ (held : IsHeldBySomeView book cut call).
         let inside : call.caller < n = omega (arith, caller_from_call book call.caller call.number (held_is_call book cut call valid held), all) in
-        ((h.fronts call.caller inside).held call.number).1 held,
+        ((h.prefixes call.caller inside).held call.number).1 held,
   );
-  operations = λ (call : Call) (there : IsCall part call). (h.fronts call.caller (omega (arith, caller_from_call part call.caller call.number there, h.rows))).same call.number there;
+  operations = λ (call : Call) (there : IsCall part call). (h.prefixes call.caller (omega (arith, caller_from_call part call.caller call.number there, h.rows))).same call.number there;
 }
 
 -- ---- a caller's views, by bisection

@@ -79,11 +79,11 @@ with_call book i op = slice_set book i (record (page_of book i) { operations = (
 abbrev pub with_answer : List Page → ℕ → Record → List Page
 with_answer book i r = slice_set book i (record (page_of book i) { records = (page_of book i).records ++ r ∷ [] })
 
--- the page of a caller that made so many calls: none is answered, and each has the operation word 0
+-- the page of a caller that made this many calls: none is answered, and each has the operation word 0
 abbrev pub unanswered_page : ℕ → Page
 unanswered_page calls = record { operations = replicate calls 0; records = [] }
 
--- the book in which each caller made so many calls, none answered, each with the operation word 0
+-- the book in which each caller made this many calls, none answered, each with the operation word 0
 abbrev pub unanswered_book : List ℕ → List Page
 unanswered_book calls = map unanswered_page calls
 

@@ -25,8 +25,8 @@ pub record Reaches (init : List ℕ) (next : List ℕ → ℕ → List ℕ × �
 
 -- A call is infeasible next, after a cut and at a list: no legal order that reaches them goes on
 -- with it.
-abbrev pub IsHopeless : List ℕ → (List ℕ → ℕ → List ℕ × ℕ) → List Page → List ℕ → List ℕ → Call → Type 0
-IsHopeless init next book cut list call = (before rest : List Place) (reply : ℕ) → Reaches init next book before cut list
+abbrev pub IsInfeasible : List ℕ → (List ℕ → ℕ → List ℕ × ℕ) → List Page → List ℕ → List ℕ → Call → Type 0
+IsInfeasible init next book cut list call = (before rest : List Place) (reply : ℕ) → Reaches init next book before cut list
     → IsLegalOrder init next book (before ++ record { caller = call.caller; number = call.number; reply = reply } ∷ rest) → ⊥
 
 -- In every legal order where call b stands, call a stands before it.
@@ -77,7 +77,7 @@ Forbids known cut list call = IsBelow cut (bar_of known call).floor ⊎ HasEarly
 
 -- What is known of a book is right for an object: each call that it forbids is infeasible there.
 abbrev pub IsForesight : List ℕ → (List ℕ → ℕ → List ℕ × ℕ) → List Page → Known → Type 0
-IsForesight init next book known = (cut list : List ℕ) (call : Call) → Forbids known cut list call → IsHopeless init next book cut list call
+IsForesight init next book known = (cut list : List ℕ) (call : Call) → Forbids known cut list call → IsInfeasible init next book cut list call
 
 -- nothing is known
 abbrev pub nothing_known : Known

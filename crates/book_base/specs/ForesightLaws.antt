@@ -5,7 +5,7 @@ use Rattle.book_base.specs.declared.call.Place.{Place}
 use Rattle.book_base.specs.Book.{Page, Precedes}
 use Rattle.book_base.specs.Sequential.{IsRunFrom}
 use Rattle.book_base.specs.Order.{call_at, step_at, IsLegalOrder}
-use Rattle.book_base.specs.Foresight.{Reaches, IsHopeless, MustComeFirst, Leaves}
+use Rattle.book_base.specs.Foresight.{Reaches, IsInfeasible, MustComeFirst, Leaves}
 
 -- The order without places reaches the cut that holds no call, and the object's first list.
 abbrev pub NoPlacesReachTheStart : Type 0
@@ -23,15 +23,15 @@ OneCutIsReached = (init : List ℕ) (next : List ℕ → ℕ → List ℕ × ℕ
     → length cut ≡ length other → Reaches init next book order cut list → Reaches init next book order other last → (cut ≡ other) × (list ≡ last)
 
 -- What stands in a legal order isn't infeasible where it stands.
-abbrev pub WhatStandsIsNotHopeless : Type 0
-WhatStandsIsNotHopeless = (init : List ℕ) (next : List ℕ → ℕ → List ℕ × ℕ) (book : List Page) (before rest : List Place) (place : Place) (cut list : List ℕ)
-    → IsLegalOrder init next book (before ++ place ∷ rest) → Reaches init next book before cut list → IsHopeless init next book cut list (call_at place) → ⊥
+abbrev pub WhatStandsIsNotInfeasible : Type 0
+WhatStandsIsNotInfeasible = (init : List ℕ) (next : List ℕ → ℕ → List ℕ × ℕ) (book : List Page) (before rest : List Place) (place : Place) (cut list : List ℕ)
+    → IsLegalOrder init next book (before ++ place ∷ rest) → Reaches init next book before cut list → IsInfeasible init next book cut list (call_at place) → ⊥
 
 -- A call that precedes another one must come first.
 abbrev pub PrecedingComesFirst : Type 0
 PrecedingComesFirst = (init : List ℕ) (next : List ℕ → ℕ → List ℕ × ℕ) (book : List Page) (a b : Call) → Precedes book a b → MustComeFirst init next book a b
 
--- In a run, an operation that leaves every list with its reply may stand or be left out wherever the object gives this reply.
-abbrev pub LeavingMayBeLeftOut : Type 0
-LeavingMayBeLeftOut = (next : List ℕ → ℕ → List ℕ × ℕ) (op reply : ℕ) (list : List ℕ) (steps : List (ℕ × ℕ)) → Leaves next op reply → (next list op).1 ≡ reply
+-- In a run, a read-only operation with its reply may stand or be left out wherever the object gives this reply.
+abbrev pub ReadOnlyMayBeLeftOut : Type 0
+ReadOnlyMayBeLeftOut = (next : List ℕ → ℕ → List ℕ × ℕ) (op reply : ℕ) (list : List ℕ) (steps : List (ℕ × ℕ)) → Leaves next op reply → (next list op).1 ≡ reply
     → IsRunFrom next list ((op, reply) ∷ steps) ↔ IsRunFrom next list steps

@@ -47,7 +47,7 @@ impl Rows {
     }
 
     // The first so many calls and records.
-    fn front(&self, alloc: Global, calls: u64, answers: u64) -> Result<Rows, NoMemory>
+    fn prefix(&self, alloc: Global, calls: u64, answers: u64) -> Result<Rows, NoMemory>
         requires calls { calls ≤ length self.now.operations.items }
         requires answers { answers ≤ length self.now.records.items }
         ensures { IfOk result (λ rows. page rows ≡ record { operations = take calls self.now.operations.items; records = take answers self.now.records.items }) }
@@ -91,7 +91,7 @@ impl Book {
         Ok(Book { rows })
     }
 
-    /// The book in which each caller made so many calls, none answered. Each call has the operation
+    /// The book in which each caller made this many calls, none answered. Each call has the operation
     /// word 0 until [`Book::set_op`] puts in another, and the room for all answers is taken with the calls.
     pub fn with_calls(alloc: Global, calls: &Cut) -> Result<Book, NoMemory>
         // Each caller has at most `MAX_CALLS` calls.
@@ -319,7 +319,7 @@ impl Book {
         let mut rows = Vec::new(alloc);
         for caller in 0..self.callers() {
             let row = &self.rows[caller as usize];
-            rows.push(row.front(alloc, self.held_calls(cut, caller), cut.get(caller))?)?;
+            rows.push(row.prefix(alloc, self.held_calls(cut, caller), cut.get(caller))?)?;
         }
         Ok(Book { rows })
     }
@@ -368,7 +368,7 @@ impl Book {
     {
         let mut rows = Vec::new(alloc);
         for row in &self.rows {
-            rows.push(row.front(alloc, row.operations.len() as u64, row.records.len() as u64)?)?;
+            rows.push(row.prefix(alloc, row.operations.len() as u64, row.records.len() as u64)?)?;
         }
         Ok(Book { rows })
     }

@@ -2,7 +2,7 @@ ghost use Rattle.std.specs.Prelude.{◌≡◌, ℕ, ◌<◌, ◌↔◌, Bool, Li
 ghost use Rattle.book_base.specs.declared.call.Call.{Call};
 ghost use Rattle.book_base.specs.declared.TheConstants.{MAX_CALLERS, MAX_CALLS};
 ghost use Rattle.book_base.specs.Book.{Page, IsCall};
-ghost use Rattle.book_base.specs.Foresight.{nothing_known, no_bar, blank_bars, bar_of, rank_of, HasBar, IsBelow, HasEarly, Forbids, IsForesight, IsHopeless, MustComeFirst, held_back, limited, ranked};
+ghost use Rattle.book_base.specs.Foresight.{nothing_known, no_bar, blank_bars, bar_of, rank_of, HasBar, IsBelow, HasEarly, Forbids, IsForesight, IsInfeasible, MustComeFirst, held_back, limited, ranked};
 
 use crate::book::Book;
 use crate::call::Call;
@@ -118,14 +118,14 @@ impl Foresight {
         // What is known stays right where the call is infeasible at each list that has a word of a
         // rank below the limit.
         ensures right { (init : List ℕ) (next : List ℕ → ℕ → List ℕ × ℕ) (book : List Page) → IsForesight init next book self.old
-            → ((cut list : List ℕ) → HasEarly self.old.ranks list limit → IsHopeless init next book cut list call)
+            → ((cut list : List ℕ) → HasEarly self.old.ranks list limit → IsInfeasible init next book cut list call)
             → IsForesight init next book self.new }
     {
         let bar = &mut self.bars[call.caller as usize][call.number as usize];
         bar.limit = bar.limit.max(limit);
     }
 
-    /// Gives a word a rank, in place of the one that it has. After want of memory all is as it was.
+    /// Gives a word a rank, instead of the one that it has. After want of memory all is as it was.
     pub fn set_rank(&mut self, word: u64, rank: u64) -> Result<(), NoMemory>
         // After an answer Ok the word has this rank, and all else is as before.
         ensures ranked { OnOk result (self.new ≡ ranked self.old word rank) }
@@ -135,7 +135,7 @@ impl Foresight {
         // After an answer Ok what is known stays right where each call whose limit is above the
         // rank is infeasible at each list with the word.
         ensures right { OnOk result ((init : List ℕ) (next : List ℕ → ℕ → List ℕ × ℕ) (book : List Page) → IsForesight init next book self.old
-            → ((cut list : List ℕ) (call : Call) → Contains list word → rank < (bar_of self.old call).limit → IsHopeless init next book cut list call)
+            → ((cut list : List ℕ) (call : Call) → Contains list word → rank < (bar_of self.old call).limit → IsInfeasible init next book cut list call)
             → IsForesight init next book self.new) }
         // After want of memory all is as it was.
         ensures err { OnErr result (self.new ≡ self.old) }

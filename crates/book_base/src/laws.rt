@@ -6,7 +6,7 @@ ghost use Rattle.book_base.specs.Book.{Page, IsValid, AnswersAreRecorded, with_a
 ghost use Rattle.book_base.specs.OperationWord.{joined, WordsAreJoinedAndParted};
 ghost use Rattle.book_base.specs.Refusal.{MayAnswer};
 ghost use Rattle.book_base.specs.Rising.{ViewsRise, PrecedesByItsView};
-ghost use Rattle.book_base.specs.ForesightLaws.{NoPlacesReachTheStart, OneMorePlaceReachesOn, OneCutIsReached, WhatStandsIsNotHopeless, PrecedingComesFirst, LeavingMayBeLeftOut};
+ghost use Rattle.book_base.specs.ForesightLaws.{NoPlacesReachTheStart, OneMorePlaceReachesOn, OneCutIsReached, WhatStandsIsNotInfeasible, PrecedingComesFirst, ReadOnlyMayBeLeftOut};
 
 /// A book takes exactly those answers that leave it valid.
 pub fn valid_answers_are_taken()
@@ -51,15 +51,15 @@ pub fn orders_reach_place_by_place()
 
 /// An infeasible call stands in no legal order where it is infeasible, and a call that precedes
 /// another one must come first.
-pub fn hopeless_and_first_calls()
+pub fn infeasible_and_first_calls()
     // A call isn't infeasible where it stands in a legal order.
-    ensures hopeless { WhatStandsIsNotHopeless }
+    ensures infeasible { WhatStandsIsNotInfeasible }
     // A call that precedes another one stands before it in each legal order where the other one
     // stands.
     ensures first { PrecedingComesFirst }
 {}
 
-/// An operation that leaves every list may stand in a run or be left out.
-pub fn leaving_operations_may_be_left_out()
-    ensures { LeavingMayBeLeftOut }
+/// A read-only operation may stand in a run or be left out.
+pub fn read_only_operations_may_be_left_out()
+    ensures { ReadOnlyMayBeLeftOut }
 {}

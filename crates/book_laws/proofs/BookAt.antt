@@ -4,7 +4,7 @@ use Rattle.std.proofs.lemmas.Bool.{cases_lt}
 use Rattle.std.proofs.lemmas.List.{take_all, take-take, length-map, get_or-map, get_or_past, ext_get_or, length-take-le}
 use Rattle.std.proofs.lemmas.List.FromFn.{length-map-range_with_len, get_or-map-range_with_len}
 use Rattle.std.proofs.lemmas.Option.{none-some, slice_get_past}
-use Rattle.list_laws.proofs.Fronts.{slice_get-take_within, slice_get-take_below, same_from_places}
+use Rattle.list_laws.proofs.Prefixes.{slice_get-take_within, slice_get-take_below, same_from_places}
 use Rattle.list_laws.proofs.Places.{slice_get-take}
 use Rattle.book_base.specs.declared.call.Call.{Call}
 use Rattle.book_base.specs.declared.call.Record.{Record}

@@ -6,10 +6,10 @@ use Rattle.book_base.specs.Book.{Page, IsCall, answered}
 use Rattle.book_base.specs.BookAt.{book_at}
 use Rattle.book_base.specs.Order.{IsLegalOrder, HasLegalOrder}
 use Rattle.book_laws.specs.BooksAtCuts.{IsTheBookAt, IsTheOnlyOne, StaysValid, IsTheBookAtTheSmaller, RecordCountsAreTheCut, KeepsEachRecord, IsHeldByAView, KeepsEachHeldCall, KeepsEachOperation, HasOneWhereTheBookHas}
-use Rattle.book_laws.specs.Finality.{SomeFrontIsLegal, SmallerHasOne, LargerHasNone}
+use Rattle.book_laws.specs.Finality.{SomePrefixIsLegal, SmallerHasOne, LargerHasNone}
 use Rattle.book_laws.proofs.BookAt.{answered_at, books_at_are_one, book_at_of_book_at, held_is_call, record_of-all}
 use Rattle.book_laws.proofs.BookAt as BookAt
-use Rattle.book_laws.proofs.Final.{some_front_is_legal, whole_order_is_legal}
+use Rattle.book_laws.proofs.Final.{some_prefix_is_legal, whole_order_is_legal}
 
 pub is_the_book_at : IsTheBookAt
 is_the_book_at book cut valid = BookAt.book_at_is_the_book_at book cut valid
@@ -53,19 +53,19 @@ has_one_where_the_book_has init next book valid =
     let at = is_the_book_at book (answered book) valid in (
       λ (h : HasLegalOrder init next part). (h.0, whole_order_is_legal init next book (answered book) part h.0 valid at (record_of-all book part at) h.1),
       λ (h : HasLegalOrder init next book).
-          let front = some_front_is_legal init next book (answered book) part h.0 at h.1 in
-          (take front.0 h.0, front.1),
+          let prefix = some_prefix_is_legal init next book (answered book) part h.0 at h.1 in
+          (take prefix.0 h.0, prefix.1),
     )
 
-pub some_front_of_larger_is_legal : SomeFrontIsLegal
-some_front_of_larger_is_legal init next book smaller larger order valid within legal =
+pub some_prefix_of_larger_is_legal : SomePrefixIsLegal
+some_prefix_of_larger_is_legal init next book smaller larger order valid within legal =
     let part = book_at larger book in
-    let found = some_front_is_legal init next part smaller (book_at smaller part) order (is_the_book_at part smaller (stays_valid book larger valid)) legal in
+    let found = some_prefix_is_legal init next part smaller (book_at smaller part) order (is_the_book_at part smaller (stays_valid book larger valid)) legal in
     (found.0, subst (λ (b : List Page). IsLegalOrder init next b (take found.0 order)) (is_the_book_at_the_smaller book smaller larger valid within) found.1)
 
 pub smaller_has_one : SmallerHasOne
 smaller_has_one init next book smaller larger valid within h =
-    let found = some_front_of_larger_is_legal init next book smaller larger h.0 valid within h.1 in
+    let found = some_prefix_of_larger_is_legal init next book smaller larger h.0 valid within h.1 in
     (take found.0 h.0, found.1)
 
 pub larger_has_none : LargerHasNone

@@ -1,8 +1,8 @@
--- An error is final: a legal order, ended behind the last call that is answered at a cut, is one of the book at that cut.
+-- An error is final: a legal order, ended after the last call that is answered at a cut, is one of the book at that cut.
 use Rattle.std.proofs.Common.{◌≡◌, ℕ, zero, suc, ◌<◌, ◌≤◌, ◌∙◌, Bool, ltb, List, [], ◌∷◌, map, take, get_or, unwrap_or, refl, sym, ap, subst, inl, inr, arith}
 use Rattle.std.proofs.lemmas.Bool.{cases_lt, ltb-true, lt-ltb}
 use Rattle.std.proofs.lemmas.Option.{slice_get_within}
-use Rattle.list_laws.proofs.Fronts.{slice_get-take_within, slice_get-take_below, EndsBehindLast, ends_behind_last}
+use Rattle.list_laws.proofs.Prefixes.{slice_get-take_within, slice_get-take_below, EndsAfterLast, ends_after_last}
 use Rattle.list_laws.proofs.Places.{slice_get-take}
 use Rattle.list_laws.proofs.Options.{some_from_is_some_and}
 use Rattle.std.specs.Option.{IsSomeAnd}
@@ -17,21 +17,21 @@ use Rattle.book_base.specs.Order.{call_at, StandsAt, step_at, IsLegalOrder}
 use Rattle.book_laws.proofs.LegalOrder.{answer_stands}
 use Rattle.book_laws.proofs.BookAt.{record_from_part, held_is_call}
 
--- a front of a run is a run
+-- a prefix of a run is a run
 pub IsRunFrom-take : (next : List ℕ → ℕ → List ℕ × ℕ) (list : List ℕ) (n : ℕ) (steps : List (ℕ × ℕ)) → IsRunFrom next list steps → IsRunFrom next list (take n steps)
 IsRunFrom-take next list zero steps run = tt
 IsRunFrom-take next list (suc n) [] run = tt
 IsRunFrom-take next list (suc n) (step ∷ steps) run = (run.0, IsRunFrom-take next (next list step.0).0 n steps run.1)
 
--- what stands in a front of an order stands in the order, below the front's length, and the other way round
+-- what stands in a prefix of an order stands in the order, below the prefix's length, and the other way round
 stands_in_whole : (order : List Place) (n k : ℕ) (call : Call) → StandsAt (take n order) k call → StandsAt order k call
 stands_in_whole order n k call s = (s.0, slice_get-take n order k s.0 s.1, s.2)
 
 stands_below : (order : List Place) (n k : ℕ) (call : Call) → StandsAt (take n order) k call → k < n
 stands_below order n k call s = slice_get-take_below n order k s.0 s.1
 
-stands_in_front : (order : List Place) (n k : ℕ) (call : Call) → k < n → StandsAt order k call → StandsAt (take n order) k call
-stands_in_front order n k call h s = (s.0, slice_get-take_within n order k h ∙ s.1, s.2)
+stands_in_prefix : (order : List Place) (n k : ℕ) (call : Call) → k < n → StandsAt order k call → StandsAt (take n order) k call
+stands_in_prefix order n k call h s = (s.0, slice_get-take_within n order k h ∙ s.1, s.2)
 
 -- the operations of calls of a part are the book's
 steps_in_part : (book part : List Page) (order : List Place)
@@ -76,9 +76,9 @@ call_of_part init next book cut part order at legal j k a b le stands known ther
           absurd (omega arith)
     ]
 
--- A legal order that ends behind the last call that is answered in the book at a cut is a legal order of that book.
+-- A legal order that ends after the last call that is answered in the book at a cut is a legal order of that book.
 pub ended_order_is_legal : (init : List ℕ) (next : List ℕ → ℕ → List ℕ × ℕ) (book : List Page) (cut : List ℕ) (part : List Page) (order : List Place) (n : ℕ)
-    → IsBookAt book cut part → IsLegalOrder init next book order → EndsBehindLast (is_answered_in part) order n → IsLegalOrder init next part (take n order)
+    → IsBookAt book cut part → IsLegalOrder init next book order → EndsAfterLast (is_answered_in part) order n → IsLegalOrder init next part (take n order)
 ended_order_is_legal init next book cut part order n at legal ends =
     let is_call : (k : ℕ) (call : Call) → StandsAt (take n order) k call → IsCall part call
     = λ (k : ℕ) (call : Call) (s : StandsAt (take n order) k call).
@@ -95,7 +95,7 @@ ended_order_is_legal init next book cut part order n at legal ends =
       earlier = λ k call s number less.
           let it : Call = record { caller = call.caller; number = number } in
           let found = legal.earlier k call (stands_in_whole order n k call s) number less in
-          (found.0, found.1, stands_in_front order n found.0 it (omega (arith, found.1, stands_below order n k call s)) found.2);
+          (found.0, found.1, stands_in_prefix order n found.0 it (omega (arith, found.1, stands_below order n k call s)) found.2);
       answered = λ call r known.
           let it : Place = record { caller = call.caller; number = call.number; reply = r.reply } in
           let found = legal.answered call r (record_from_part book cut part at call r known).1 in
@@ -106,11 +106,11 @@ ended_order_is_legal init next book cut part order n at legal ends =
           legal.precedence j k a b (stands_in_whole order n j a s) (stands_in_whole order n k b t) (precedes_from_part book cut part at a b p);
     }
 
--- Some front of a legal order is a legal order of the book at a cut.
-pub some_front_is_legal : (init : List ℕ) (next : List ℕ → ℕ → List ℕ × ℕ) (book : List Page) (cut : List ℕ) (part : List Page) (order : List Place)
+-- Some prefix of a legal order is a legal order of the book at a cut.
+pub some_prefix_is_legal : (init : List ℕ) (next : List ℕ → ℕ → List ℕ × ℕ) (book : List Page) (cut : List ℕ) (part : List Page) (order : List Place)
     → IsBookAt book cut part → IsLegalOrder init next book order → (n : ℕ) × IsLegalOrder init next part (take n order)
-some_front_is_legal init next book cut part order at legal =
-    let found = ends_behind_last (is_answered_in part) order in
+some_prefix_is_legal init next book cut part order at legal =
+    let found = ends_after_last (is_answered_in part) order in
     (found.0, ended_order_is_legal init next book cut part order found.0 at legal found.1)
 
 -- A legal order of the book at a cut that holds all records is one of the book.

@@ -1,4 +1,4 @@
--- The greatest counts of cuts that are comparable by twos are one of them.
+-- The greatest counts of cuts that are pairwise comparable are one of them.
 use Rattle.std.proofs.Common.{◌≡◌, ℕ, zero, suc, ◌<◌, ◌∙◌, List, [], ◌∷◌, get_or, Some, refl, sym, ap, inl, inr, slice_get, arith}
 use Rattle.std.proofs.lemmas.Bool.{cases_lt}
 use Rattle.std.proofs.lemmas.List.{get_or_past}

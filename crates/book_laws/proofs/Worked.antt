@@ -136,7 +136,7 @@ no_second (suc k) e = none-some (stand 0 0 0) e
 pub one_is_too_short : IsLegalOrder [] line_next overtaken_early (take 1 overtaking) → ⊥
 one_is_too_short h = no_second ((h.answered (record { caller = 0; number = 0 }) (answer 0 (1 ∷ 1 ∷ [])) refl).0) (h.answered (record { caller = 0; number = 0 }) (answer 0 (1 ∷ 1 ∷ [])) refl).1
 
--- It ends behind the last call that is answered at the early cut.
+-- It ends after the last call that is answered at the early cut.
 early_ends : (k : ℕ) (place : Place) → slice_get overtaking k ≡ Some place → ltb place.number (answers_of overtaken_early place.caller) ≡ true → k < 2
 early_ends zero place e p = omega arith
 early_ends (suc zero) place e p = omega arith

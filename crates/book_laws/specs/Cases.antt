@@ -32,7 +32,7 @@ overtaken_seen = caller_page (5 ∷ 0 ∷ []) (answer 0 (1 ∷ 1 ∷ []) ∷ ans
 abbrev pub overtaken_early : List Page
 overtaken_early = caller_page (5 ∷ []) (answer 0 (1 ∷ 1 ∷ []) ∷ []) ∷ caller_page (6 ∷ []) [] ∷ []
 
--- One order of the three answered calls. At the early cut it has to end behind its second place: the third call isn't there.
+-- One order of the three answered calls. At the early cut it has to end after its second place: the third call isn't there.
 abbrev pub overtaking : List Place
 overtaking = stand 1 0 0 ∷ stand 0 0 0 ∷ stand 0 1 6 ∷ []
 

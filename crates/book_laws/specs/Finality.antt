@@ -6,9 +6,9 @@ use Rattle.book_base.specs.Book.{Page, IsValid}
 use Rattle.book_base.specs.BookAt.{book_at}
 use Rattle.book_base.specs.Order.{IsLegalOrder, HasLegalOrder}
 
--- Some front of each legal order of the book at a cut is a legal order of the book at a smaller cut.
-abbrev pub SomeFrontIsLegal : Type 0
-SomeFrontIsLegal = (init : List ℕ) (next : List ℕ → ℕ → List ℕ × ℕ) (book : List Page) (smaller larger : List ℕ) (order : List Place)
+-- Some prefix of each legal order of the book at a cut is a legal order of the book at a smaller cut.
+abbrev pub SomePrefixIsLegal : Type 0
+SomePrefixIsLegal = (init : List ℕ) (next : List ℕ → ℕ → List ℕ × ℕ) (book : List Page) (smaller larger : List ℕ) (order : List Place)
     → IsValid book → IsWithin smaller larger → IsLegalOrder init next (book_at larger book) order
     → (n : ℕ) × IsLegalOrder init next (book_at smaller book) (take n order)
 

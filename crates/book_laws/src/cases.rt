@@ -29,7 +29,7 @@ pub fn an_order_ends_early()
     // The whole order isn't legal for the book at the earlier cut.
     ensures too_long { ¬ IsLegalOrder [] line_next overtaken_early overtaking }
     // The first two places of the order are legal for the book at the earlier cut.
-    ensures front { IsLegalOrder [] line_next overtaken_early (take 2 overtaking) }
+    ensures prefix { IsLegalOrder [] line_next overtaken_early (take 2 overtaking) }
     // The first place of the order alone isn't legal for the book at the earlier cut.
     ensures too_short { ¬ IsLegalOrder [] line_next overtaken_early (take 1 overtaking) }
 {}

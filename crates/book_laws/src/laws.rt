@@ -2,7 +2,7 @@
 //! nothing in it.
 
 ghost use Rattle.book_laws.specs.BooksAtCuts.{IsTheBookAt, IsTheOnlyOne, StaysValid, IsTheBookAtTheSmaller, RecordCountsAreTheCut, KeepsEachRecord, KeepsEachHeldCall, KeepsEachOperation, HasOneWhereTheBookHas};
-ghost use Rattle.book_laws.specs.Finality.{SomeFrontIsLegal, SmallerHasOne, LargerHasNone};
+ghost use Rattle.book_laws.specs.Finality.{SomePrefixIsLegal, SmallerHasOne, LargerHasNone};
 ghost use Rattle.book_laws.specs.Greatest.{GreatestIsOne, GreatestContainsEach};
 
 /// The computed book at a cut of a valid book is what the relation says, and nothing else is; it is
@@ -42,19 +42,19 @@ pub fn calls_without_a_view_are_free()
 {}
 
 /// An error is final: where the book at a cut has a legal order, the book at each smaller cut has one,
-/// and a front of that order is one. So where the book at a cut has none, the book at each larger cut has
+/// and a prefix of that order is one. So where the book at a cut has none, the book at each larger cut has
 /// none (Castañeda and Rodríguez 2023).
 pub fn error_is_final()
     // Where the book at a cut has a legal order, a prefix of that order is legal for the book at
     // each smaller cut.
-    ensures front { SomeFrontIsLegal }
+    ensures prefix { SomePrefixIsLegal }
     // Where the book at a cut has a legal order, the book at each smaller cut has one.
     ensures smaller { SmallerHasOne }
     // Where the book at a cut has no legal order, the book at each larger cut has none.
     ensures larger { LargerHasNone }
 {}
 
-/// Of cuts that are comparable by twos, and not none, the greatest counts are one, and it contains each
+/// Of cuts that are pairwise comparable, and not none, the greatest counts are one, and it contains each
 /// other.
 #[tactic(auto, using(crate::proofs::GreatestCuts::greatest_is_one, crate::proofs::GreatestCuts::greatest_contains_each))]
 pub fn greatest_of_comparable()

@@ -1,4 +1,4 @@
--- What can be drawn of a book, and the elements that are drawn one behind the other.
+-- What can be drawn of a book, and the elements that are drawn one after the other.
 use Rattle.std.proofs.Common.{◌≡◌, ℕ, ◌<◌, ◌∙◌, List, Vec, [], ◌∷◌, ◌++◌, length, get_or, take, Some, refl, sym, ap, subst, ◌+◌, inl, inr, slice_get, append_assoc, option_map, arith}
 use Rattle.std.proofs.lemmas.Bool.{cases_lt}
 use Rattle.std.proofs.lemmas.Option.{slice_get-map, slice_get-get_or, slice_get_read, get_or_from_slice_get}

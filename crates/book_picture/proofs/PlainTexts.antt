@@ -84,32 +84,32 @@ plain_kind kinds.Map = refl
 pub plain_line : (class : List ℕ) (x y : ℕ) (text : List ℕ) → is_plain class ≡ true → x < 2 ^ 64 → y < 2 ^ 64 → is_plain (line_text class x y text) ≡ true
 plain_line class x y text word across down =
     let inner : List ℕ = escaped text ++ codes "</text>\n" in
-    let behind_y : List ℕ = codes "\">" ++ inner in
-    let from_y : List ℕ = codes "\" y=\"" ++ (decimal y ++ behind_y) in
+    let after_y : List ℕ = codes "\">" ++ inner in
+    let from_y : List ℕ = codes "\" y=\"" ++ (decimal y ++ after_y) in
     let from_x : List ℕ = codes "\" x=\"" ++ (decimal x ++ from_y) in
     plain-append (codes "<text class=\"") (class ++ from_x) refl
     (plain-append class from_x word
     (plain-append (codes "\" x=\"") (decimal x ++ from_y) refl
     (plain-append (decimal x) from_y (plain_decimal x across)
-    (plain-append (codes "\" y=\"") (decimal y ++ behind_y) refl
-    (plain-append (decimal y) behind_y (plain_decimal y down)
+    (plain-append (codes "\" y=\"") (decimal y ++ after_y) refl
+    (plain-append (decimal y) after_y (plain_decimal y down)
     (plain-append (codes "\">") inner refl
     (plain-append (escaped text) (codes "</text>\n") (plain_escaped text) refl)))))))
 
-no_open : (front rest : List ℕ) → is_plain (front ++ 60 ∷ 103 ∷ rest) ≡ true → ⊥
+no_open : (prefix rest : List ℕ) → is_plain (prefix ++ 60 ∷ 103 ∷ rest) ≡ true → ⊥
 no_open [] [] e = cc
 no_open [] (y ∷ rest) e = cc
-no_open (x ∷ front) rest e = no_open front rest (and_parts (not (x == 60) || is_of_no_group (front ++ 60 ∷ 103 ∷ rest)) (is_plain (front ++ 60 ∷ 103 ∷ rest)) e).1
+no_open (x ∷ prefix) rest e = no_open prefix rest (and_parts (not (x == 60) || is_of_no_group (prefix ++ 60 ∷ 103 ∷ rest)) (is_plain (prefix ++ 60 ∷ 103 ∷ rest)) e).1
 
-no_close : (front rest : List ℕ) → is_plain (front ++ 60 ∷ 47 ∷ 103 ∷ rest) ≡ true → ⊥
+no_close : (prefix rest : List ℕ) → is_plain (prefix ++ 60 ∷ 47 ∷ 103 ∷ rest) ≡ true → ⊥
 no_close [] rest e = cc
-no_close (x ∷ front) rest e = no_close front rest (and_parts (not (x == 60) || is_of_no_group (front ++ 60 ∷ 47 ∷ 103 ∷ rest)) (is_plain (front ++ 60 ∷ 47 ∷ 103 ∷ rest)) e).1
+no_close (x ∷ prefix) rest e = no_close prefix rest (and_parts (not (x == 60) || is_of_no_group (prefix ++ 60 ∷ 47 ∷ 103 ∷ rest)) (is_plain (prefix ++ 60 ∷ 47 ∷ 103 ∷ rest)) e).1
 
 -- such a text has no group
 pub has_no_group : (text : List ℕ) → is_plain text ≡ true → HasNoGroup text
 has_no_group text plain = record {
-  opened = λ front rest e. no_open front rest (ap is_plain (sym e) ∙ plain);
-  closed = λ front rest e. no_close front rest (ap is_plain (sym e) ∙ plain);
+  opened = λ prefix rest e. no_open prefix rest (ap is_plain (sym e) ∙ plain);
+  closed = λ prefix rest e. no_close prefix rest (ap is_plain (sym e) ∙ plain);
 }
 
 -- ---- texts that grow
@@ -127,12 +127,12 @@ grows_line a b class text x y word across down e = (line_text class x y text, pl
 pub plain_opening : (width height : ℕ) → width < 2 ^ 64 → height < 2 ^ 64 → is_plain (opening width height) ≡ true
 plain_opening width height across down =
     let ground : List ℕ = STYLE.now ++ codes "<rect width=\"100%\" height=\"100%\" fill=\"#ffffff\"/>\n" in
-    let behind : List ℕ = codes "\">\n" ++ ground in
-    let from_height : List ℕ = codes "\" height=\"" ++ (decimal height ++ behind) in
+    let suffix : List ℕ = codes "\">\n" ++ ground in
+    let from_height : List ℕ = codes "\" height=\"" ++ (decimal height ++ suffix) in
     plain-append (codes "<svg xmlns=\"http://www.w3.org/2000/svg\" width=\"") (decimal width ++ from_height) refl
     (plain-append (decimal width) from_height (plain_decimal width across)
-    (plain-append (codes "\" height=\"") (decimal height ++ behind) refl
-    (plain-append (decimal height) behind (plain_decimal height down)
+    (plain-append (codes "\" height=\"") (decimal height ++ suffix) refl
+    (plain-append (decimal height) suffix (plain_decimal height down)
     (plain-append (codes "\">\n") ground refl
     (plain-append STYLE.now (codes "<rect width=\"100%\" height=\"100%\" fill=\"#ffffff\"/>\n") refl refl)))))
 
@@ -154,7 +154,7 @@ pub on_ok : {T E : Type 0} (r : Result T E) (P Q : Type 0) → OnOk r P → (P �
 on_ok (Ok x) P Q h f = f h
 on_ok (Err e) P Q h f = h
 
--- a bar, and what has no group behind it
+-- a bar, and what has no group after it
 pub bar_then : (a b d : List ℕ) → GrowsByBar a b → GrowsPlain b d → GrowsByBar a d
 bar_then a b d h k = (
   h.0 ++ k.0,

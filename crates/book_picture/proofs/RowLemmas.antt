@@ -1,4 +1,4 @@
--- Rows, and the parts of intervals that are drawn in them one behind the other.
+-- Rows, and the parts of intervals that are drawn in them one after the other.
 use Rattle.std.proofs.Common.{◌≡◌, ℕ, ◌+◌, ◌-◌, ◌*◌, ◌<◌, ◌≤◌, ◌∙◌, min, Bool, true, false, List, [], ◌∷◌, ◌++◌, length, get_or, take, Some, refl, sym, ap, subst, inl, inr, slice_get, append_assoc, length-append, arith}
 use Rattle.std.specs.Bool.{MatchBool}
 use Rattle.std.proofs.lemmas.Bool.{cases_lt}
@@ -10,7 +10,7 @@ use Rattle.book_picture.specs.Rows.{IsRow, AreFolded, has_part}
 use Rattle.book_picture.specs.Elements.{IsBar, IsPartIn, ArePartsIn, GrowsByBar, GrowsByPart, GrowsByParts}
 use Rattle.book_picture.proofs.PlainTexts.{plain-append}
 
--- so many places as a dozen calls have stay on one row
+-- this many places as a dozen calls have stay on one row
 pub one_row : (places : ℕ) (rows : List Row) → places ≤ 24 → AreFolded places rows → length rows ≡ 1
 one_row places rows few folded = elim (cases_lt 1 (length rows)) [
   | inl more ↦
@@ -19,7 +19,7 @@ one_row places rows few folded = elim (cases_lt 1 (length rows)) [
   | inr less ↦ let some : 1 ≤ length rows = folded.some in omega (arith, some, less)
 ]
 
--- the row that begins where so many rows end
+-- the row that begins where this many rows end
 pub row_is : (places n left count : ℕ) (row : Row) → row.first ≡ n * 24 → left ≡ places - row.first → count ≡ min left 24 → length row.edges.items ≡ count + 1 → IsRow places n row
 row_is places n left count row first rest most edges = record { first = first; edges = omega (arith, first, rest, most, edges) }
 

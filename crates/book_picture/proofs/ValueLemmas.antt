@@ -17,7 +17,7 @@ use Rattle.sketch.specs.declared.event.Event.{Event}
 use Rattle.sketch.specs.declared.event.Event.TheVariants.{Invoke, Return}
 use Rattle.sketch.specs.Sketch.{StandsIn}
 use Rattle.book_picture.specs.Marks.{numbers_in}
-use Rattle.book_picture.specs.Values.{has_argument, takes_number, value_of_call, with_value, with_event, values_behind, place_among, colour_of}
+use Rattle.book_picture.specs.Values.{has_argument, takes_number, value_of_call, with_value, with_event, values_after, place_among, colour_of}
 
 -- which operations have an argument is what the tables say
 pub by_table : (kind : Kind) → AllByRecursion (λ entry. has_argument kind entry.code ≡ takes_number entry.arity) (entries kind)
@@ -33,10 +33,10 @@ by_table kinds.Map = (refl, (refl, (refl, tt)))
 
 -- the values after the event at a place, and those after all
 pub values_turn : (kind : Kind) (book : List Page) (values more all : List ℕ) (events : List Event) (i : ℕ) (d : Event) → i < length events
-    → more ≡ with_event kind book values (get_or events i d) → values_behind kind book values (drop i events) ≡ all → values_behind kind book more (drop (i + 1) events) ≡ all
+    → more ≡ with_event kind book values (get_or events i d) → values_after kind book values (drop i events) ≡ all → values_after kind book more (drop (i + 1) events) ≡ all
 values_turn kind book values more all events i d less grown was =
-    ap (λ (vs : List ℕ). values_behind kind book vs (drop (i + 1) events)) grown
-    ∙ (sym (at_drop_more (values_behind kind book values) events i d less) ∙ was)
+    ap (λ (vs : List ℕ). values_after kind book vs (drop (i + 1) events)) grown
+    ∙ (sym (at_drop_more (values_after kind book values) events i d less) ∙ was)
 
 -- the list in memory at a place, as a list
 pub named_at : (rows : List (Vec ℕ Global)) (i : ℕ) (row : Vec ℕ Global) → i < length rows → row ≡ get_or rows i row → get_or (numbers_in rows) i [] ≡ row.items
@@ -59,9 +59,9 @@ kept_event : (kind : Kind) (book : List Page) (values : List ℕ) (event : Event
 kept_event kind book values (Invoke call) v has = kept_value values (value_of_call kind book call) v has
 kept_event kind book values (Return call) v has = has
 
-kept_behind : (kind : Kind) (book : List Page) (events : List Event) (values : List ℕ) (v : ℕ) → Contains values v → Contains (values_behind kind book values events) v
-kept_behind kind book [] values v has = has
-kept_behind kind book (event ∷ events) values v has = kept_behind kind book events (with_event kind book values event) v (kept_event kind book values event v has)
+kept_after : (kind : Kind) (book : List Page) (events : List Event) (values : List ℕ) (v : ℕ) → Contains values v → Contains (values_after kind book values events) v
+kept_after kind book [] values v has = has
+kept_after kind book (event ∷ events) values v has = kept_after kind book events (with_event kind book values event) v (kept_event kind book values event v has)
 
 -- the new value is among the values
 added : (values : List ℕ) (v : ℕ) → Contains (with_value values (Some v)) v
@@ -73,18 +73,18 @@ added values v =
     subst (Contains values) same (found.0, found.2, found.3))
     (λ _. Contains-push values v)
 
-appears_behind : (kind : Kind) (book : List Page) (events : List Event) (values : List ℕ) (call : Call) (v : ℕ) (k : ℕ) → slice_get events k ≡ Some (Invoke call)
-    → value_of_call kind book call ≡ Some v → Contains (values_behind kind book values events) v
-appears_behind kind book [] values call v k at shows = absurd cc
-appears_behind kind book (event ∷ events) values call v zero at shows =
+appears_after : (kind : Kind) (book : List Page) (events : List Event) (values : List ℕ) (call : Call) (v : ℕ) (k : ℕ) → slice_get events k ≡ Some (Invoke call)
+    → value_of_call kind book call ≡ Some v → Contains (values_after kind book values events) v
+appears_after kind book [] values call v k at shows = absurd cc
+appears_after kind book (event ∷ events) values call v zero at shows =
     let is : event ≡ Invoke call = same_Some event (Invoke call) at in
     let grown : with_event kind book values event ≡ with_value values (Some v) = ap (with_event kind book values) is ∙ ap (with_value values) shows in
-    kept_behind kind book events (with_event kind book values event) v (subst (λ (xs : List ℕ). Contains xs v) (sym grown) (added values v))
-appears_behind kind book (event ∷ events) values call v (suc k) at shows = appears_behind kind book events (with_event kind book values event) call v k at shows
+    kept_after kind book events (with_event kind book values event) v (subst (λ (xs : List ℕ). Contains xs v) (sym grown) (added values v))
+appears_after kind book (event ∷ events) values call v (suc k) at shows = appears_after kind book events (with_event kind book values event) call v k at shows
 
 pub each_appears : (kind : Kind) (book : List Page) (events : List Event) (call : Call) (v : ℕ) → StandsIn events (Invoke call) → value_of_call kind book call ≡ Some v
-    → Contains (values_behind kind book [] events) v
-each_appears kind book events call v stands shows = appears_behind kind book events [] call v stands.0 stands.1 shows
+    → Contains (values_after kind book [] events) v
+each_appears kind book events call v stands shows = appears_after kind book events [] call v stands.0 stands.1 shows
 
 -- ---- colours
 

@@ -12,7 +12,7 @@ use Rattle.book_picture.specs.declared.marks.Marks.{Marks}
 use Rattle.book_picture.specs.declared.row.Row.{Row}
 use Rattle.book_picture.specs.Groups.{HasNoGroup, is_plain}
 use Rattle.book_picture.specs.Rows.{has_part, AreFolded}
-use Rattle.book_picture.specs.Values.{values_behind, class_of_call}
+use Rattle.book_picture.specs.Values.{values_after, class_of_call}
 
 -- A text begins with a bar, and has no group.
 abbrev pub IsBar : List ℕ → Type 0
@@ -56,7 +56,7 @@ AreLanesElements class rows [] text = text ≡ []
 AreLanesElements class rows (lane ∷ lanes) text =
     (first rest : List ℕ) × AreElementsOf class rows lane first × AreLanesElements class rows lanes rest × (text ≡ first ++ rest)
 
--- The text of a picture shows each call of a book: behind its head, which has no element of a call, it has one element for the one
+-- The text of a picture shows each call of a book: after its head, which has no element of a call, it has one element for the one
 -- interval of each call, by lanes. The places of the sketch are folded into rows, and a call's classes are the colour of the value
 -- that it shows, by the order in which these appear, and whether it is marked.
 pub record ShowsEachCall (kind : Kind) (book : List Page) (marks : Marks) (text : List ℕ) : Type 0 where
@@ -69,7 +69,7 @@ pub record ShowsEachCall (kind : Kind) (book : List Page) (marks : Marks) (text 
   pub rows : List Row
   pub folded : AreFolded (length events) rows
   pub values : List ℕ
-  pub appear : values ≡ values_behind kind book [] events
+  pub appear : values ≡ values_after kind book [] events
   pub head : List ℕ
   pub plain : HasNoGroup head
   pub elements : List ℕ

@@ -3,8 +3,8 @@ use Rattle.std.specs.Prelude.{◌≡◌, ◌≢◌, ℕ, Bool, true, false, not,
 
 -- No group is opened in the text, and none is closed.
 pub record HasNoGroup (text : List ℕ) : Type 0 where
-  pub opened : (front rest : List ℕ) → text ≢ front ++ (codes "<g" ++ rest)
-  pub closed : (front rest : List ℕ) → text ≢ front ++ (codes "</g" ++ rest)
+  pub opened : (prefix rest : List ℕ) → text ≢ prefix ++ (codes "<g" ++ rest)
+  pub closed : (prefix rest : List ℕ) → text ≢ prefix ++ (codes "</g" ++ rest)
 
 -- Whether what follows a '<' begins with neither 'g' nor '/g', whatever follows it.
 abbrev pub is_of_no_group : List ℕ → Bool

@@ -4,16 +4,16 @@ use Rattle.call_intervals.specs.declared.interval.Interval.{Interval}
 use Rattle.book_picture.specs.declared.row.Row.{Row}
 use Rattle.book_picture.specs.declared.row.TheConstants.{ROW_PLACES}
 
--- how many of so many places the row with this number has
+-- how many of this many places the row with this number has
 abbrev pub places_in : ℕ → ℕ → ℕ
 places_in places k = min ROW_PLACES (places - k * ROW_PLACES)
 
--- A row has the places that are its by its number, with an edge before each and one behind the last.
+-- A row has the places that are its by its number, with an edge before each and one after the last.
 pub record IsRow (places k : ℕ) (row : Row) : Type 0 where
   pub first : row.first ≡ k * ROW_PLACES
   pub edges : length row.edges.items ≡ places_in places k + 1
 
--- The rows have all of so many places, and there are no more rows than these take; a picture has one row at least.
+-- The rows have all of this many places, and there are no more rows than these take; a picture has one row at least.
 pub record AreFolded (places : ℕ) (rows : List Row) : Type 0 where
   pub some : 1 ≤ length rows
   pub all : places ≤ length rows * ROW_PLACES
@@ -24,6 +24,6 @@ pub record AreFolded (places : ℕ) (rows : List Row) : Type 0 where
 abbrev pub ADozenStayOnOneRow : Type 0
 ADozenStayOnOneRow = (places : ℕ) (rows : List Row) → places ≤ 12 * 2 → AreFolded places rows → length rows ≡ 1
 
--- whether an interval has a part in a row of so many places, of which this is the first
+-- whether an interval has a part in a row of this many places, of which this is the first
 abbrev pub has_part : ℕ → ℕ → Interval → Bool
 has_part first places interval = nat_lt (interval.begin - first) (min (interval.end - first) places)

@@ -61,16 +61,16 @@ abbrev pub with_event : Kind → List Page → List ℕ → Event → List ℕ
 with_event kind book values (Invoke call) = with_value values (value_of_call kind book call)
 with_event kind book values (Return call) = values
 
--- the values that the calls of these events show, each once, in the order in which calls that show them are invoked; behind the
+-- the values that the calls of these events show, each once, in the order in which calls that show them are invoked; after the
 -- values so far
-abbrev pub values_behind : Kind → List Page → List ℕ → List Event → List ℕ
-values_behind kind book values [] = values
-values_behind kind book values (event ∷ events) = values_behind kind book (with_event kind book values event) events
+abbrev pub values_after : Kind → List Page → List ℕ → List Event → List ℕ
+values_after kind book values [] = values
+values_after kind book values (event ∷ events) = values_after kind book (with_event kind book values event) events
 
 -- Each value that a call shows appears, if the call is invoked.
 abbrev pub EachValueAppears : Type 0
 EachValueAppears = (kind : Kind) (book : List Page) (events : List Event) (call : Call) (value : ℕ) → StandsIn events (Invoke call)
-    → value_of_call kind book call ≡ Some value → Contains (values_behind kind book [] events) value
+    → value_of_call kind book call ≡ Some value → Contains (values_after kind book [] events) value
 
 -- the place of a value among these
 abbrev pub place_among : List ℕ → ℕ → ℕ

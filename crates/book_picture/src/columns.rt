@@ -37,7 +37,7 @@ pub(crate) fn column_edges(
     Ok(edges)
 }
 
-// The edge behind these, of which this is the last.
+// The edge after these, of which this is the last.
 fn next_edge(
     alloc: Global,
     kind: Kind,
@@ -56,7 +56,7 @@ fn next_edge(
     Ok(edge)
 }
 
-// How far the bars of a lane reach that end behind these edges.
+// How far the bars of a lane reach that end after these edges.
 fn lane_edge(
     alloc: Global,
     kind: Kind,

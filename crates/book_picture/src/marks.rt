@@ -11,7 +11,7 @@ pub enum Marks {
     Unasked,
     /// Those of a smaller book that no order explains either: for each caller, their numbers.
     Smaller(Vec<Vec<u64>>),
-    /// None are, since no smaller book is sought of a book with so many calls.
+    /// None are, since no smaller book is sought of a book with this many calls.
     TooLarge,
     /// None are, since there was no memory for a smaller book.
     NoMemory,

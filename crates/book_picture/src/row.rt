@@ -40,14 +40,14 @@ impl Stretch {
         ensures place { IfSome result (λ part. (part.begin < part.end) × (part.end ≤ self.places)) }
     {
         let begin = interval.begin.saturating_sub(self.first);
-        let behind = interval.end.saturating_sub(self.first);
-        let end = behind.min(self.places);
+        let suffix = interval.end.saturating_sub(self.first);
+        let end = suffix.min(self.places);
         if begin < end {
             Some(Part {
                 begin,
                 end,
                 begins: self.first <= interval.begin,
-                ends: behind <= self.places,
+                ends: suffix <= self.places,
             })
         } else {
             None

@@ -18,7 +18,7 @@ pub(crate) const LANE: usize = 56;
 /// From the lanes of a row to those of the next, in pixels.
 const BETWEEN: usize = 20;
 
-/// The rows of so many places, of which the first begins at this height, in pixels.
+/// The rows of this many places, of which the first begins at this height, in pixels.
 pub(crate) fn folded(
     alloc: Global,
     kind: Kind,

@@ -255,7 +255,7 @@ fn width_of(rows: &[Row]) -> usize {
     width
 }
 
-// The height of a sheet with these rows of so many lanes, in pixels.
+// The height of a sheet with these rows of this many lanes, in pixels.
 fn height_of(rows: &[Row], callers: u32) -> usize {
     let mut height = 0;
     for row in rows {
@@ -296,7 +296,7 @@ fn put_notes(out: &mut String, kind: Kind) -> Result<(), NoMemory>
     Ok(())
 }
 
-// Appends the lanes of so many callers in each row.
+// Appends the lanes of this many callers in each row.
 fn put_rows(out: &mut String, rows: &[Row], callers: u32, right: usize) -> Result<(), NoMemory>
     ensures { OnOk result (GrowsPlain (string_bytes out.old) (string_bytes out.new)) }
 {
@@ -306,7 +306,7 @@ fn put_rows(out: &mut String, rows: &[Row], callers: u32, right: usize) -> Resul
     Ok(())
 }
 
-// Appends the lanes of so many callers, in a row that begins here.
+// Appends the lanes of this many callers, in a row that begins here.
 fn put_lanes(out: &mut String, top: usize, callers: u32, right: usize) -> Result<(), NoMemory>
     ensures { OnOk result (GrowsPlain (string_bytes out.old) (string_bytes out.new)) }
 {

@@ -5,7 +5,7 @@ ghost use Rattle.std.specs.List.{position};
 ghost use Rattle.book_base.specs.Book.{IsCall, record_of};
 ghost use Rattle.sketch.specs.declared.event.Event.{Event};
 ghost use Rattle.sketch.specs.Sketch.{IsEventOf, StandsIn};
-ghost use Rattle.book_picture.specs.Values.{has_argument, value_in_reply, value_of_step, value_of_call, with_value, with_event, values_behind, place_among, colour_of, colour_class, mark_class};
+ghost use Rattle.book_picture.specs.Values.{has_argument, value_in_reply, value_of_step, value_of_call, with_value, with_event, values_after, place_among, colour_of, colour_class, mark_class};
 
 use book_base::{Book, Call, NoMemory, OpWord, SeqObject, low};
 use seq_objects::Kind;
@@ -30,7 +30,7 @@ pub(crate) fn values_of(
     events: &[Event],
 ) -> Result<Vec<u64>, NoMemory>
     requires { (event : Event) → StandsIn events.now event → IsEventOf book.now event }
-    ensures { IfOk result (λ values. values.items ≡ values_behind kind book.now [] events.now) }
+    ensures { IfOk result (λ values. values.items ≡ values_after kind book.now [] events.now) }
 {
     let mut values = Vec::new(alloc);
     for event in events {

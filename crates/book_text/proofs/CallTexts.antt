@@ -25,9 +25,9 @@ use Rattle.text_fields.specs.Operations.{Operations}
 use Rattle.text_fields.proofs.NumberTexts.{same_first, same_number, pair_parts}
 use Rattle.text_fields.proofs.Sharp.{stops_later}
 use Rattle.text_fields.proofs.HeadTexts.{same_numbers}
-use Rattle.book_text.specs.CallLines.{answer_words, IsBehindOperation, IsBehindReply, HasView, EntryFails, view_test, is_gap, with_line, IsNamedCall, IsCallLine, CallFails, calls_from, all_calls, MayRefuse, IsUnanswered}
+use Rattle.book_text.specs.CallLines.{answer_words, IsAfterOperation, IsAfterReply, HasView, EntryFails, view_test, is_gap, with_line, IsNamedCall, IsCallLine, CallFails, calls_from, all_calls, MayRefuse, IsUnanswered}
 use Rattle.book_text.specs.Entries.{IsEntry}
-use Rattle.book_text.proofs.EntryTexts.{OneOperation, no_earlier, one_behind, passes_place, passes_op, passes_gap, passes_reply, passes_view}
+use Rattle.book_text.proofs.EntryTexts.{OneOperation, no_earlier, one_after, passes_place, passes_op, passes_gap, passes_reply, passes_view}
 
 -- ---- right lines
 
@@ -104,12 +104,12 @@ pairs_once b (suc x ∷ xs) (suc y ∷ ys) same few h k e =
     let others = pairs_once (b + 1) xs ys (omega arith) (omega arith) h.1 k.1 line.1 in
     ap (λ (z : ℕ). z ∷ xs) first ∙ ap (λ (zs : List ℕ). suc y ∷ zs) others
 
--- no two cuts of so many callers share their words
+-- no two cuts of this many callers share their words
 pub cut_once : (version : Version) (n : ℕ) (xs ys : List ℕ) → n < 2 ^ 64 → length xs ≡ n → length ys ≡ n → AreNumbers xs → AreNumbers ys → cut_words version xs ≡ cut_words version ys → xs ≡ ys
 cut_once First n xs ys small x y h k e = same_numbers xs ys h k e
 cut_once Second n xs ys small x y h k e = pairs_once 0 xs ys (omega arith) (omega arith) h k e
 
--- a test of views has its turn behind the tests of the line by itself
+-- a test of views has its turn after the tests of the line by itself
 pub test_turn : (fault : BookFault) (name : What) → view_test fault ≡ Some name → turn_of name ≡ refusal.turn_of fault + 10
 test_turn tests.TooManyCalls name e = absurd cc
 test_turn tests.NoSuchCall name e = absurd cc
@@ -131,8 +131,8 @@ test_late tests.NoMemory name e = absurd cc
 module _ (version : Version) (operations : Operations) (book : List Page) (call : Call) (words : List (List ℕ)) (one : OneOperation operations) (small : length book < 2 ^ 64) where
   pub one_view : (v w : List ℕ) → HasView version operations (length book) call words v → HasView version operations (length book) call words w → v ≡ w
   one_view v w h k =
-      let behind = (same_first _ _ _ _ (one_behind version operations (length book) (is_gap book call) call words one _ _ h.text.text k.text.text)).1 in
-      cut_once version (length book) v w small h.wide k.wide h.numbers k.numbers (same_first _ _ _ _ behind).1
+      let suffix = (same_first _ _ _ _ (one_after version operations (length book) (is_gap book call) call words one _ _ h.text.text k.text.text)).1 in
+      cut_once version (length book) v w small h.wide k.wide h.numbers k.numbers (same_first _ _ _ _ suffix).1
 
   -- ---- first tests
 
@@ -161,8 +161,8 @@ module _ (version : Version) (operations : Operations) (book : List Page) (call 
   pub view_first : (more : List Call) (op : ℕ) (r : Record) (fault : BookFault) (name : What) → IsEntry version operations (length book) (is_gap book call) call words op (Some r)
       → IsFirstFault book call.caller r.view fault → view_test fault ≡ Some name → IsFirstTest (CallFails version operations book (call ∷ more) words) name
   view_first more op r fault name h k e =
-      let at : IsBehindOperation operations call words (answer_words version (Some r)) = record { op = op; has = h.has; text = h.text } in
-      let replied : IsBehindReply operations call words (codes "view" ∷ cut_words version r.view) = record { reply = r.reply; small = h.answered.1; text = at } in
+      let at : IsAfterOperation operations call words (answer_words version (Some r)) = record { op = op; has = h.has; text = h.text } in
+      let replied : IsAfterReply operations call words (codes "view" ∷ cut_words version r.view) = record { reply = r.reply; small = h.answered.1; text = at } in
       let viewed : HasView version operations (length book) call words r.view = record { wide = h.answered.2; numbers = h.answered.3; text = replied } in
       let gap = is_gap book call in
       record {
@@ -190,7 +190,7 @@ pub stops_refused : {Due : Type 0} (rules : Rules Due) (due : Due) (text : Unrea
 stops_refused rules due text line (Some name) result h k f = rw h (f name refl)
 stops_refused rules due text line None result h k f = rw k tt
 
--- what is met behind right lines
+-- what is met after right lines
 pub stops_then : {Due : Type 0} (rules : Rules Due) (due middle : Due) (text between : Unread) (e : ReadFault) → faults.GoesTo rules due text middle between → StopsFor rules middle between e → StopsFor rules due text e
 stops_then rules due middle text between NoMemory h k = tt
 stops_then rules due middle text between (Text fault) h k = stops_later rules due middle text between fault h k

@@ -27,7 +27,7 @@ use Rattle.text_fields.proofs.LineTexts.{cut_again, cut_line, text_of-cons, text
 use Rattle.text_fields.proofs.Sharp.{AllPass-append}
 use Rattle.book_text.specs.CallLines.{Progress, with_line, IsNamedCall, IsCallLine, call_words, calls_from, all_calls, EntryFails, view_test}
 use Rattle.book_text.specs.Grammar.{end_words}
-use Rattle.book_text.specs.BookRules.{BookDue, InHead, InCalls, AtEnd, behind_head, BookPasses, BookFails, book_wanted, book_rules, IsBookText, IsFirstBookFault}
+use Rattle.book_text.specs.BookRules.{BookDue, InHead, InCalls, AtEnd, after_head, BookPasses, BookFails, book_wanted, book_rules, IsBookText, IsFirstBookFault}
 use Rattle.book_text.specs.Beginnings.{BeginsSomeText, AreWholeLines, BreaksText, EndsEarly, GoesOn, LeavesTexts}
 use Rattle.book_text.proofs.SharpBooks.{book_sharp}
 use Rattle.book_text.proofs.ReadTexts.{has_zero}
@@ -82,16 +82,16 @@ all_named book most i (count ∷ counts) inside few small h =
     (all_named book most (i + 1) counts (omega arith) few small h.1)
 
 module _ (version : Version) where
-  -- what is due behind a right line can come
+  -- what is due after a right line can come
   comes_next : (due after : BookDue) (words : List (List ℕ)) → CanCome version due → BookPasses version due words after → CanCome version after
-  comes_next (InHead TitleDue) after words can h = subst (CanCome version) (sym (h.2 ∙ ap behind_head h.1.1)) tt
-  comes_next (InHead ObjectDue) after words can h = subst (CanCome version) (sym (h.2 ∙ ap behind_head h.1.3)) tt
-  comes_next (InHead (CallersDue kind)) after words can h = subst (CanCome version) (sym (h.2 ∙ ap behind_head h.1.3)) h.1.1.few
+  comes_next (InHead TitleDue) after words can h = subst (CanCome version) (sym (h.2 ∙ ap after_head h.1.1)) tt
+  comes_next (InHead ObjectDue) after words can h = subst (CanCome version) (sym (h.2 ∙ ap after_head h.1.3)) tt
+  comes_next (InHead (CallersDue kind)) after words can h = subst (CanCome version) (sym (h.2 ∙ ap after_head h.1.3)) h.1.1.few
   comes_next (InHead (CountsDue kind n)) after words can h =
       let counts = h.1.0 in
       let book = unanswered_book counts in
       let size : length book ≡ length counts = length-map counts unanswered_page in
-      subst (CanCome version) (sym (h.2 ∙ ap behind_head h.1.3))
+      subst (CanCome version) (sym (h.2 ∙ ap after_head h.1.3))
       (all_named book (most_calls version) 0 counts (omega arith) (omega (arith, size, h.1.1.count, few_callers version)) (few_calls version) h.1.1.few)
   comes_next (InHead (HeadRead kind calls)) after words can h = absurd can
   comes_next (InCalls kind book []) after words can h = subst (CanCome version) (sym h.1) tt
@@ -245,7 +245,7 @@ module _ (version : Version) where
     breaks rest name wanted wrong = record {
       named = line_named reached (words_of wrong.line) name wrong.test.fails;
       line = wrong.line;
-      behind = wrong.rest;
+      suffix = wrong.rest;
       whole = wrong.whole;
       none = λ kind book more text.
           let joined : (text_of lines ++ (wrong.line ++ 10 ∷ [])) ++ more ≡ text_of lines ++ (wrong.line ++ 10 ∷ more)
@@ -273,7 +273,7 @@ leaves_texts version bytes fault h =
     let lines = h.before.lines in
     record {
       count = length lines;
-      front = text_of lines;
+      prefix = text_of lines;
       rest = h.left.bytes;
       line = omega (arith, h.line, h.before.number);
       bytes_are = h.before.bytes;

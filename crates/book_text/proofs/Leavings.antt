@@ -11,7 +11,7 @@ use Rattle.text_fields.proofs.LineTexts.{cut_again, cut_line, text_of-cons, text
 use Rattle.text_fields.proofs.Sharp.{AllPass-append}
 use Rattle.text_fields.proofs.Readings.{no_first}
 use Rattle.book_text.specs.Beginnings.{AreWholeLines, EndsEarly}
-use Rattle.book_text.specs.Leaving.{BeginsSome, Breaks, GoesPast, LeavesAt}
+use Rattle.book_text.specs.ReadOnly.{BeginsSome, Breaks, GoesPast, LeavesAt}
 
 -- right lines that lead from what is due to the end of a text
 pub record Completes {Due Said : Type 0} (rules : Rules Due) (ended : Said → Due) (due : Due) : Type 0 where
@@ -83,7 +83,7 @@ module _ {Due Said : Type 0} (rules : Rules Due) (are_sharp : AreSharp rules) (s
     breaks rest name wanted wrong = record {
       named = named reached (words_of wrong.line) name wrong.test.fails;
       line = wrong.line;
-      behind = wrong.rest;
+      suffix = wrong.rest;
       whole = wrong.whole;
       none = λ said more text.
           let joined : (text_of lines ++ (wrong.line ++ 10 ∷ [])) ++ more ≡ text_of lines ++ (wrong.line ++ 10 ∷ more)
@@ -112,7 +112,7 @@ module _ {Due Said : Type 0} (rules : Rules Due) (are_sharp : AreSharp rules) (s
       let lines = h.before.lines in
       record {
         count = length lines;
-        front = text_of lines;
+        prefix = text_of lines;
         rest = h.left.bytes;
         line = omega (arith, h.line, h.before.number);
         bytes_are = h.before.bytes;

@@ -18,7 +18,7 @@ use Rattle.text_fields.specs.Faults.{ALine, Rules, IsWrong, AllPass, GoesTo, IsF
 use Rattle.text_fields.specs.Head.{HeadDue, TitleDue, ObjectDue, CallersDue, CountsDue, HeadRead, HeadPasses, head_wanted, head_rules}
 use Rattle.text_fields.specs.Operations.{kind_operations}
 use Rattle.book_text.specs.CallLines.{Progress, CallPasses, call_wanted, call_rules}
-use Rattle.book_text.specs.BookRules.{InCalls, behind_head, in_calls, BookPasses, book_wanted, book_rules}
+use Rattle.book_text.specs.BookRules.{InCalls, after_head, in_calls, BookPasses, book_wanted, book_rules}
 
 pub few_calls : (version : Version) (calls : List ℕ) → AreAtMost (most_calls version) calls → (i : ℕ) → get_or calls i 0 ≤ MAX_CALLS
 few_calls First [] h i = omega arith
@@ -47,14 +47,14 @@ module _ {Inner Outer : Type 0} (inner : Rules Inner) (outer : Rules Outer) (pla
   stops_within due text (Text fault) h = fault_within due text fault h
 
 module _ (version : Version) where
-  head_right : (due after : HeadDue) (words : List (List ℕ)) → HeadPasses version (codes "book") due words after → BookPasses version (behind_head due) words (behind_head after)
+  head_right : (due after : HeadDue) (words : List (List ℕ)) → HeadPasses version (codes "book") due words after → BookPasses version (after_head due) words (after_head after)
   head_right TitleDue after words h = (after, h, refl)
   head_right ObjectDue after words h = (after, h, refl)
   head_right (CallersDue kind) after words h = (after, h, refl)
   head_right (CountsDue kind n) after words h = (after, h, refl)
   head_right (HeadRead kind calls) after words h = absurd h
 
-  head_wrong : (due : HeadDue) (bytes : List ℕ) (what : What) → IsWrong (head_rules version (codes "book")) due (head_wanted due) bytes what → IsWrong (book_rules version) (behind_head due) (book_wanted (behind_head due)) bytes what
+  head_wrong : (due : HeadDue) (bytes : List ℕ) (what : What) → IsWrong (head_rules version (codes "book")) due (head_wanted due) bytes what → IsWrong (book_rules version) (after_head due) (book_wanted (after_head due)) bytes what
   head_wrong TitleDue bytes what (inl h) = inl h
   head_wrong TitleDue bytes what (inr h) = inr (record { line = h.line; rest = h.rest; whole = h.whole; test = record { fails = h.test.fails; first = h.test.first } })
   head_wrong ObjectDue bytes what (inl h) = inl h
@@ -65,11 +65,11 @@ module _ (version : Version) where
   head_wrong (CountsDue kind n) bytes what (inr h) = inr (record { line = h.line; rest = h.rest; whole = h.whole; test = record { fails = h.test.fails; first = h.test.first } })
   head_wrong (HeadRead kind calls) bytes what h = absurd h
 
-  pub head_goes : (due after : HeadDue) (text left : Unread) → GoesTo (head_rules version (codes "book")) due text after left → GoesTo (book_rules version) (behind_head due) text (behind_head after) left
-  head_goes = goes_within (head_rules version (codes "book")) (book_rules version) behind_head head_right head_wrong
+  pub head_goes : (due after : HeadDue) (text left : Unread) → GoesTo (head_rules version (codes "book")) due text after left → GoesTo (book_rules version) (after_head due) text (after_head after) left
+  head_goes = goes_within (head_rules version (codes "book")) (book_rules version) after_head head_right head_wrong
 
-  pub head_fault : (due : HeadDue) (text : Unread) (fault : TextFault) → IsFirstFault (head_rules version (codes "book")) due text fault → IsFirstFault (book_rules version) (behind_head due) text fault
-  head_fault = fault_within (head_rules version (codes "book")) (book_rules version) behind_head head_right head_wrong
+  pub head_fault : (due : HeadDue) (text : Unread) (fault : TextFault) → IsFirstFault (head_rules version (codes "book")) due text fault → IsFirstFault (book_rules version) (after_head due) text fault
+  head_fault = fault_within (head_rules version (codes "book")) (book_rules version) after_head head_right head_wrong
 
   module _ (kind : Kind) where
     calls_right : (due after : Progress) (words : List (List ℕ)) → (call_rules version (kind_operations version kind)).Passes due words after → BookPasses version (in_calls kind due) words (in_calls kind after)

@@ -3,7 +3,7 @@ use Rattle.std.proofs.Common.{◌<◌, ◌≡◌, ℕ, zero, suc, ◌+◌, ◌�
 use Rattle.std.specs.Prelude.{IsSome}
 use Rattle.std.proofs.lemmas.Option.{same_Some, slice_get_past}
 use Rattle.std.proofs.lemmas.List.{length-append, length-set}
-use Rattle.list_laws.proofs.Fronts.{slice_get-append_within}
+use Rattle.list_laws.proofs.Prefixes.{slice_get-append_within}
 use Rattle.list_laws.proofs.Places.{slice_get-push_last}
 use Rattle.book_base.specs.declared.call.Call.{Call}
 use Rattle.book_base.specs.declared.call.Record.{Record}
@@ -15,7 +15,7 @@ abbrev pub page_with : Page → ℕ → ℕ → Option Record → Page
 page_with page k op None = record { operations = set page.operations k op; records = page.records }
 page_with page k op (Some answer) = record { operations = set page.operations k op; records = page.records ++ answer ∷ [] }
 
--- a page stands behind those before it
+-- a page stands after those before it
 pub page_of-middle : (done : List Page) (page : Page) (later : List Page) → page_of (done ++ page ∷ later) (length done) ≡ page
 page_of-middle [] page later = refl
 page_of-middle (p ∷ done) page later = page_of-middle done page later

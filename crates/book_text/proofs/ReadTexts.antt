@@ -19,7 +19,7 @@ use Rattle.text_fields.specs.Head.{TitleDue, ObjectDue, CallersDue, CountsDue, A
 use Rattle.text_fields.specs.Faults.{AllPass}
 use Rattle.book_text.specs.CallLines.{Progress, MayStand, with_line, IsCallLine, call_words, calls_from, all_calls}
 use Rattle.book_text.specs.Grammar.{line_of, end_words, book_lines, IsWrittenText}
-use Rattle.book_text.specs.BookRules.{BookDue, InHead, InCalls, AtEnd, behind_head, BookPasses, IsBookText}
+use Rattle.book_text.specs.BookRules.{BookDue, InHead, InCalls, AtEnd, after_head, BookPasses, IsBookText}
 use Rattle.book_text.proofs.Pages.{page_with, page_of-middle, with_line-middle, AreSameTo, page_with-before, page_with-operation, page_with-record, page_with-few, slice_get-set_cases}
 
 -- ---- what each line leaves to hold of a book
@@ -235,11 +235,11 @@ module _ (version : Version) (kind : Kind) (book : List Page) where
         let later = unanswered_book counts in
         let due = all_calls (length done + 1) counts in
         let mine = read_caller done (unanswered_page count) later 0 count due lines (omega arith) (omega (arith, length-replicate {A = ℕ} count 0)) sound h in
-        let front : List Page = done ++ mine.whole ∷ [] in
-        let size : length front ≡ length done + 1 = length-append done (mine.whole ∷ []) in
-        let joined : (ps : List Page) → front ++ ps ≡ done ++ mine.whole ∷ ps = λ ps. append_assoc done (mine.whole ∷ []) ps in
-        let others = read_callers front counts mine.others (subst (IsSound operations) (sym (joined later)) mine.sound)
-        (subst (λ (i : ℕ). Leads (InCalls k (front ++ later) (all_calls i counts)) mine.others) (sym size) (subst (λ (b : List Page). Leads (InCalls k b due) mine.others) (sym (joined later)) mine.leads)) in
+        let prefix : List Page = done ++ mine.whole ∷ [] in
+        let size : length prefix ≡ length done + 1 = length-append done (mine.whole ∷ []) in
+        let joined : (ps : List Page) → prefix ++ ps ≡ done ++ mine.whole ∷ ps = λ ps. append_assoc done (mine.whole ∷ []) ps in
+        let others = read_callers prefix counts mine.others (subst (IsSound operations) (sym (joined later)) mine.sound)
+        (subst (λ (i : ℕ). Leads (InCalls k (prefix ++ later) (all_calls i counts)) mine.others) (sym size) (subst (λ (b : List Page). Leads (InCalls k b due) mine.others) (sym (joined later)) mine.leads)) in
         let whole : book ≡ done ++ mine.whole ∷ others.later = others.whole ∙ joined others.later in
         let page : page_of book (length done) ≡ mine.whole = ap (λ (b : List Page). page_of b (length done)) whole ∙ page_of-middle done mine.whole others.later in
         let line = line_of version operations book in
@@ -276,13 +276,13 @@ module _ (version : Version) (kind : Kind) (book : List Page) where
   head_read : (lines : List (List (List ℕ))) → Leads (InHead TitleDue) lines → IsHeadRead lines
   head_read lines h =
       let title = has_line (InHead TitleDue) lines (λ e. absurd cc) h in
-      let at_object = moved title.next (InHead ObjectDue) title.others (title.right.2 ∙ ap behind_head title.right.1.1) title.leads in
+      let at_object = moved title.next (InHead ObjectDue) title.others (title.right.2 ∙ ap after_head title.right.1.1) title.leads in
       let object = has_line (InHead ObjectDue) title.others (λ e. absurd cc) at_object in
       let k = object.right.1.0 in
-      let at_callers = moved object.next (InHead (CallersDue k)) object.others (object.right.2 ∙ ap behind_head object.right.1.3) object.leads in
+      let at_callers = moved object.next (InHead (CallersDue k)) object.others (object.right.2 ∙ ap after_head object.right.1.3) object.leads in
       let callers = has_line (InHead (CallersDue k)) object.others (λ e. absurd cc) at_callers in
       let n = callers.right.1.0 in
-      let at_counts = moved callers.next (InHead (CountsDue k n)) callers.others (callers.right.2 ∙ ap behind_head callers.right.1.3) callers.leads in
+      let at_counts = moved callers.next (InHead (CountsDue k n)) callers.others (callers.right.2 ∙ ap after_head callers.right.1.3) callers.leads in
       let calls = has_line (InHead (CountsDue k n)) callers.others (λ e. absurd cc) at_counts in
       let counts = calls.right.1.0 in
       let size : n ≡ length counts = sym calls.right.1.1.count in
@@ -297,7 +297,7 @@ module _ (version : Version) (kind : Kind) (book : List Page) where
         text = four_lines lines title.others object.others callers.others calls.others title.words object.words callers.words calls.words
             (title_words version (codes "book")) (object_words k) (callers_words (length counts)) (calls_words counts)
             title.text object.text callers.text calls.text title.right.1.0 object.right.1.2 (callers.right.1.2 ∙ ap callers_words size) calls.right.1.2;
-        leads = moved calls.next (InCalls k (unanswered_book counts) (all_calls 0 counts)) calls.others (calls.right.2 ∙ ap behind_head calls.right.1.3) calls.leads;
+        leads = moved calls.next (InCalls k (unanswered_book counts) (all_calls 0 counts)) calls.others (calls.right.2 ∙ ap after_head calls.right.1.3) calls.leads;
       }
 
 few_from_all : (most : ℕ) (counts : List ℕ) → AreAtMost most counts → (i : ℕ) → get_or counts i 0 ≤ most

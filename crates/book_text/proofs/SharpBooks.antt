@@ -26,19 +26,19 @@ use Rattle.text_fields.specs.OperationLaws.{one_kind_operation, solid_kind_words
 use Rattle.text_fields.proofs.NumberTexts.{same_first, solid_word, solid_decimal}
 use Rattle.text_fields.proofs.HeadTexts.{solid_numbers, plain, head_sharp}
 use Rattle.book_text.specs.CallLines.{place_words, answer_words, call_words, HasView, EntryFails, ViewFails, is_gap, MayStand, with_line, IsNamedCall, IsCallLine, CallPasses, CallFails, Progress, reading, call_wanted, call_rules}
-use Rattle.book_text.specs.BookRules.{BookDue, InHead, InCalls, AtEnd, behind_head, BookPasses, BookFails, book_wanted, book_rules}
-use Rattle.book_text.proofs.EntryTexts.{OneOperation, same_behind, behind_place, one_behind, passes_place, passes_op, passes_gap, passes_reply, passes_view}
+use Rattle.book_text.specs.BookRules.{BookDue, InHead, InCalls, AtEnd, after_head, BookPasses, BookFails, book_wanted, book_rules}
+use Rattle.book_text.proofs.EntryTexts.{OneOperation, same_after, after_place, one_after, passes_place, passes_op, passes_gap, passes_reply, passes_view}
 use Rattle.book_text.proofs.CallTexts.{cut_once, one_view}
 
 pub solid_pairs : (b : ℕ) (cut : List ℕ) → b + length cut ≤ 2 ^ 64 → AreNumbers cut → AllByRecursion IsSolid (pair_words b cut)
 solid_pairs b [] few h = tt
 solid_pairs b (zero ∷ cut) few h = solid_pairs (b + 1) cut (omega arith) h.1
 solid_pairs b (suc c ∷ cut) few h =
-    let front = solid_decimal b (omega arith) in
-    let behind = solid_decimal (suc c) h.0 in (
+    let prefix = solid_decimal b (omega arith) in
+    let suffix = solid_decimal (suc c) h.0 in (
       record {
-        some = omega (arith, front.some, length-append (decimal b) (58 ∷ decimal (suc c)));
-        above = All-append (λ (byte : ℕ). 32 < byte) (decimal b) (58 ∷ decimal (suc c)) front.above (All-cons (λ (byte : ℕ). 32 < byte) 58 (decimal (suc c)) (omega arith) behind.above);
+        some = omega (arith, prefix.some, length-append (decimal b) (58 ∷ decimal (suc c)));
+        above = All-append (λ (byte : ℕ). 32 < byte) (decimal b) (58 ∷ decimal (suc c)) prefix.above (All-cons (λ (byte : ℕ). 32 < byte) 58 (decimal (suc c)) (omega arith) suffix.above);
       },
       solid_pairs (b + 1) cut (omega arith) h.1,
     )
@@ -63,9 +63,9 @@ module _ (version : Version) (operations : Operations) (one : OneOperation opera
   -- a right line gives one book
   pub line_one_way : (words : List (List ℕ)) (a b : List Page) → IsCallLine version operations book call words a → IsCallLine version operations book call words b → a ≡ b
   line_one_way words a b h k =
-      let e = behind_place call (operations.words h.op ++ answer_words version h.answer) (operations.words k.op ++ answer_words version k.answer) (sym h.text ∙ k.text) in
+      let e = after_place call (operations.words h.op ++ answer_words version h.answer) (operations.words k.op ++ answer_words version k.answer) (sym h.text ∙ k.text) in
       let op : h.op ≡ k.op = one h.op k.op _ _ h.has k.has e in
-      let answers = same_behind (operations.words k.op) (answer_words version h.answer) (answer_words version k.answer) (ap (λ (o : ℕ). operations.words o ++ answer_words version h.answer) (sym op) ∙ e) in
+      let answers = same_after (operations.words k.op) (answer_words version h.answer) (answer_words version k.answer) (ap (λ (o : ℕ). operations.words o ++ answer_words version h.answer) (sym op) ∙ e) in
       let answer : h.answer ≡ k.answer = same_answer (length book) h.answer k.answer refl (omega (arith, h.named.callers)) h.stands k.stands answers in
       h.book_is ∙ ap (λ (o : ℕ). with_line book call o h.answer) op ∙ ap (with_line book call k.op) answer ∙ sym k.book_is
 
@@ -74,14 +74,14 @@ module _ (version : Version) (operations : Operations) (one : OneOperation opera
   entry_apart words op answer what.Place named has stands text h = passes_place version operations (length book) (is_gap book call) call words _ text h
   entry_apart words op answer what.Op named has stands text h = passes_op version operations (length book) (is_gap book call) call words (answer_words version answer) (record { op = op; has = has; text = text }) h
   entry_apart words op None what.Gap named has stands text h =
-      h.2 (sym (one_behind version operations (length book) (is_gap book call) call words one [] h.0 (record { op = op; has = has; text = text }) h.1))
+      h.2 (sym (one_after version operations (length book) (is_gap book call) call words one [] h.0 (record { op = op; has = has; text = text }) h.1))
   entry_apart words op (Some r) what.Gap named has stands text h = passes_gap version operations (length book) (is_gap book call) call words stands.0 h
   entry_apart words op None what.Reply named has stands text h =
-      let none = one_behind version operations (length book) (is_gap book call) call words one [] (h.0 ∷ h.1) (record { op = op; has = has; text = text }) h.2 in absurd cc
+      let none = one_after version operations (length book) (is_gap book call) call words one [] (h.0 ∷ h.1) (record { op = op; has = has; text = text }) h.2 in absurd cc
   entry_apart words op (Some r) what.Reply named has stands text h =
       passes_reply version operations (length book) (is_gap book call) call words one (codes "view" ∷ cut_words version r.view) (record { reply = r.reply; small = stands.1; text = record { op = op; has = has; text = text } }) h
   entry_apart words op None what.View named has stands text h =
-      let none = one_behind version operations (length book) (is_gap book call) call words one [] (reply_word h.1.reply ∷ h.0) (record { op = op; has = has; text = text }) h.1.text in absurd cc
+      let none = one_after version operations (length book) (is_gap book call) call words one [] (reply_word h.1.reply ∷ h.0) (record { op = op; has = has; text = text }) h.1.text in absurd cc
   entry_apart words op (Some r) what.View named has stands text h =
       passes_view version operations (length book) (is_gap book call) call words one r.view (omega (arith, named.callers)) (record { wide = stands.2; numbers = stands.3; text = record { reply = r.reply; small = stands.1; text = record { op = op; has = has; text = text } } }) h
   entry_apart words op answer _ named has stands text h = h
@@ -89,7 +89,7 @@ module _ (version : Version) (operations : Operations) (one : OneOperation opera
   view_apart : (words : List (List ℕ)) (op : ℕ) (answer : Option Record) (name : What) → IsNamedCall book call → IsTrue (operations.has op) → MayStand book call answer → words ≡ call_words version operations call op answer
       → ViewFails version operations book call words name → ⊥
   view_apart words op None name named has stands text h =
-      let none = one_behind version operations (length book) (is_gap book call) call words one [] (reply_word h.has.text.reply ∷ codes "view" ∷ cut_words version h.view) (record { op = op; has = has; text = text }) h.has.text.text in absurd cc
+      let none = one_after version operations (length book) (is_gap book call) call words one [] (reply_word h.has.text.reply ∷ codes "view" ∷ cut_words version h.view) (record { op = op; has = has; text = text }) h.has.text.text in absurd cc
   view_apart words op (Some r) name named has stands text h =
       let viewed : HasView version operations (length book) call words r.view = record { wide = stands.2; numbers = stands.3; text = record { reply = r.reply; small = stands.1; text = record { op = op; has = has; text = text } } } in
       let same : h.view ≡ r.view = one_view version operations book call words one (omega (arith, named.callers)) h.view r.view h.has viewed in
@@ -152,7 +152,7 @@ module _ (version : Version) where
   head = head_sharp version (codes "book") title_solid
 
   one_way : (due a b : BookDue) (words : List (List ℕ)) → BookPasses version due words a → BookPasses version due words b → a ≡ b
-  one_way (InHead due) a b words h k = h.2 ∙ ap behind_head (head.one_way due h.0 k.0 words h.1 k.1) ∙ sym k.2
+  one_way (InHead due) a b words h k = h.2 ∙ ap after_head (head.one_way due h.0 k.0 words h.1 k.1) ∙ sym k.2
   one_way (InCalls kind book []) a b words h k = h.1 ∙ sym k.1
   one_way (InCalls kind book (call ∷ calls)) a b words h k =
       let books = line_one_way version (kind_operations version kind) (one_kind_operation version kind) (solid_kind_words version kind) book call words h.0.book k.0.book h.1.0 k.1.0 in

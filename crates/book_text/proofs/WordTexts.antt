@@ -4,7 +4,7 @@ use Rattle.std.specs.Prelude.{IfSome, MatchOption, IsTrue, option_copied}
 use Rattle.std.proofs.lemmas.List.{append-nil, drop_at, length-append}
 use Rattle.list_laws.proofs.Places.{append_cases}
 use Rattle.seq_objects.specs.Words.{further}
-use Rattle.text_fields.specs.Counts.{AreAtMost, AreNumbers, HasWordBehindPairs, NoPairFirst}
+use Rattle.text_fields.specs.Counts.{AreAtMost, AreNumbers, HasWordAfterPairs, NoPairFirst}
 use Rattle.text_fields.specs.Operations.{Operations, IsSpelled}
 
 pub IfSome_then : {X : Type 0} {P Q : X → Type 0} (o : Option X) → IfSome o P → ((x : X) → P x → Q x) → IfSome o Q
@@ -21,10 +21,10 @@ pub below_numbers : (xs : List ℕ) → AreNumbers xs → AreAtMost (2 ^ 64 - 1)
 below_numbers [] h = tt
 below_numbers (x ∷ xs) h = (let lt : x < 2 ^ 64 = h.0 in omega arith, below_numbers xs h.1)
 
--- a word without a colon behind pairs
-pub behind_pairs : (xs ys all : List (List ℕ)) (word : List ℕ) (words : List (List ℕ)) → all ≡ xs ++ ys → ys ≡ word ∷ words → NoPairFirst ys → HasWordBehindPairs all
-behind_pairs [] ys all word words e f h = subst HasWordBehindPairs (sym (e ∙ f)) (inl (subst NoPairFirst f h))
-behind_pairs (x ∷ xs) ys all word words e f h = subst HasWordBehindPairs (sym e) (inr (behind_pairs xs ys (xs ++ ys) word words refl f h))
+-- a word without a colon after pairs
+pub after_pairs : (xs ys all : List (List ℕ)) (word : List ℕ) (words : List (List ℕ)) → all ≡ xs ++ ys → ys ≡ word ∷ words → NoPairFirst ys → HasWordAfterPairs all
+after_pairs [] ys all word words e f h = subst HasWordAfterPairs (sym (e ∙ f)) (inl (subst NoPairFirst f h))
+after_pairs (x ∷ xs) ys all word words e f h = subst HasWordAfterPairs (sym e) (inr (after_pairs xs ys (xs ++ ys) word words refl f h))
 
 -- ---- operations
 
@@ -46,10 +46,10 @@ drop_more zero xs = refl
 drop_more (suc k) [] = let same : suc k + 1 ≡ suc (k + 1) = omega arith in ap (λ (m : ℕ). drop {A = List ℕ} m []) same
 drop_more (suc k) (x ∷ xs) = let same : suc k + 1 ≡ suc (k + 1) = omega arith in ap (λ (m : ℕ). drop m (x ∷ xs)) same ∙ drop_more k xs
 
--- behind a first word the next two are taken, as far as they are there
-pub record AreTaken (all front left : List (List ℕ)) : Type 0 where
-  pub whole : all ≡ front ++ left
-  pub enough : (left ≡ []) ⊎ (length front ≡ 3)
+-- after a first word the next two are taken, as far as they are there
+pub record AreTaken (all prefix left : List (List ℕ)) : Type 0 where
+  pub whole : all ≡ prefix ++ left
+  pub enough : (left ≡ []) ⊎ (length prefix ≡ 3)
 
 pub three_taken : (first : List ℕ) (second third : Option (List ℕ)) (all one two three : List (List ℕ)) → all ≡ first ∷ one → Next second one two → Next third two three → AreTaken all (first ∷ further second third) three
 three_taken first None None all one two three e h k = record { whole = rw (e, h.0, k.1) refl; enough = inl k.1 }
@@ -57,11 +57,11 @@ three_taken first None (Some t) all one two three e h k = absurd (cc (h.1, k))
 three_taken first (Some s) None all one two three e h k = record { whole = rw (e, h, k.0, k.1) refl; enough = inl k.1 }
 three_taken first (Some s) (Some t) all one two three e h k = record { whole = rw (e, h, k) refl; enough = inr refl }
 
--- behind the operation that was spelled stands what is left
-pub spelled_front : (operations : Operations) (first : List ℕ) (all front one left : List (List ℕ)) (op used : ℕ) → all ≡ first ∷ one → AreTaken all front left → IsSpelled operations front op used → all ≡ operations.words op ++ drop used one
-spelled_front operations first all front one left op used e taken h =
-    let whole : all ≡ operations.words op ++ (h.behind ++ left) = taken.whole ∙ ap (λ (ws : List (List ℕ)). ws ++ left) h.whole ∙ append_assoc (operations.words op) h.behind left in
-    let dropped : drop (used + 1) all ≡ h.behind ++ left = ap (drop (used + 1)) whole ∙ drop_at (operations.words op) (h.behind ++ left) (used + 1) h.count in
+-- after the operation that was spelled stands what is left
+pub spelled_prefix : (operations : Operations) (first : List ℕ) (all prefix one left : List (List ℕ)) (op used : ℕ) → all ≡ first ∷ one → AreTaken all prefix left → IsSpelled operations prefix op used → all ≡ operations.words op ++ drop used one
+spelled_prefix operations first all prefix one left op used e taken h =
+    let whole : all ≡ operations.words op ++ (h.suffix ++ left) = taken.whole ∙ ap (λ (ws : List (List ℕ)). ws ++ left) h.whole ∙ append_assoc (operations.words op) h.suffix left in
+    let dropped : drop (used + 1) all ≡ h.suffix ++ left = ap (drop (used + 1)) whole ∙ drop_at (operations.words op) (h.suffix ++ left) (used + 1) h.count in
     let same : used + 1 ≡ suc used = omega arith in
     let here : drop (used + 1) all ≡ drop used one = ap (drop (used + 1)) e ∙ ap (λ (k : ℕ). drop k (first ∷ one)) same in
     whole ∙ ap (λ (ws : List (List ℕ)). operations.words op ++ ws) (sym dropped ∙ here)
@@ -71,18 +71,18 @@ empty_list [] e = refl
 empty_list (x ∷ xs) e = absurd (omega arith)
 
 -- where no operation was spelled by the words taken, none stands in front
-pub not_in_front : (operations : Operations) (all front left others : List (List ℕ)) (op : ℕ) → AreTaken all front left → IsTrue (operations.has op) → 0 < length (operations.words op) → length (operations.words op) ≤ 3
-    → ((op used : ℕ) → IsSpelled operations front op used → ⊥) → all ≡ operations.words op ++ others → ⊥
-not_in_front operations all front left others op taken has some few none e =
+pub not_in_prefix : (operations : Operations) (all prefix left others : List (List ℕ)) (op : ℕ) → AreTaken all prefix left → IsTrue (operations.has op) → 0 < length (operations.words op) → length (operations.words op) ≤ 3
+    → ((op used : ℕ) → IsSpelled operations prefix op used → ⊥) → all ≡ operations.words op ++ others → ⊥
+not_in_prefix operations all prefix left others op taken has some few none e =
     let words = operations.words op in
-    let joined : words ++ others ≡ front ++ left = sym e ∙ taken.whole in
-    let spelled : (zs : List (List ℕ)) → front ≡ words ++ zs → ⊥ = λ zs same. none op (length words - 1) (record { has = has; behind = zs; whole = same; count = omega arith }) in
-    elim (append_cases words front others left joined) [
+    let joined : words ++ others ≡ prefix ++ left = sym e ∙ taken.whole in
+    let spelled : (zs : List (List ℕ)) → prefix ≡ words ++ zs → ⊥ = λ zs same. none op (length words - 1) (record { has = has; suffix = zs; whole = same; count = omega arith }) in
+    elim (append_cases words prefix others left joined) [
       | inl longer ↦ spelled longer.0 longer.1
       | inr shorter ↦
-          let size : length words ≡ length front + length shorter.0 = ap length shorter.1 ∙ length-append front shorter.0 in
-          let sizes : length words + length others ≡ length front + length left = sym (length-append words others) ∙ ap length joined ∙ length-append front left in
+          let size : length words ≡ length prefix + length shorter.0 = ap length shorter.1 ∙ length-append prefix shorter.0 in
+          let sizes : length words + length others ≡ length prefix + length left = sym (length-append words others) ∙ ap length joined ∙ length-append prefix left in
           let none_left : length shorter.0 ≡ 0 = elim taken.enough [ inl nothing ↦ omega (arith, ap length nothing) | inr three ↦ omega arith ] in
-          let same : words ≡ front = shorter.1 ∙ ap (λ (ws : List (List ℕ)). front ++ ws) (empty_list shorter.0 none_left) ∙ append-nil front in
+          let same : words ≡ prefix = shorter.1 ∙ ap (λ (ws : List (List ℕ)). prefix ++ ws) (empty_list shorter.0 none_left) ∙ append-nil prefix in
           spelled [] (sym same ∙ sym (append-nil words))
     ]

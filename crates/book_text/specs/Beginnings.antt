@@ -11,25 +11,25 @@ use Rattle.book_text.specs.BookRules.{IsBookText, IsNoBookText}
 
 -- some text of a book begins with these bytes
 abbrev pub BeginsSomeText : Version → List ℕ → Type 0
-BeginsSomeText version front = (kind : Kind) × (book : List Page) × (more : List ℕ) × IsBookText version (front ++ more) kind book
+BeginsSomeText version prefix = (kind : Kind) × (book : List Page) × (more : List ℕ) × IsBookText version (prefix ++ more) kind book
 
 -- no text of a book begins with these bytes
 abbrev pub BeginsNoText : Version → List ℕ → Type 0
-BeginsNoText version front = (kind : Kind) (book : List Page) (more : List ℕ) → ¬ (IsBookText version (front ++ more) kind book)
+BeginsNoText version prefix = (kind : Kind) (book : List Page) (more : List ℕ) → ¬ (IsBookText version (prefix ++ more) kind book)
 
--- the bytes are so many whole lines: each is cut off at its line feed, and nothing is left after
+-- the bytes are this many whole lines: each is cut off at its line feed, and nothing is left after
 -- the last
 abbrev pub AreWholeLines : ℕ → List ℕ → Type 0
 AreWholeLines zero bytes = bytes ≡ []
 AreWholeLines (suc count) bytes = (line : List ℕ) × (rest : List ℕ) × (cut_at 10 bytes ≡ Some (line, rest)) × AreWholeLines count rest
 
 -- After the first whole lines stands a further whole line, with which no text of a book goes on.
-pub record BreaksText (version : Version) (front rest : List ℕ) (what : What) : Type 0 where
+pub record BreaksText (version : Version) (prefix rest : List ℕ) (what : What) : Type 0 where
   pub named : (what ≢ Cut) × (what ≢ Rest)
   pub line : List ℕ
-  pub behind : List ℕ
-  pub whole : cut_at 10 rest ≡ Some (line, behind)
-  pub none : BeginsNoText version (front ++ (line ++ 10 ∷ []))
+  pub suffix : List ℕ
+  pub whole : cut_at 10 rest ≡ Some (line, suffix)
+  pub none : BeginsNoText version (prefix ++ (line ++ 10 ∷ []))
 
 -- After the first whole lines the bytes have no further whole line.
 pub record EndsEarly (rest : List ℕ) (what : What) : Type 0 where
@@ -37,22 +37,22 @@ pub record EndsEarly (rest : List ℕ) (what : What) : Type 0 where
   pub none : cut_at 10 rest ≡ None
 
 -- The first whole lines are a book's text already, and bytes follow.
-pub record GoesOn (version : Version) (front rest : List ℕ) (what : What) : Type 0 where
+pub record GoesOn (version : Version) (prefix rest : List ℕ) (what : What) : Type 0 where
   pub named : what ≡ Rest
   pub kind : Kind
   pub book : List Page
-  pub text : IsBookText version front kind book
+  pub text : IsBookText version prefix kind book
   pub more : rest ≢ []
 
 -- A fault says where bytes leave the texts of books: some text begins with the lines before the fault's line, and none goes on
 -- with the fault's line, or that line isn't whole, or the lines before it are a whole text.
 pub record LeavesTexts (version : Version) (bytes : List ℕ) (fault : TextFault) : Type 0 where
   pub count : ℕ
-  pub front : List ℕ
+  pub prefix : List ℕ
   pub rest : List ℕ
   pub line : fault.line ≡ count + 1
-  pub bytes_are : bytes ≡ front ++ rest
-  pub lines : AreWholeLines count front
-  pub begins : BeginsSomeText version front
-  pub leaves : BreaksText version front rest fault.what ⊎ (EndsEarly rest fault.what ⊎ GoesOn version front rest fault.what)
+  pub bytes_are : bytes ≡ prefix ++ rest
+  pub lines : AreWholeLines count prefix
+  pub begins : BeginsSomeText version prefix
+  pub leaves : BreaksText version prefix rest fault.what ⊎ (EndsEarly rest fault.what ⊎ GoesOn version prefix rest fault.what)
   pub no_text : IsNoBookText version bytes

@@ -21,12 +21,12 @@ pub data BookDue : Type 0 where
   AtEnd : Kind → List Page → BookDue
 
 -- After the head come the calls.
-abbrev pub behind_head : HeadDue → BookDue
-behind_head TitleDue = InHead TitleDue
-behind_head ObjectDue = InHead ObjectDue
-behind_head (CallersDue kind) = InHead (CallersDue kind)
-behind_head (CountsDue kind n) = InHead (CountsDue kind n)
-behind_head (HeadRead kind calls) = InCalls kind (no_call_read calls).book (no_call_read calls).due
+abbrev pub after_head : HeadDue → BookDue
+after_head TitleDue = InHead TitleDue
+after_head ObjectDue = InHead ObjectDue
+after_head (CallersDue kind) = InHead (CallersDue kind)
+after_head (CountsDue kind n) = InHead (CountsDue kind n)
+after_head (HeadRead kind calls) = InCalls kind (no_call_read calls).book (no_call_read calls).due
 
 -- the lines of calls go on, within a text of this kind
 abbrev pub in_calls : Kind → Progress → BookDue
@@ -34,7 +34,7 @@ in_calls kind progress = InCalls kind progress.book progress.due
 
 -- the right lines of a book's text
 abbrev pub BookPasses : Version → BookDue → List (List ℕ) → BookDue → Type 0
-BookPasses version (InHead due) words after = (next : HeadDue) × HeadPasses version (codes "book") due words next × (after ≡ behind_head next)
+BookPasses version (InHead due) words after = (next : HeadDue) × HeadPasses version (codes "book") due words next × (after ≡ after_head next)
 BookPasses version (InCalls kind book []) words after = (words ≡ end_words) × (after ≡ AtEnd kind book)
 BookPasses version (InCalls kind book (call ∷ calls)) words after = (next : Progress) × CallPasses version (kind_operations version kind) book (call ∷ calls) words next × (after ≡ in_calls kind next)
 BookPasses version (AtEnd kind book) words after = ⊥

@@ -14,7 +14,7 @@ use Rattle.book_base.specs.Refusal.{MayAnswer, FailsTest}
 use Rattle.seq_objects.specs.Replies.{reply_word}
 use Rattle.text_fields.specs.declared.version.Version.{Version}
 use Rattle.text_fields.specs.declared.version.Version.TheVariants.{First, Second}
-use Rattle.text_fields.specs.Counts.{AreNumbers, cut_words, HasBadPair, HasWordBehindPairs}
+use Rattle.text_fields.specs.Counts.{AreNumbers, cut_words, HasBadPair, HasWordAfterPairs}
 use Rattle.text_fields.specs.Operations.{Operations}
 use Rattle.text_fields.specs.Lines.{Unread}
 use Rattle.text_fields.specs.Faults.{Wanted, ALine, Nothing, Rules, GoesTo, IsFirstFault, StopsFor}
@@ -37,30 +37,30 @@ call_words version operations call op answer = place_words call ++ (operations.w
 -- ---- what the tests of a line speak of
 
 -- after the caller, the number and an operation the line has these words
-pub record IsBehindOperation (operations : Operations) (call : Call) (words behind : List (List ℕ)) : Type 0 where
+pub record IsAfterOperation (operations : Operations) (call : Call) (words suffix : List (List ℕ)) : Type 0 where
   pub op : ℕ
   pub has : IsTrue (operations.has op)
-  pub text : words ≡ place_words call ++ (operations.words op ++ behind)
+  pub text : words ≡ place_words call ++ (operations.words op ++ suffix)
 
 -- after the reply the line has these words
-pub record IsBehindReply (operations : Operations) (call : Call) (words behind : List (List ℕ)) : Type 0 where
+pub record IsAfterReply (operations : Operations) (call : Call) (words suffix : List (List ℕ)) : Type 0 where
   pub reply : ℕ
   pub small : reply < 2 ^ 64
-  pub text : IsBehindOperation operations call words (reply_word reply ∷ behind)
+  pub text : IsAfterOperation operations call words (reply_word reply ∷ suffix)
 
--- after the reply the line has this view of so many callers, and nothing else
+-- after the reply the line has this view of this many callers, and nothing else
 pub record HasView (version : Version) (operations : Operations) (n : ℕ) (call : Call) (words : List (List ℕ)) (view : List ℕ) : Type 0 where
   pub wide : length view ≡ n
   pub numbers : AreNumbers view
-  pub text : IsBehindReply operations call words (codes "view" ∷ cut_words version view)
+  pub text : IsAfterReply operations call words (codes "view" ∷ cut_words version view)
 
--- the words are this view, of so many callers
+-- the words are this view, of this many callers
 abbrev pub AreView : Version → ℕ → List ℕ → List (List ℕ) → Type 0
 AreView version n view words = (length view ≡ n) × AreNumbers view × (words ≡ codes "view" ∷ cut_words version view)
 
 -- the next word isn't 'view'
 abbrev pub LacksViewWord : List (List ℕ) → Type 0
-LacksViewWord words = (behind : List (List ℕ)) → words ≢ codes "view" ∷ behind
+LacksViewWord words = (suffix : List (List ℕ)) → words ≢ codes "view" ∷ suffix
 
 -- The words after the reply are no view. In version 1 they aren't 'view' and as many numbers as
 -- there are callers. In version 2 there are four cases: the next word isn't 'view'; of the pair
@@ -68,25 +68,25 @@ LacksViewWord words = (behind : List (List ℕ)) → words ≢ codes "view" ∷ 
 -- above 0, or its caller isn't above that of the pair before it; or a word follows them.
 abbrev pub IsNoView : Version → ℕ → List (List ℕ) → Type 0
 IsNoView First n words = (view : List ℕ) → length view ≡ n → AreNumbers view → words ≢ codes "view" ∷ cut_words First view
-IsNoView Second n words = LacksViewWord words ⊎ ((behind : List (List ℕ)) × (words ≡ codes "view" ∷ behind) × (HasBadPair n 0 behind ⊎ HasWordBehindPairs behind))
+IsNoView Second n words = LacksViewWord words ⊎ ((suffix : List (List ℕ)) × (words ≡ codes "view" ∷ suffix) × (HasBadPair n 0 suffix ⊎ HasWordAfterPairs suffix))
 
 -- ---- the tests of a line, by itself
 
--- A line for this call, in a text of so many callers, fails a test that needs no other view. After a gap, an unanswered call
+-- A line for this call, in a text of this many callers, fails a test that needs no other view. After a gap, an unanswered call
 -- of the same caller, a call is unanswered.
 abbrev pub EntryFails : Version → Operations → ℕ → Bool → Call → List (List ℕ) → What → Type 0
 -- the line doesn't begin with the caller and the number that are due
-EntryFails version operations n gap call words what.Place = (behind : List (List ℕ)) → words ≢ place_words call ++ behind
+EntryFails version operations n gap call words what.Place = (suffix : List (List ℕ)) → words ≢ place_words call ++ suffix
 -- the next words are no operation
-EntryFails version operations n gap call words what.Op = (behind : List (List ℕ)) × (words ≡ place_words call ++ behind)
-    × ((op : ℕ) (others : List (List ℕ)) → IsTrue (operations.has op) → behind ≢ operations.words op ++ others)
+EntryFails version operations n gap call words what.Op = (suffix : List (List ℕ)) × (words ≡ place_words call ++ suffix)
+    × ((op : ℕ) (others : List (List ℕ)) → IsTrue (operations.has op) → suffix ≢ operations.words op ++ others)
 -- words follow the operation, and an earlier call of this caller is unanswered
-EntryFails version operations n gap call words what.Gap = (behind : List (List ℕ)) × IsBehindOperation operations call words behind × (behind ≢ []) × (gap ≡ true)
+EntryFails version operations n gap call words what.Gap = (suffix : List (List ℕ)) × IsAfterOperation operations call words suffix × (suffix ≢ []) × (gap ≡ true)
 -- the next word is no reply
-EntryFails version operations n gap call words what.Reply = (word : List ℕ) × (behind : List (List ℕ)) × IsBehindOperation operations call words (word ∷ behind)
+EntryFails version operations n gap call words what.Reply = (word : List ℕ) × (suffix : List (List ℕ)) × IsAfterOperation operations call words (word ∷ suffix)
     × ((reply : ℕ) → reply < 2 ^ 64 → reply_word reply ≢ word)
 -- the next words are no view
-EntryFails version operations n gap call words what.View = (behind : List (List ℕ)) × IsBehindReply operations call words behind × IsNoView version n behind
+EntryFails version operations n gap call words what.View = (suffix : List (List ℕ)) × IsAfterReply operations call words suffix × IsNoView version n suffix
 EntryFails version operations n gap call words _ = ⊥
 
 -- ---- the tests of a view
@@ -211,14 +211,14 @@ abbrev pub AreStopped : Version → Operations → List Call → List Page → U
 AreStopped version operations calls book text fault = (more : List Call)
     → StopsFor (call_rules version operations) (reading book (calls ++ more)) text fault
 
--- The text begins with the lines of a book's calls, so many of each caller, and leaves the rest unread.
+-- The text begins with the lines of a book's calls, this many of each caller, and leaves the rest unread.
 abbrev pub AreCallLines : Version → Operations → List ℕ → List Page → Unread → Unread → Type 0
 AreCallLines version operations calls book text left = GoesTo (call_rules version operations) (no_call_read calls) text (reading book []) left
 
--- Why lines of calls, so many of each caller, aren't read: want of memory, or their first fault.
+-- Why lines of calls, this many of each caller, aren't read: want of memory, or their first fault.
 abbrev pub AreNoCallLines : Version → Operations → List ℕ → Unread → ReadFault → Type 0
 AreNoCallLines version operations calls text fault = StopsFor (call_rules version operations) (no_call_read calls) text fault
 
--- The first fault of lines of calls, so many of each caller.
+-- The first fault of lines of calls, this many of each caller.
 abbrev pub IsFirstCallFault : Version → Operations → List ℕ → Unread → TextFault → Type 0
 IsFirstCallFault version operations calls text fault = IsFirstFault (call_rules version operations) (no_call_read calls) text fault

@@ -55,8 +55,8 @@ pub fn take_place(words: &mut Words, call: Call) -> Option<()>
     // are taken.
     ensures found { IfSome result (λ _. words.old ≡ place_words call ++ words.new) }
     // An answer None comes only where the words don't begin with the call's caller and number.
-    ensures none { IfNone result ((behind : List (List ℕ))
-        → words.old ≢ place_words call ++ behind) }
+    ensures none { IfNone result ((suffix : List (List ℕ))
+        → words.old ≢ place_words call ++ suffix) }
 {
     take_due(words, u64::from(call.caller))?;
     take_due(words, call.number)
@@ -65,7 +65,7 @@ pub fn take_place(words: &mut Words, call: Call) -> Option<()>
 /// Takes the next word, which is to be this number.
 fn take_due(words: &mut Words, due: u64) -> Option<()>
     ensures found { IfSome result (λ _. words.old ≡ decimal due ∷ words.new) }
-    ensures none { IfNone result ((behind : List (List ℕ)) → words.old ≢ decimal due ∷ behind) }
+    ensures none { IfNone result ((suffix : List (List ℕ)) → words.old ≢ decimal due ∷ suffix) }
 {
     let n = next_number(words, due)?;
     if n == due { Some(()) } else { None }

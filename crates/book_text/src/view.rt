@@ -52,7 +52,7 @@ pub fn take_word(words: &mut Words, wanted: &[u8]) -> Option<()>
     // An answer Some comes only where the next word was this, and it is taken.
     ensures found { IfSome result (λ _. words.old ≡ wanted.now ∷ words.new) }
     // An answer None comes only where the next word isn't this.
-    ensures none { IfNone result ((behind : List (List ℕ)) → words.old ≢ wanted.now ∷ behind) }
+    ensures none { IfNone result ((suffix : List (List ℕ)) → words.old ≢ wanted.now ∷ suffix) }
 {
     if words.next()? == wanted {
         Some(())

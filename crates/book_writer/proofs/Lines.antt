@@ -10,11 +10,11 @@ use Rattle.text_fields.specs.Counts.{pair_word, pair_words}
 use Rattle.text_fields.specs.OperationLaws.{few_operation_words}
 use Rattle.book_writer.specs.Fields.{spaced}
 
--- two pieces, one behind the other
+-- two pieces, one after the other
 pub both_pieces : (old middle new a b : List ℕ) → middle ≡ old ++ a → new ≡ middle ++ b → new ≡ old ++ (a ++ b)
 both_pieces old middle new a b h k = k ∙ ap (λ (x : List ℕ). x ++ b) h ∙ append_assoc old a b
 
--- the words of a line are its first word and the others, each behind a space
+-- the words of a line are its first word and the others, each after a space
 pub join-spaced : (word : List ℕ) (words : List (List ℕ)) → join_with_byte 32 (word ∷ words) ≡ word ++ spaced words
 join-spaced word [] = sym (append-nil word)
 join-spaced word (next ∷ words) = ap (λ (x : List ℕ). word ++ 32 ∷ x) (join-spaced next words)
@@ -30,7 +30,7 @@ pub spaced-join : (words : List (List ℕ)) → 0 < length words → spaced word
 spaced-join [] some = absurd (omega arith)
 spaced-join (word ∷ words) some = ap (λ (x : List ℕ). 32 ∷ x) (sym (join-spaced word words))
 
--- what is written of a line so far: its first word, and others behind it
+-- what is written of a line so far: its first word, and others after it
 pub record IsLine (old new word : List ℕ) (words : List (List ℕ)) : Type 0 where
   pub text : new ≡ old ++ (word ++ spaced words)
 
@@ -50,7 +50,7 @@ pub line_ends : (old middle new word : List ℕ) (words : List (List ℕ)) → I
 line_ends old middle new word words h k =
     both_pieces old middle new (word ++ spaced words) (10 ∷ []) h.text k ∙ ap (λ (x : List ℕ). old ++ (x ++ 10 ∷ [])) (sym (join-spaced word words))
 
--- the words of an operation, each behind a space
+-- the words of an operation, each after a space
 pub spaced-operation : (kind : Kind) (op : ℕ) → spaced (operation_words kind op) ≡ 32 ∷ operation_text kind op
 unfolding operation_text
 spaced-operation kind op = spaced-join (operation_words kind op) (omega (arith, (few_operation_words kind op).some))

@@ -2,7 +2,7 @@
 use Rattle.std.proofs.Common.{◌≡◌, ◌⊎◌, ◌∙◌, ℕ, ◌<◌, List, [], ◌++◌, length, filter_map, Some, sym, ap, inl, inr, slice_get, arith}
 use Rattle.std.proofs.lemmas.Bool.{cases_lt}
 use Rattle.std.proofs.lemmas.Option.{slice_get_within}
-use Rattle.list_laws.proofs.Fronts.{slice_get-append_within}
+use Rattle.list_laws.proofs.Prefixes.{slice_get-append_within}
 use Rattle.book_base.specs.declared.call.Call.{Call}
 use Rattle.book_base.specs.Book.{Page, IsCall, Precedes}
 use Rattle.book_base.specs.Sequential.{IsRunFrom}
@@ -20,12 +20,12 @@ use Rattle.object_foresight.proofs.Dealing.{puts_by_deal, takes_by_deal}
 use Rattle.broken_rules.proofs.Standing.{taker_of_step, putter_of_step}
 
 -- From an empty queue, what is taken was put in, and what was put in before that is taken before.
-queue_front : (reading : Reading) (next : List ℕ → ℕ → List ℕ × ℕ) → IsQueue reading next → (list : List ℕ) (steps : List (ℕ × ℕ)) → IsRunFrom next list steps → reading.values list ≡ []
+queue_prefix : (reading : Reading) (next : List ℕ → ℕ → List ℕ × ℕ) → IsQueue reading next → (list : List ℕ) (steps : List (ℕ × ℕ)) → IsRunFrom next list steps → reading.values list ≡ []
     → (b m : ℕ) (step_m : ℕ × ℕ) → slice_get steps m ≡ Some step_m → taken_by reading step_m ≡ Some b
     → (k : ℕ) × (step : ℕ × ℕ) × (slice_get steps k ≡ Some step) × (put_by reading step ≡ Some b)
     × ((a j : ℕ) (step_j : ℕ × ℕ) → j < k → slice_get steps j ≡ Some step_j → put_by reading step_j ≡ Some a
     → (i : ℕ) × (step_i : ℕ × ℕ) × (i < m) × (slice_get steps i ≡ Some step_i) × (taken_by reading step_i ≡ Some a))
-queue_front reading next is list steps run empty b m step_m at_m is_m =
+queue_prefix reading next is list steps run empty b m step_m at_m is_m =
     let puts : List ℕ = filter_map (put_by reading) steps in
     let taken : List ℕ = filter_map (taken_by reading) steps in
     let end : List ℕ = reading.values (list_after_run next list steps) in
@@ -64,11 +64,11 @@ passed_over reading init next book is none v w put taker puts takes later follow
     let legal = h.1 in
     let steps = steps_of book order in
     let m = answered_step reading init next book order legal taker (Some w) (takes_by_deal reading book taker w takes) in
-    let front = queue_front reading next is init steps legal.run none w m.0 m.1 m.3 (takes_by reading m.1 w m.4 m.5) in
-    let putter = putter_of_step reading init next book order legal front.0 w front.1 front.2 front.3 in
-    let q = preceding_comes_first init next book put putter.0 (later putter.0 putter.2 putter.3) order legal front.0 putter.1 in
+    let prefix = queue_prefix reading next is init steps legal.run none w m.0 m.1 m.3 (takes_by reading m.1 w m.4 m.5) in
+    let putter = putter_of_step reading init next book order legal prefix.0 w prefix.1 prefix.2 prefix.3 in
+    let q = preceding_comes_first init next book put putter.0 (later putter.0 putter.2 putter.3) order legal prefix.0 putter.1 in
     let step = putting_step reading book order put v q.0 (puts_by_deal reading book put v puts) q.2 in
-    let out = front.4 v q.0 step.0 q.1 step.1 (puts_by reading step.0 v step.2) in
+    let out = prefix.4 v q.0 step.0 q.1 step.1 (puts_by reading step.0 v step.2) in
     let other = taker_of_step reading init next book order legal out.0 v out.1 out.3 out.4 in
     let late : m.0 < out.0 = legal.precedence m.0 out.0 taker other.0 m.2 other.1 (follow other.0 other.2 other.3) in
     absurd (omega (arith, late, out.2))

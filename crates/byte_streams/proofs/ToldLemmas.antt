@@ -6,7 +6,7 @@ use Rattle.std.specs.Io.KnownBytes.{Appends, Consumes, IsAtEnd}
 use Rattle.byte_streams.specs.Told.{HasRead}
 use Rattle.byte_streams.specs.declared.TheConstants.{INPUT_LIMIT}
 
--- a sink that took a text up to a place, and then the first bytes of the rest, took it up to the place behind them
+-- a sink that took a text up to a place, and then the first bytes of the rest, took it up to the place after them
 pub Appends-take : (a b c : Option (List ℕ)) (text : List ℕ) (at count : ℕ) → Appends a b (take at text)
     → Appends b c (take count (take (length text - at) (drop at text))) → Appends a c (take (at + count) text)
 Appends-take a b c text at count before now =

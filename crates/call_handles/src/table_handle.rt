@@ -30,7 +30,7 @@ impl TableHandle {
     ghost use Rattle.call_handles.specs.Monitors.{IsSoundMonitor};
     ghost use Rattle.call_handles.specs.Tables.{rows_in, kind_in, next_of, IsSoundTable, GivesNext, IsFreshOf, IsFreshMonitorOf};
 
-    /// A table for so many callers with so many calls each.
+    /// A table for this many callers with this many calls each.
     pub fn open(
         alloc: Global,
         kind: Kind,

@@ -15,12 +15,12 @@ use Rattle.call_intervals.specs.Intervals.{rows_of, IsIntervalOf, IsLaneOf, Stan
 use Rattle.call_intervals.proofs.IntervalLemmas.{ends_before, precedes_later, lies_within}
 
 -- These are the intervals of a caller's first calls, by number.
-pub record IsFrontOf (book : List Page) (events : List Event) (caller : ℕ) (lane : List Interval) : Type 0 where
+pub record IsPrefixOf (book : List Page) (events : List Event) (caller : ℕ) (lane : List Interval) : Type 0 where
   pub named : (number : ℕ) (interval : Interval) → slice_get lane number ≡ Some interval → interval.call ≡ record { caller = caller; number = number }
   pub told : (number : ℕ) (interval : Interval) → slice_get lane number ≡ Some interval → IsIntervalOf book events interval
 
-pub front_none : (book : List Page) (events : List Event) (caller : ℕ) (lane : List Interval) → lane ≡ [] → IsFrontOf book events caller lane
-front_none book events caller lane empty =
+pub prefix_none : (book : List Page) (events : List Event) (caller : ℕ) (lane : List Interval) → lane ≡ [] → IsPrefixOf book events caller lane
+prefix_none book events caller lane empty =
     let none : (number : ℕ) (interval : Interval) → slice_get lane number ≡ Some interval → ⊥ = λ number interval at.
     none-some interval (sym (ap (λ (xs : List Interval). slice_get xs number) empty) ∙ at) in
     record {
@@ -28,26 +28,26 @@ front_none book events caller lane empty =
       told = λ number interval at. absurd (none number interval at);
     }
 
-pub front_more : (book : List Page) (events : List Event) (caller : ℕ) (lane : List Interval) (interval : Interval) → IsFrontOf book events caller lane
-    → interval.call ≡ record { caller = caller; number = length lane } → IsIntervalOf book events interval → IsFrontOf book events caller (lane ++ interval ∷ [])
-front_more book events caller lane interval front named told = record {
+pub prefix_more : (book : List Page) (events : List Event) (caller : ℕ) (lane : List Interval) (interval : Interval) → IsPrefixOf book events caller lane
+    → interval.call ≡ record { caller = caller; number = length lane } → IsIntervalOf book events interval → IsPrefixOf book events caller (lane ++ interval ∷ [])
+prefix_more book events caller lane interval prefix named told = record {
   named = λ number other at. elim (slice_get-push_cases lane interval number other at) [
-    | inl old ↦ front.named number other old
+    | inl old ↦ prefix.named number other old
     | inr new ↦ let made : ℕ → Call = λ n. record { caller = caller; number = n } in ap (λ (x : Interval). x.call) new.1 ∙ (named ∙ ap made (sym new.0))
   ];
   told = λ number other at. elim (slice_get-push_cases lane interval number other at) [
-    | inl old ↦ front.told number other old
+    | inl old ↦ prefix.told number other old
     | inr new ↦ subst (IsIntervalOf book events) (sym new.1) told
   ];
 }
 
 -- the intervals of all calls of a caller are its lane
-pub front_whole : (book : List Page) (events : List Event) (caller : ℕ) (lane : List Interval) → IsFrontOf book events caller lane
+pub prefix_whole : (book : List Page) (events : List Event) (caller : ℕ) (lane : List Interval) → IsPrefixOf book events caller lane
     → length lane ≡ calls_of book caller → IsLaneOf book events caller lane
-front_whole book events caller lane front all = record {
+prefix_whole book events caller lane prefix all = record {
   calls = λ number. (λ less. omega (arith, less), λ is. omega (arith, is));
-  named = front.named;
-  told = front.told;
+  named = prefix.named;
+  told = prefix.told;
 }
 
 -- Each caller of a book has its lane.

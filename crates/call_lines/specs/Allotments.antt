@@ -5,7 +5,7 @@ use Rattle.call_lines.specs.declared.line.Line.{Line}
 use Rattle.call_lines.specs.Lines.{lines_at, is_error, any_error}
 use Rattle.call_lines.specs.Phases.{published_by}
 
--- The phases of a caller with so many calls: up to its stop, where it has one, else all five of each call.
+-- The phases of a caller with this many calls: up to its stop, where it has one, else all five of each call.
 abbrev pub phases_for : Option ℕ → ℕ → ℕ
 phases_for None calls = 5 * calls
 phases_for (Some stop) calls = stop

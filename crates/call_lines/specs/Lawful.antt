@@ -22,7 +22,7 @@ pub record IsAllotted (operations : List ℕ) (allotment : ℕ) (own : List Line
   pub marks : marks_of (map made_of own) ≡ marks_after (phases_of allotment own)
   pub keeps : KeepsTo allotment own
 
--- How the seen cuts fit, where the callers have published so many records: each has a count for each caller, none above what that
+-- How the seen cuts fit, where the callers have published this many records: each has a count for each caller, none above what that
 -- caller published, and holds its own call as the last of its caller; and any two are comparable.
 pub record AreSeen (published : List ℕ) (lines : List (List Line)) : Type 0 where
   pub wide : (call : Call) (cut : List ℕ) → seen_at lines call ≡ Some cut → length cut ≡ length lines

@@ -38,7 +38,7 @@ mark_of Is_announced = Announced
 mark_of (Has_record r) = Recorded
 mark_of (Has_seen r cut) = Seen
 
--- The mark of the call that is under way, so many phases after the calls before it were judged: none where it isn't announced.
+-- The mark of the call that is under way, this many phases after the calls before it were judged: none where it isn't announced.
 abbrev pub mark_under_way : ℕ → List Mark
 mark_under_way phases = if phases == 0 then [] else (if nat_lt phases 3 then Announced ∷ [] else Recorded ∷ [])
 

@@ -144,7 +144,7 @@ pub fn lines_tell_of_calls()
     // Of the three callers the second one has an error.
     ensures has_error { map (λ i. any_error (lines_at worked_lines i)) (0 ∷ 1 ∷ 2 ∷ []) ≡ false ∷ true ∷ false ∷ [] }
     // A caller has an error also where a line before it is delivered.
-    ensures error_behind { any_error (delivered 5 first [] ∷ failed 6 second [] ∷ []) ≡ true }
+    ensures error_after { any_error (delivered 5 first [] ∷ failed 6 second [] ∷ []) ≡ true }
 {}
 
 /// How many phases callers are given, by their calls, stops and turns, and how many they make.
@@ -213,7 +213,7 @@ pub fn lines_are_those_of_the_allotment()
     // After ten phases no second line is left out after a delivered one.
     ensures left_out { ¬ IsAllotted (5 ∷ 7 ∷ []) 10 (delivered 5 first [] ∷ []) }
     // After an error there is no line.
-    ensures behind_an_error { ¬ IsAllotted (5 ∷ 7 ∷ []) 10 (failed 5 first [] ∷ delivered 7 first [] ∷ []) }
+    ensures after_an_error { ¬ IsAllotted (5 ∷ 7 ∷ []) 10 (failed 5 first [] ∷ delivered 7 first [] ∷ []) }
     // The lines of a caller stand in the order of its operations.
     ensures another_order { ¬ IsAllotted (5 ∷ 7 ∷ []) 10 (delivered 7 first [] ∷ delivered 5 first [] ∷ []) }
     // A caller has no more lines than operations.

@@ -14,11 +14,11 @@ use Rattle.call_lines.specs.declared.line.LineEnd.{LineEnd}
 use Rattle.call_lines.specs.declared.line.LineEnd.TheVariants.{Pending, Unchecked, Delivered, Error}
 use Rattle.call_lines.specs.Workers.{IsJudgedBy}
 use Rattle.enforcer.specs.Recorded.{is_announcing}
-use Rattle.enforcer.specs.Lines.{IsVerdictOn, stance_behind}
+use Rattle.enforcer.specs.Lines.{IsVerdictOn, stance_after}
 use Rattle.call_phases.specs.declared.ended.Ended.{Ended}
 use Rattle.call_phases.specs.declared.ended.Ended.TheVariants.{GoesOn, Halts}
 use Rattle.call_phases.specs.Ends.{Sequential, SaysJudged}
-use Rattle.call_phases.specs.Endings.{caller_ended, StandsBehind, FitsError, SaysOf, IsEndedBy}
+use Rattle.call_phases.specs.Endings.{caller_ended, StandsAfter, FitsError, SaysOf, IsEndedBy}
 
 announcing_is : (phase : Phase) → is_announcing phase ≡ true → phase ≡ Announcing
 announcing_is Announcing h = refl
@@ -47,11 +47,11 @@ module _ {P : Type 0} where
   caller_is c (Delivered r cut) e is = ap caller_ended is
   caller_is c (Error r cut) e is = ap caller_ended is
 
-  pub stands_behind : (c : Caller P) (end : LineEnd) (e : Ended P) → IsEndedBy c end e → IsIdle (local_with c) → stance_of c ≡ stance_behind end → StandsBehind e
-  stands_behind c Pending e is idle stance = subst (λ (x : Ended P). StandsBehind x) (sym is) (record { idle = idle; stance = stance })
-  stands_behind c (Unchecked r) e is idle stance = subst (λ (x : Ended P). StandsBehind x) (sym is) (record { idle = idle; stance = stance })
-  stands_behind c (Delivered r cut) e is idle stance = subst (λ (x : Ended P). StandsBehind x) (sym is) (record { idle = idle; stance = stance })
-  stands_behind c (Error r cut) e is idle stance = subst (λ (x : Ended P). StandsBehind x) (sym is) (ap (λ (s : Stance). s.live) stance)
+  pub stands_after : (c : Caller P) (end : LineEnd) (e : Ended P) → IsEndedBy c end e → IsIdle (local_with c) → stance_of c ≡ stance_after end → StandsAfter e
+  stands_after c Pending e is idle stance = subst (λ (x : Ended P). StandsAfter x) (sym is) (record { idle = idle; stance = stance })
+  stands_after c (Unchecked r) e is idle stance = subst (λ (x : Ended P). StandsAfter x) (sym is) (record { idle = idle; stance = stance })
+  stands_after c (Delivered r cut) e is idle stance = subst (λ (x : Ended P). StandsAfter x) (sym is) (record { idle = idle; stance = stance })
+  stands_after c (Error r cut) e is idle stance = subst (λ (x : Ended P). StandsAfter x) (sym is) (ap (λ (s : Stance). s.live) stance)
 
   pub fits_error : (c : Caller P) (end : LineEnd) (e : Ended P) → IsEndedBy c end e → FitsError e
   fits_error c Pending e is = subst (λ (x : Ended P). FitsError x) (sym is) (λ op. refl)

@@ -67,8 +67,8 @@ dec_word x y =
     ]
 
 nowhere : (xs : List Peeked) (y x : Peeked) → (y ≡ x → ⊥) → (Contains xs x → ⊥) → (k : ℕ) → k < length (y ∷ xs) → slice_index_or (y ∷ xs) k x ≡ x → ⊥
-nowhere xs y x other behind zero low is = other is
-nowhere xs y x other behind (suc k) low is = behind (k, omega (arith, low), is)
+nowhere xs y x other suffix zero low is = other is
+nowhere xs y x other suffix (suc k) low is = suffix (k, omega (arith, low), is)
 
 dec_peeked : (xs : List Peeked) (x : Peeked) → Dec (Contains xs x)
 dec_peeked [] x = no (λ (h : Contains [] x). omega (arith, h.1))
@@ -77,7 +77,7 @@ dec_peeked (y ∷ xs) x =
       | yes is ↦ yes (0, omega arith, is)
       | no other ↦ elim (dec_peeked xs x) [
         | yes there ↦ yes (suc there.0, omega (arith, there.1), there.2)
-        | no behind ↦ no (λ (h : Contains (y ∷ xs) x). nowhere xs y x other behind h.0 h.1 h.2)
+        | no suffix ↦ no (λ (h : Contains (y ∷ xs) x). nowhere xs y x other suffix h.0 h.1 h.2)
       ]
     ]
 

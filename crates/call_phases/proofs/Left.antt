@@ -17,7 +17,7 @@ use Rattle.call_phases.specs.declared.stand.Stand.TheVariants.{Idle, Announced, 
 use Rattle.call_phases.specs.Stands.{local_at_stand, phases_at}
 use Rattle.call_phases.specs.Course.{EndsInError, HasCome}
 use Rattle.call_phases.specs.Finishing.{end_at, is_unjudged, IsLeftStanding, stance_left}
-use Rattle.call_phases.proofs.Leaving.{error_among}
+use Rattle.call_phases.proofs.ReadOnly.{error_among}
 
 -- lines that end in an error have one
 ends_with_error : (own : List Line) → EndsInError own → any_error own ≡ true

@@ -32,7 +32,7 @@ one_more_line says [] (first ∷ own) call line h one = absurd h
 one_more_line says (c ∷ calls) [] call line h one = absurd h
 one_more_line says (c ∷ calls) (first ∷ own) call line h one = (h.0, one_more_line says calls own call line h.1 one)
 
--- no error among some lines, and none behind them
+-- no error among some lines, and none after them
 any_with : (a b c : Bool) → (a || b) ≡ false → (b ≡ false → c ≡ false) → (a || c) ≡ false
 any_with true b c none more = none
 any_with false b c none more = more none

@@ -14,7 +14,7 @@ use Rattle.enforcer.specs.declared.published_call.Published.{Published}
 use Rattle.enforcer.specs.declared.seen_call.Seen.{Seen}
 use Rattle.enforcer.specs.States.{caller_published, reply_published, view_published, caller_seen, reply_seen, view_seen, cut_seen}
 use Rattle.call_phases.specs.declared.ended.Ended.{Ended}
-use Rattle.call_phases.specs.Endings.{record_published, record_seen, caller_ended, local_ended, HasEnded, StandsBehind, FitsError, SaysOf}
+use Rattle.call_phases.specs.Endings.{record_published, record_seen, caller_ended, local_ended, HasEnded, StandsAfter, FitsError, SaysOf}
 
 module _ {P : Type 0} (meaning : P → ℕ → ℕ → Meaning) (r : Rows P) (says : ℕ → Local → Record → List ℕ → LineEnd → Type 0) where
   pub has_ended : (p : Published P) (s : Seen P) (e : Ended P)
@@ -22,7 +22,7 @@ module _ {P : Type 0} (meaning : P → ℕ → ℕ → Meaning) (r : Rows P) (sa
       → progress_of (local_with (caller_seen s)) ≡ after_seeing (cut_seen s) (progress_of (local_with (caller_published p)))
       → Grows (local_with (caller_published p)) (local_with (caller_seen s))
       → IsStill meaning r (caller_seen s) (caller_ended e) → progress_of (local_ended e) ≡ progress_of (local_with (caller_seen s))
-      → Grows (local_with (caller_seen s)) (local_ended e) → StandsBehind e → FitsError e → SaysOf (says r.callers) (record_seen s) (cut_seen s) e
+      → Grows (local_with (caller_seen s)) (local_ended e) → StandsAfter e → FitsError e → SaysOf (says r.callers) (record_seen s) (cut_seen s) e
       → HasEnded meaning r says p e
   has_ended p s e still same progress grows still' progress' grows' stands error says_of =
       let is : record_seen s ≡ record_published p =

@@ -6,7 +6,7 @@ use Rattle.call_phases.specs.Stands.{phases_at, GoesOnFrom}
 use Rattle.call_phases.specs.Clients.{Spent}
 
 module _ {P : Type 0} where
-  -- by exactly so many phases, wherever the caller then stands
+  -- by exactly this many phases, wherever the caller then stands
   pub spent_by : (allotment lines : ℕ) (s : Stand P) → phases_at lines s ≡ allotment → Spent allotment lines s
   spent_by allotment lines (Idle c) is = is
   spent_by allotment lines (Announced a) is = is

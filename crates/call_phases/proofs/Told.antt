@@ -123,7 +123,7 @@ module _ {P : Type 0} (meaning : P → ℕ → ℕ → Meaning) (r : Rows P) (sa
             asked.told_is;
       }
 
-  -- what was told before the last phase is told behind it, wherever the caller then stands
+  -- what was told before the last phase is told after it, wherever the caller then stands
   seen_told : (p : Published P) (e : Ended P) (end : HasEnded meaning r says p e) (pairs : List (ℕ × ℕ)) → HasTold (at.Published p) own pairs
       → IsTold (5 * (length own + 1)) (progress_of (local_ended e)).calls pairs
   seen_told p e end pairs t =

@@ -12,7 +12,7 @@ use Rattle.call_phases.specs.declared.stand.Stand.{Stand}
 use Rattle.call_phases.specs.declared.stand.Stand.TheVariants.{Halted, Unjudged}
 use Rattle.call_phases.specs.declared.client.Client.{Client}
 
--- A caller that stands there after so many lines has spent an allotment of phases: it has made all
+-- A caller that stands there after this many lines has spent an allotment of phases: it has made all
 -- of them, or halted within them.
 abbrev pub Spent : {P : Type 0} → ℕ → ℕ → Stand P → Type 0
 Spent allotment lines (Halted c) = 5 * lines ≤ allotment

@@ -45,7 +45,7 @@ module _ {P : Type 0} where
 
   -- The last of these pairs is that of the call that was answered last, until its view is taken.
   abbrev pub EndsAnswered : Stand P → List (ℕ × ℕ) → Type 0
-  EndsAnswered (Answered a) pairs = (front : List (ℕ × ℕ)) × (pairs ≡ front ++ (op_answered a, reply_answered a) ∷ [])
+  EndsAnswered (Answered a) pairs = (prefix : List (ℕ × ℕ)) × (pairs ≡ prefix ++ (op_answered a, reply_answered a) ∷ [])
   EndsAnswered _ pairs = Unit {0}
 
   -- The pairs are what an object tells of a client's calls up to this stand.
@@ -53,7 +53,7 @@ module _ {P : Type 0} where
     pub told : IsTold (phases_at (length own) s) (calls_in (local_at_stand s)) pairs
     pub last : EndsAnswered s pairs
 
-  -- A pass with which so many calls were made, and that tells these pairs, has come along: the object was asked for exactly the calls
+  -- A pass with which this many calls were made, and that tells these pairs, has come along: the object was asked for exactly the calls
   -- whose second phase was made, and what is told, where anything is, is what was asked and answered.
   pub record HasAskedFor (made : ℕ) (told : Option (List (ℕ × ℕ))) (s : Stand P) (own : List Line) : Type 0 where
     pub made_is : made ≡ asked (phases_at (length own) s)

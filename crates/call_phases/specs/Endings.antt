@@ -47,10 +47,10 @@ module _ {P : Type 0} where
 
   -- A caller goes on after a line that isn't an error, and is halted after one that is, and where
   -- memory was wanted.
-  abbrev pub StandsBehind : Ended P → Type 0
-  StandsBehind (GoesOn c end) = IsFree c
-  StandsBehind (Halts c end) = (stance_of c).live ≡ false
-  StandsBehind (WantsMemory u) = (stance_of u.caller).live ≡ false
+  abbrev pub StandsAfter : Ended P → Type 0
+  StandsAfter (GoesOn c end) = IsFree c
+  StandsAfter (Halts c end) = (stance_of c).live ≡ false
+  StandsAfter (WantsMemory u) = (stance_of u.caller).live ≡ false
 
   -- The line of a caller that goes on is no error, and that of one that is halted is one.
   abbrev pub FitsError : Ended P → Type 0
@@ -85,7 +85,7 @@ module _ {P : Type 0} where
     pub still : IsStill meaning r (caller_published p) (caller_ended e)
     pub progress : progress_of (local_ended e) ≡ after_seeing cut (progress_of (local_with (caller_published p)))
     pub grows : Grows (local_with (caller_published p)) (local_ended e)
-    pub stands : StandsBehind e
+    pub stands : StandsAfter e
     pub error : FitsError e
     pub says_of : SaysOf (says r.callers) (record_published p) cut e
 

@@ -18,13 +18,13 @@ use Rattle.call_phases.specs.Clients.{Spent}
 use Rattle.call_phases.specs.declared.stand.Stand.{Stand}
 use Rattle.call_phases.specs.declared.stand.Stand.TheVariants.{Idle, Announced, Answered, Viewed, Published, Halted, Unjudged}
 
--- What is kept of the call under way of a caller i that has made so many phases: one that was announced and not asked has no object
+-- What is kept of the call under way of a caller i that has made this many phases: one that was announced and not asked has no object
 -- step, and to one that was asked and has no view its program allows a reply.
 pub record KeepsAsked (program : Meaning) (i phases : ℕ) (l : Local) : Type 0 where
   pub unasked : phases % 5 ≡ 1 → steps_now l ≡ []
   pub asked : phases % 5 ≡ 2 → (reply : ℕ) × IsTrue (program.may_reply i l reply)
 
--- How a caller is left that has made so many phases: within a call it is halted, and where it is live it is free for its next call.
+-- How a caller is left that has made this many phases: within a call it is halted, and where it is live it is free for its next call.
 pub record IsLeftStanding (phases : ℕ) (l : Local) (stance : Stance) : Type 0 where
   pub within : phases % 5 ≢ 0 → stance.live ≡ false
   pub between : stance.live ≡ true → IsIdle l × (stance ≡ fresh_stance)

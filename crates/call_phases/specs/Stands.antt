@@ -38,7 +38,7 @@ module _ {P : Type 0} where
   place_of (Halted c) = 0
   place_of (Unjudged u) = 5
 
-  -- How many phases a caller has made that stands there, after so many lines.
+  -- How many phases a caller has made that stands there, after this many lines.
   abbrev pub phases_at : ℕ → Stand P → ℕ
   phases_at lines s = 5 * lines + place_of s
 

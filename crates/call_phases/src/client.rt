@@ -93,7 +93,7 @@ impl<'a, P: Program, T, E: Ending> Client<'a, P, T, E> {
         Client { stand, pass, sheet }
     }
 
-    /// Makes so many further phases, or, where the caller is halted before, those up to there.
+    /// Makes this many further phases, or, where the caller is halted before, those up to there.
     ///
     /// There are five phases for each operation, and they are enough.
     pub fn run<A: Asks<Program = P, Pass = T>, L: Ledger>(

@@ -8,7 +8,7 @@ ghost use Rattle.row_gather.specs.Gathered.{IsGatheredBy};
 ghost use Rattle.drv_wrapper.specs.Growth.{Grows};
 ghost use Rattle.enforcer.specs.States.{caller_seen, cut_seen};
 ghost use Rattle.call_phases.specs.Ends.{Sequential};
-ghost use Rattle.call_phases.specs.Endings.{record_seen, caller_ended, local_ended, StandsBehind, FitsError, SaysOf};
+ghost use Rattle.call_phases.specs.Endings.{record_seen, caller_ended, local_ended, StandsAfter, FitsError, SaysOf};
 ghost use Rattle.call_phases.specs.Keeping.{StandsBy};
 
 use crate::ended::Ended;
@@ -56,7 +56,7 @@ pub trait Ending {
         ensures grows { Grows (local_with (caller_seen seen)) (local_ended result) }
         // A caller that goes on is free for its next call, and one that is halted or wants memory
         // makes no calls.
-        ensures stands { StandsBehind result }
+        ensures stands { StandsAfter result }
         // A caller that goes on has no error, and one that is halted has one.
         ensures error { FitsError result }
         // What the ending says is said of the record, the seen cut and the line's end, and where

@@ -13,19 +13,19 @@ use Rattle.text_fields.specs.Faults.{ALine, IsWrong, GoesTo, IsFirstFault, Stops
 use Rattle.text_fields.specs.Head.{HeadDue, TitleDue, ObjectDue, CallersDue, CountsDue, HeadRead, HeadPasses, head_wanted, head_rules}
 use Rattle.text_fields.specs.Operations.{kind_operations}
 use Rattle.book_text.specs.CallLines.{Progress, CallPasses, call_wanted, call_rules}
-use Rattle.book_text.specs.BookRules.{InCalls, behind_head, in_calls}
+use Rattle.book_text.specs.BookRules.{InCalls, after_head, in_calls}
 use Rattle.book_text.proofs.Lifts.{goes_within, fault_within, stops_within}
-use Rattle.certificate_text.specs.CertificateRules.{CertificateDue, InBook, behind_book, CertificatePasses, certificate_wanted, certificate_rules}
+use Rattle.certificate_text.specs.CertificateRules.{CertificateDue, InBook, after_book, CertificatePasses, certificate_wanted, certificate_rules}
 
 -- what is due in the head of the book
 abbrev pub in_head : HeadDue → CertificateDue
-in_head due = behind_book (behind_head due)
+in_head due = after_book (after_head due)
 
 head_right : (due after : HeadDue) (words : List (List ℕ)) → HeadPasses Second (codes "book") due words after → CertificatePasses (in_head due) words (in_head after)
-head_right TitleDue after words h = (behind_head after, (after, h, refl), refl)
-head_right ObjectDue after words h = (behind_head after, (after, h, refl), refl)
-head_right (CallersDue kind) after words h = (behind_head after, (after, h, refl), refl)
-head_right (CountsDue kind n) after words h = (behind_head after, (after, h, refl), refl)
+head_right TitleDue after words h = (after_head after, (after, h, refl), refl)
+head_right ObjectDue after words h = (after_head after, (after, h, refl), refl)
+head_right (CallersDue kind) after words h = (after_head after, (after, h, refl), refl)
+head_right (CountsDue kind n) after words h = (after_head after, (after, h, refl), refl)
 head_right (HeadRead kind calls) after words h = absurd h
 
 head_wrong : (due : HeadDue) (bytes : List ℕ) (what : What) → IsWrong (head_rules Second (codes "book")) due (head_wanted due) bytes what → IsWrong certificate_rules (in_head due) (certificate_wanted (in_head due)) bytes what

@@ -27,24 +27,24 @@ use Rattle.book_text.specs.Beginnings.{AreWholeLines, EndsEarly}
 use Rattle.book_text.proofs.SharpBooks.{book_sharp}
 use Rattle.book_text.proofs.FaultTexts as book_faults
 use Rattle.certificate_text.specs.Grammar.{order_lines}
-use Rattle.certificate_text.specs.CertificateRules.{CertificateDue, InBook, OrderDue, InPlaces, AllRead, behind_book, nothing_read, PlaceFails, CertificatePasses, CertificateFails, certificate_wanted, certificate_rules, IsCertificateText, IsFirstCertificateFault}
+use Rattle.certificate_text.specs.CertificateRules.{CertificateDue, InBook, OrderDue, InPlaces, AllRead, after_book, nothing_read, PlaceFails, CertificatePasses, CertificateFails, certificate_wanted, certificate_rules, IsCertificateText, IsFirstCertificateFault}
 use Rattle.certificate_text.specs.Beginnings.{BeginsSomeText, BreaksText, GoesOn, LeavesTexts}
 use Rattle.certificate_text.proofs.SharpCertificates.{certificate_sharp}
 use Rattle.certificate_text.proofs.Readings.{no_fault}
-use Rattle.certificate_text.proofs.WrittenTexts.{order_passes, order_behind}
+use Rattle.certificate_text.proofs.WrittenTexts.{order_passes, order_after}
 
 -- ---- whole lines
 
 -- as many whole lines are the same lines, whatever follows
-whole_front : (count : ℕ) (front rest : List ℕ) → AreWholeLines count front → AreWholeLines count (front ++ rest) → rest ≡ []
-whole_front zero front rest h k = ap (λ (x : List ℕ). x ++ rest) (sym h) ∙ k
-whole_front (suc count) front rest h k =
+whole_prefix : (count : ℕ) (prefix rest : List ℕ) → AreWholeLines count prefix → AreWholeLines count (prefix ++ rest) → rest ≡ []
+whole_prefix zero prefix rest h k = ap (λ (x : List ℕ). x ++ rest) (sym h) ∙ k
+whole_prefix (suc count) prefix rest h k =
     let line : List ℕ = h.0 in
-    let behind : List ℕ = h.1 in
-    let joined : front ++ rest ≡ line ++ 10 ∷ (behind ++ rest) = ap (λ (x : List ℕ). x ++ rest) (cut_joins 10 front line behind h.2) ∙ append_assoc line (10 ∷ behind) rest in
-    let cut : cut_at 10 (front ++ rest) ≡ Some (line, behind ++ rest) = ap (cut_at 10) joined ∙ cut_again 10 front line behind (behind ++ rest) h.2 in
-    let same : ◌≡◌ {A = List ℕ × List ℕ} (line, behind ++ rest) (k.0, k.1) = some_once (line, behind ++ rest) (k.0, k.1) (sym cut ∙ k.2) in
-    whole_front count behind rest h.3 (subst (AreWholeLines count) (sym (ap (λ (x : List ℕ × List ℕ). x.1) same)) k.3) where
+    let suffix : List ℕ = h.1 in
+    let joined : prefix ++ rest ≡ line ++ 10 ∷ (suffix ++ rest) = ap (λ (x : List ℕ). x ++ rest) (cut_joins 10 prefix line suffix h.2) ∙ append_assoc line (10 ∷ suffix) rest in
+    let cut : cut_at 10 (prefix ++ rest) ≡ Some (line, suffix ++ rest) = ap (cut_at 10) joined ∙ cut_again 10 prefix line suffix (suffix ++ rest) h.2 in
+    let same : ◌≡◌ {A = List ℕ × List ℕ} (line, suffix ++ rest) (k.0, k.1) = some_once (line, suffix ++ rest) (k.0, k.1) (sym cut ∙ k.2) in
+    whole_prefix count suffix rest h.3 (subst (AreWholeLines count) (sym (ap (λ (x : List ℕ × List ℕ). x.1) same)) k.3) where
       some_once : (a b : List ℕ × List ℕ) → Some a ≡ Some b → a ≡ b
       some_once a b e = cc
 
@@ -72,28 +72,28 @@ book_begins due lines wanted right =
     } in
     let leaves = book_faults.leaves_texts Second (text_of lines) fault first in
     let count : length lines ≡ leaves.count = omega (arith, leaves.line) in
-    let whole : AreWholeLines leaves.count (leaves.front ++ leaves.rest)
+    let whole : AreWholeLines leaves.count (leaves.prefix ++ leaves.rest)
     = subst (AreWholeLines leaves.count) leaves.bytes_are (subst (λ (n : ℕ). AreWholeLines n (text_of lines)) count (whole_lines (book_rules Second) (book_sharp Second) (InHead TitleDue) due lines right)) in
-    let none : leaves.rest ≡ [] = whole_front leaves.count leaves.front leaves.rest leaves.lines whole in
-    let same : text_of lines ≡ leaves.front = leaves.bytes_are ∙ ap (λ (x : List ℕ). leaves.front ++ x) none ∙ append-nil leaves.front in
+    let none : leaves.rest ≡ [] = whole_prefix leaves.count leaves.prefix leaves.rest leaves.lines whole in
+    let same : text_of lines ≡ leaves.prefix = leaves.bytes_are ∙ ap (λ (x : List ℕ). leaves.prefix ++ x) none ∙ append-nil leaves.prefix in
     subst (books.BeginsSomeText Second) (sym same) leaves.begins
 
--- behind the title of the order no line of a book comes
-no_book_behind : (kind : Kind) (book : List Page) (done : List Place) (due : BookDue) (lines : List (List (List ℕ))) → AllPass CertificatePasses (InPlaces kind book done) lines (InBook due) → ⊥
-no_book_behind kind book done due [] h = cc
-no_book_behind kind book done due (words ∷ lines) (next, inl right, more) = none_behind lines (subst (λ (d : CertificateDue). AllPass CertificatePasses d lines (InBook due)) right.1 more) where
-  none_behind : (lines : List (List (List ℕ))) → AllPass CertificatePasses (AllRead kind book done) lines (InBook due) → ⊥
-  none_behind [] h = cc
-  none_behind (words ∷ lines) h = h.1
-no_book_behind kind book done due (words ∷ lines) (next, inr right, more) =
-    no_book_behind kind book (done ++ right.0 ∷ []) due lines (subst (λ (d : CertificateDue). AllPass CertificatePasses d lines (InBook due)) right.2 more)
+-- after the title of the order no line of a book comes
+no_book_after : (kind : Kind) (book : List Page) (done : List Place) (due : BookDue) (lines : List (List (List ℕ))) → AllPass CertificatePasses (InPlaces kind book done) lines (InBook due) → ⊥
+no_book_after kind book done due [] h = cc
+no_book_after kind book done due (words ∷ lines) (next, inl right, more) = none_after lines (subst (λ (d : CertificateDue). AllPass CertificatePasses d lines (InBook due)) right.1 more) where
+  none_after : (lines : List (List (List ℕ))) → AllPass CertificatePasses (AllRead kind book done) lines (InBook due) → ⊥
+  none_after [] h = cc
+  none_after (words ∷ lines) h = h.1
+no_book_after kind book done due (words ∷ lines) (next, inr right, more) =
+    no_book_after kind book (done ++ right.0 ∷ []) due lines (subst (λ (d : CertificateDue). AllPass CertificatePasses d lines (InBook due)) right.2 more)
 
 -- right lines within the book are right lines of a book
 record IsInBook (from due : BookDue) (lines : List (List (List ℕ))) : Type 0 where
   pub right : AllPass (BookPasses Second) from lines due
   pub wanted : book_wanted due ≡ ALine
 
-in_book : (from due : BookDue) (lines : List (List (List ℕ))) → AllPass CertificatePasses (behind_book from) lines (InBook due) → IsInBook from due lines
+in_book : (from due : BookDue) (lines : List (List (List ℕ))) → AllPass CertificatePasses (after_book from) lines (InBook due) → IsInBook from due lines
 in_book (InHead d) due [] h = let same : InHead d ≡ due = cc in record { right = same; wanted = subst (λ (b : BookDue). book_wanted b ≡ ALine) same refl }
 in_book (InHead d) due (words ∷ lines) h =
     let more = in_book h.1.0 due lines (subst (λ (c : CertificateDue). AllPass CertificatePasses c lines (InBook due)) h.1.2 h.2) in
@@ -103,7 +103,7 @@ in_book (InCalls k b calls) due (words ∷ lines) h =
     let more = in_book h.1.0 due lines (subst (λ (c : CertificateDue). AllPass CertificatePasses c lines (InBook due)) h.1.2 h.2) in
     record { right = (h.1.0, h.1.1, more.right); wanted = more.wanted }
 in_book (AtEnd k b) due [] h = absurd cc
-in_book (AtEnd k b) due (words ∷ lines) h = absurd (no_book_behind k b [] due lines (subst (λ (c : CertificateDue). AllPass CertificatePasses c lines (InBook due)) h.1.1 h.2))
+in_book (AtEnd k b) due (words ∷ lines) h = absurd (no_book_after k b [] due lines (subst (λ (c : CertificateDue). AllPass CertificatePasses c lines (InBook due)) h.1.1 h.2))
 
 text_of_lines : (kind : Kind) (book : List Page) (order : List Place) (lines : List (List (List ℕ))) → AllPass CertificatePasses nothing_read lines (AllRead kind book order) → IsCertificateText (text_of lines) kind book order
 text_of_lines kind book order lines h = (
@@ -130,7 +130,7 @@ begins_so (InBook due) lines h =
     let tail : List ℕ = text_of (order_lines []) in
     let more : List ℕ = some.2 in
     let joined : (text_of lines ++ more) ++ tail ≡ text_of lines ++ (more ++ tail) = append_assoc (text_of lines) more tail in
-    (some.0, some.1, [], more ++ tail, subst (λ (b : List ℕ). IsCertificateText b some.0 some.1 []) joined (order_behind (text_of lines ++ more) some.0 some.1 [] some.3 tt))
+    (some.0, some.1, [], more ++ tail, subst (λ (b : List ℕ). IsCertificateText b some.0 some.1 []) joined (order_after (text_of lines ++ more) some.0 some.1 [] some.3 tt))
 begins_so (OrderDue kind book) lines h = completed (OrderDue kind book) lines (order_lines []) kind book [] h (order_passes kind book [] tt)
 begins_so (InPlaces kind book order) lines h = completed (InPlaces kind book order) lines (end_words ∷ []) kind book order h (AllRead kind book order, inl (refl, refl), refl)
 begins_so (AllRead kind book order) lines h = completed (AllRead kind book order) lines [] kind book order h refl
@@ -201,7 +201,7 @@ module _ (reached : CertificateDue) (lines : List (List (List ℕ))) (right : Al
   breaks rest name wanted wrong = record {
     named = line_named reached (words_of wrong.line) name wrong.test.fails;
     line = wrong.line;
-    behind = wrong.rest;
+    suffix = wrong.rest;
     whole = wrong.whole;
     none = λ kind book order more text.
         let joined : (text_of lines ++ (wrong.line ++ 10 ∷ [])) ++ more ≡ text_of lines ++ (wrong.line ++ 10 ∷ more)
@@ -230,7 +230,7 @@ leaves_texts bytes fault h =
     let lines = h.before.lines in
     record {
       count = length lines;
-      front = text_of lines;
+      prefix = text_of lines;
       rest = h.left.bytes;
       line = omega (arith, h.line, h.before.number);
       bytes_are = h.before.bytes;

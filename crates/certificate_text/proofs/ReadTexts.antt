@@ -14,7 +14,7 @@ use Rattle.book_text.specs.Grammar.{end_words, book_lines, IsWrittenText}
 use Rattle.book_text.specs.BookRules.{BookDue, InHead, InCalls, AtEnd, BookPasses, IsBookText}
 use Rattle.book_text.proofs.ReadTexts as books
 use Rattle.certificate_text.specs.Grammar.{order_words, place_line, order_lines, IsPlace, IsWrittenCertificate}
-use Rattle.certificate_text.specs.CertificateRules.{CertificateDue, OrderDue, InPlaces, AllRead, behind_book, CertificatePasses, IsCertificateText}
+use Rattle.certificate_text.specs.CertificateRules.{CertificateDue, OrderDue, InPlaces, AllRead, after_book, CertificatePasses, IsCertificateText}
 use Rattle.certificate_text.specs.Laws.{OneTextPerCertificate, ATextIsItsLines}
 use Rattle.certificate_text.proofs.WrittenTexts.{written_is_read}
 
@@ -74,26 +74,26 @@ module _ (kind : Kind) (book : List Page) (order : List Place) where
 
   -- ---- the book
 
-  -- the lines are those of a book, up to its end, and others behind them
+  -- the lines are those of a book, up to its end, and others after them
   record IsSplit (due : BookDue) (lines : List (List (List ℕ))) : Type 0 where
     pub k : Kind
     pub b : List Page
-    pub front : List (List (List ℕ))
+    pub prefix : List (List (List ℕ))
     pub back : List (List (List ℕ))
-    pub text : lines ≡ front ++ back
-    pub front_right : AllPass (BookPasses Second) due front (AtEnd k b)
+    pub text : lines ≡ prefix ++ back
+    pub prefix_right : AllPass (BookPasses Second) due prefix (AtEnd k b)
     pub back_right : Leads (OrderDue k b) back
 
-  split : (due : BookDue) (lines : List (List (List ℕ))) → Leads (behind_book due) lines → IsSplit due lines
-  split (AtEnd k b) lines h = record { k = k; b = b; front = []; back = lines; text = refl; front_right = refl; back_right = h }
+  split : (due : BookDue) (lines : List (List (List ℕ))) → Leads (after_book due) lines → IsSplit due lines
+  split (AtEnd k b) lines h = record { k = k; b = b; prefix = []; back = lines; text = refl; prefix_right = refl; back_right = h }
   split (InHead due) [] h = absurd cc
   split (InHead due) (words ∷ lines) h =
       let more = split h.1.0 lines (subst (λ (d : CertificateDue). Leads d lines) h.1.2 h.2) in
-      record { k = more.k; b = more.b; front = words ∷ more.front; back = more.back; text = ap (λ (ls : List (List (List ℕ))). words ∷ ls) more.text; front_right = (h.1.0, h.1.1, more.front_right); back_right = more.back_right }
+      record { k = more.k; b = more.b; prefix = words ∷ more.prefix; back = more.back; text = ap (λ (ls : List (List (List ℕ))). words ∷ ls) more.text; prefix_right = (h.1.0, h.1.1, more.prefix_right); back_right = more.back_right }
   split (InCalls k b calls) [] h = absurd cc
   split (InCalls k b calls) (words ∷ lines) h =
       let more = split h.1.0 lines (subst (λ (d : CertificateDue). Leads d lines) h.1.2 h.2) in
-      record { k = more.k; b = more.b; front = words ∷ more.front; back = more.back; text = ap (λ (ls : List (List (List ℕ))). words ∷ ls) more.text; front_right = (h.1.0, h.1.1, more.front_right); back_right = more.back_right }
+      record { k = more.k; b = more.b; prefix = words ∷ more.prefix; back = more.back; text = ap (λ (ls : List (List (List ℕ))). words ∷ ls) more.text; prefix_right = (h.1.0, h.1.1, more.prefix_right); back_right = more.back_right }
 
 -- what is read as a certificate is what is written of it
 pub read_is_written : (bytes : List ℕ) (kind : Kind) (book : List Page) (order : List Place) → IsCertificateText bytes kind book order → IsWrittenCertificate bytes kind book order
@@ -101,18 +101,18 @@ read_is_written bytes kind book order h =
     let lines = h.1.goes.lines in
     let parts = split kind book order (InHead TitleDue) lines h.1.goes.right in
     let tail = read_order kind book order parts.k parts.b parts.back parts.back_right in
-    let front_text : IsBookText Second (text_of parts.front) parts.k parts.b = (
-      record { bytes = []; number = 1 + length parts.front },
-      record { goes = record { lines = parts.front; right = parts.front_right; bytes = sym (append-nil (text_of parts.front)); number = refl }; through = refl },
+    let prefix_text : IsBookText Second (text_of parts.prefix) parts.k parts.b = (
+      record { bytes = []; number = 1 + length parts.prefix },
+      record { goes = record { lines = parts.prefix; right = parts.prefix_right; bytes = sym (append-nil (text_of parts.prefix)); number = refl }; through = refl },
     ) in
-    let written : IsWrittenText Second (text_of parts.front) kind book
-    = subst (λ (b : List Page). IsWrittenText Second (text_of parts.front) kind b) tail.books
-    (subst (λ (k : Kind). IsWrittenText Second (text_of parts.front) k parts.b) tail.kinds (books.read_is_written Second (text_of parts.front) parts.k parts.b front_text)) in
+    let written : IsWrittenText Second (text_of parts.prefix) kind book
+    = subst (λ (b : List Page). IsWrittenText Second (text_of parts.prefix) kind b) tail.books
+    (subst (λ (k : Kind). IsWrittenText Second (text_of parts.prefix) k parts.b) tail.kinds (books.read_is_written Second (text_of parts.prefix) parts.k parts.b prefix_text)) in
     record {
       writable = written.writable;
       places = tail.places;
       text = h.1.goes.bytes ∙ ap (λ (x : List ℕ). text_of lines ++ x) h.1.through ∙ append-nil (text_of lines) ∙ ap text_of parts.text
-          ∙ flat_map-append line_text parts.front parts.back ∙ ap (λ (x : List ℕ). x ++ text_of parts.back) written.text
+          ∙ flat_map-append line_text parts.prefix parts.back ∙ ap (λ (x : List ℕ). x ++ text_of parts.back) written.text
           ∙ ap (λ (ls : List (List (List ℕ))). text_of (book_lines Second kind book) ++ text_of ls) tail.text
           ∙ sym (flat_map-append line_text (book_lines Second kind book) (order_lines order));
     }

@@ -32,7 +32,7 @@ one_fault bytes a b h k = sharp.one_fault certificate_rules certificate_sharp no
 pub no_fault : NoFaultOfAText
 no_fault bytes kind book order fault h k = sharp.no_fault certificate_rules certificate_sharp nothing_read (AllRead kind book order) (whole_text bytes) h.0 fault h.1 k
 
--- where more bytes follow a text, the whole has a fault behind it
+-- where more bytes follow a text, the whole has a fault after it
 pub no_prefix : NoTextBeginsAnother
 no_prefix bytes [] k l a b p q h j = refl
 no_prefix bytes (byte ∷ more) k l a b p q h j =

@@ -19,15 +19,15 @@ use Rattle.book_text.specs.Grammar.{end_words}
 use Rattle.book_text.specs.BookRules.{book_rules}
 use Rattle.book_text.proofs.SharpBooks.{book_sharp}
 use Rattle.certificate_text.specs.Grammar.{order_words, place_line, IsNamed}
-use Rattle.certificate_text.specs.CertificateRules.{CertificateDue, InBook, OrderDue, InPlaces, AllRead, behind_book, IsPlaceLine, PlaceFails, CertificatePasses, CertificateFails, certificate_wanted, certificate_rules}
+use Rattle.certificate_text.specs.CertificateRules.{CertificateDue, InBook, OrderDue, InPlaces, AllRead, after_book, IsPlaceLine, PlaceFails, CertificatePasses, CertificateFails, certificate_wanted, certificate_rules}
 
 -- ---- the lines of places
 
--- what a line names is one call, and what stands behind it one list of words
+-- what a line names is one call, and what stands after it one list of words
 pub record IsOneCall (a b : Call) (x y : List (List ℕ)) : Type 0 where
   pub callers : a.caller ≡ b.caller
   pub numbers : a.number ≡ b.number
-  pub behind : x ≡ y
+  pub suffix : x ≡ y
 
 pub one_call : (a b : Call) (x y : List (List ℕ)) → IsNamed a → IsNamed b → place_words a ++ x ≡ place_words b ++ y → IsOneCall a b x y
 one_call a b x y h k e =
@@ -36,14 +36,14 @@ one_call a b x y h k e =
     record {
       callers = same_number a.caller b.caller (omega (arith, h.caller)) (omega (arith, k.caller)) first.0;
       numbers = same_number a.number b.number h.number k.number second.0;
-      behind = second.1;
+      suffix = second.1;
     }
 
 -- a line is one place at most
 pub one_place : (words : List (List ℕ)) (a b : Place) → IsPlaceLine words a → IsPlaceLine words b → a ≡ b
 one_place words a b h k =
     let call = one_call (call_at a) (call_at b) (reply_word a.reply ∷ []) (reply_word b.reply ∷ []) h.may.call k.may.call (sym h.text ∙ k.text) in
-    let reply : a.reply ≡ b.reply = reply_word-once a.reply b.reply h.may.reply k.may.reply (same_first _ _ _ _ call.behind).0 in
+    let reply : a.reply ≡ b.reply = reply_word-once a.reply b.reply h.may.reply k.may.reply (same_first _ _ _ _ call.suffix).0 in
     let made : ℕ → ℕ → ℕ → Place = λ i n r. record { caller = i; number = n; reply = r } in
     ap (λ (i : ℕ). made i a.number a.reply) call.callers ∙ ap (λ (n : ℕ). made b.caller n a.reply) call.numbers ∙ ap (made b.caller b.number) reply
 
@@ -58,7 +58,7 @@ pub place_apart : (words : List (List ℕ)) (place : Place) (name : What) → Is
 place_apart words place what.Place h k = k.1 (call_at place) (reply_word place.reply ∷ []) h.may.call h.text
 place_apart words place what.Reply h k =
     let call = one_call k.0 (call_at place) k.1 (reply_word place.reply ∷ []) k.2 h.may.call (sym k.3 ∙ h.text) in
-    k.4 place.reply h.may.reply call.behind
+    k.4 place.reply h.may.reply call.suffix
 place_apart words place _ h k = k
 
 -- nor does the end
@@ -96,7 +96,7 @@ book : AreSharp (book_rules Second)
 book = book_sharp Second
 
 one_way : (due a b : CertificateDue) (words : List (List ℕ)) → CertificatePasses due words a → CertificatePasses due words b → a ≡ b
-one_way (InBook due) a b words h k = h.2 ∙ ap behind_book (book.one_way due h.0 k.0 words h.1 k.1) ∙ sym k.2
+one_way (InBook due) a b words h k = h.2 ∙ ap after_book (book.one_way due h.0 k.0 words h.1 k.1) ∙ sym k.2
 one_way (OrderDue kind pages) a b words h k = h.1 ∙ sym k.1
 one_way (InPlaces kind pages order) a b words (inl h) (inl k) = h.1 ∙ sym k.1
 one_way (InPlaces kind pages order) a b words (inl h) (inr k) = absurd (end_or_place words k.0 h.0 k.1)

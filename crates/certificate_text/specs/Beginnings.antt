@@ -12,39 +12,39 @@ use Rattle.certificate_text.specs.CertificateRules.{IsCertificateText, IsNoCerti
 
 -- some text of a certificate begins with these bytes
 abbrev pub BeginsSomeText : List ℕ → Type 0
-BeginsSomeText front = (kind : Kind) × (book : List Page) × (order : List Place) × (more : List ℕ) × IsCertificateText (front ++ more) kind book order
+BeginsSomeText prefix = (kind : Kind) × (book : List Page) × (order : List Place) × (more : List ℕ) × IsCertificateText (prefix ++ more) kind book order
 
 -- no text of a certificate begins with these bytes
 abbrev pub BeginsNoText : List ℕ → Type 0
-BeginsNoText front = (kind : Kind) (book : List Page) (order : List Place) (more : List ℕ) → ¬ (IsCertificateText (front ++ more) kind book order)
+BeginsNoText prefix = (kind : Kind) (book : List Page) (order : List Place) (more : List ℕ) → ¬ (IsCertificateText (prefix ++ more) kind book order)
 
 -- After the first whole lines stands a further whole line, with which no text of a certificate goes
 -- on.
-pub record BreaksText (front rest : List ℕ) (what : What) : Type 0 where
+pub record BreaksText (prefix rest : List ℕ) (what : What) : Type 0 where
   pub named : (what ≢ Cut) × (what ≢ Rest)
   pub line : List ℕ
-  pub behind : List ℕ
-  pub whole : cut_at 10 rest ≡ Some (line, behind)
-  pub none : BeginsNoText (front ++ (line ++ 10 ∷ []))
+  pub suffix : List ℕ
+  pub whole : cut_at 10 rest ≡ Some (line, suffix)
+  pub none : BeginsNoText (prefix ++ (line ++ 10 ∷ []))
 
 -- The first whole lines are a certificate's text already, and bytes follow.
-pub record GoesOn (front rest : List ℕ) (what : What) : Type 0 where
+pub record GoesOn (prefix rest : List ℕ) (what : What) : Type 0 where
   pub named : what ≡ Rest
   pub kind : Kind
   pub book : List Page
   pub order : List Place
-  pub text : IsCertificateText front kind book order
+  pub text : IsCertificateText prefix kind book order
   pub more : rest ≢ []
 
 -- A fault says where bytes leave the texts of certificates: some text begins with the lines before the fault's line, and none goes
 -- on with the fault's line, or that line isn't whole, or the lines before it are a whole text.
 pub record LeavesTexts (bytes : List ℕ) (fault : TextFault) : Type 0 where
   pub count : ℕ
-  pub front : List ℕ
+  pub prefix : List ℕ
   pub rest : List ℕ
   pub line : fault.line ≡ count + 1
-  pub bytes_are : bytes ≡ front ++ rest
-  pub lines : AreWholeLines count front
-  pub begins : BeginsSomeText front
-  pub leaves : BreaksText front rest fault.what ⊎ (EndsEarly rest fault.what ⊎ GoesOn front rest fault.what)
+  pub bytes_are : bytes ≡ prefix ++ rest
+  pub lines : AreWholeLines count prefix
+  pub begins : BeginsSomeText prefix
+  pub leaves : BreaksText prefix rest fault.what ⊎ (EndsEarly rest fault.what ⊎ GoesOn prefix rest fault.what)
   pub no_text : IsNoCertificateText bytes

@@ -25,10 +25,10 @@ pub data CertificateDue : Type 0 where
   AllRead : Kind → List Page → List Place → CertificateDue
 
 -- After the end of the book comes the title of the order.
-abbrev pub behind_book : BookDue → CertificateDue
-behind_book (InHead due) = InBook (InHead due)
-behind_book (InCalls kind book calls) = InBook (InCalls kind book calls)
-behind_book (AtEnd kind book) = OrderDue kind book
+abbrev pub after_book : BookDue → CertificateDue
+after_book (InHead due) = InBook (InHead due)
+after_book (InCalls kind book calls) = InBook (InCalls kind book calls)
+after_book (AtEnd kind book) = OrderDue kind book
 
 -- ---- the lines of places
 
@@ -40,17 +40,17 @@ pub record IsPlaceLine (words : List (List ℕ)) (place : Place) : Type 0 where
 -- the tests of a line after the title of the order
 abbrev pub PlaceFails : List (List ℕ) → What → Type 0
 -- the line isn't the end, and doesn't begin with a caller and a number
-PlaceFails words what.Place = (words ≢ end_words) × ((call : Call) (behind : List (List ℕ)) → IsNamed call → words ≢ place_words call ++ behind)
+PlaceFails words what.Place = (words ≢ end_words) × ((call : Call) (suffix : List (List ℕ)) → IsNamed call → words ≢ place_words call ++ suffix)
 -- the words after a caller and a number aren't exactly one reply
-PlaceFails words what.Reply = (call : Call) × (behind : List (List ℕ)) × IsNamed call × (words ≡ place_words call ++ behind)
-    × ((reply : ℕ) → reply < 2 ^ 64 → behind ≢ reply_word reply ∷ [])
+PlaceFails words what.Reply = (call : Call) × (suffix : List (List ℕ)) × IsNamed call × (words ≡ place_words call ++ suffix)
+    × ((reply : ℕ) → reply < 2 ^ 64 → suffix ≢ reply_word reply ∷ [])
 PlaceFails words _ = ⊥
 
 -- ---- the rules
 
 -- the right lines of a certificate's text
 abbrev pub CertificatePasses : CertificateDue → List (List ℕ) → CertificateDue → Type 0
-CertificatePasses (InBook due) words after = (next : BookDue) × BookPasses Second due words next × (after ≡ behind_book next)
+CertificatePasses (InBook due) words after = (next : BookDue) × BookPasses Second due words next × (after ≡ after_book next)
 CertificatePasses (OrderDue kind book) words after = (words ≡ order_words) × (after ≡ InPlaces kind book [])
 CertificatePasses (InPlaces kind book order) words after =
     ((words ≡ end_words) × (after ≡ AllRead kind book order))

@@ -41,8 +41,8 @@ pub(crate) fn read_place_line(line: &[u8]) -> Result<Option<Place>, What>
 fn take_call(words: &mut Words) -> Option<Call>
     ensures found { IfSome result (λ call.
         IsNamed call × (words.old ≡ place_words call ++ words.new)) }
-    ensures none { IfNone result ((call : Call) (behind : List (List ℕ)) → IsNamed call
-        → words.old ≢ place_words call ++ behind) }
+    ensures none { IfNone result ((call : Call) (suffix : List (List ℕ)) → IsNamed call
+        → words.old ≢ place_words call ++ suffix) }
 {
     let caller = next_number(words, u64::from(u32::MAX))?;
     let number = next_number(words, u64::MAX)?;

@@ -19,12 +19,12 @@ use Rattle.text_fields.specs.Head.{TitleDue, ObjectDue, CallersDue, CountsDue, H
 use Rattle.text_fields.specs.Faults.{ALine}
 use Rattle.book_text.specs.CallLines.{calls_from, all_calls}
 use Rattle.book_text.specs.Grammar.{end_words}
-use Rattle.book_text.specs.Leaving.{LeavesAt}
+use Rattle.book_text.specs.ReadOnly.{LeavesAt}
 use Rattle.book_text.proofs.Leavings.{Completes, one_more, leaves_texts}
 use Rattle.book_text.proofs.ReadTexts.{has_zero}
 use Rattle.client_scripts.specs.Plans.{Plan}
 use Rattle.client_scripts.specs.Grammar.{call_words, turns_words}
-use Rattle.client_scripts.specs.ScriptRules.{Begun, begin, with_operation, plan_with, ScriptDue, InHead, InBody, Turned, AtEnd, behind_head, IsNamedCall, CallFails, TailFails, ScriptPasses, ScriptFails, script_wanted, script_rules, IsScriptText, IsFirstScriptFault}
+use Rattle.client_scripts.specs.ScriptRules.{Begun, begin, with_operation, plan_with, ScriptDue, InHead, InBody, Turned, AtEnd, after_head, IsNamedCall, CallFails, TailFails, ScriptPasses, ScriptFails, script_wanted, script_rules, IsScriptText, IsFirstScriptFault}
 use Rattle.client_scripts.proofs.SharpScripts.{script_sharp}
 use Rattle.client_scripts.proofs.Readings.{same_end}
 use Rattle.client_scripts.proofs.WrittenTexts.{few_callers, few_calls}
@@ -53,12 +53,12 @@ all_named most i (count ∷ counts) few small h =
 
 module _ (version : Version) where
   comes_next : (due after : ScriptDue) (words : List (List ℕ)) → CanCome due → ScriptPasses version due words after → CanCome after
-  comes_next (InHead TitleDue) after words can h = subst CanCome (sym (h.2 ∙ ap behind_head h.1.1)) tt
-  comes_next (InHead ObjectDue) after words can h = subst CanCome (sym (h.2 ∙ ap behind_head h.1.3)) tt
-  comes_next (InHead (CallersDue kind)) after words can h = subst CanCome (sym (h.2 ∙ ap behind_head h.1.3)) (omega (arith, h.1.1.few, few_callers version))
+  comes_next (InHead TitleDue) after words can h = subst CanCome (sym (h.2 ∙ ap after_head h.1.1)) tt
+  comes_next (InHead ObjectDue) after words can h = subst CanCome (sym (h.2 ∙ ap after_head h.1.3)) tt
+  comes_next (InHead (CallersDue kind)) after words can h = subst CanCome (sym (h.2 ∙ ap after_head h.1.3)) (omega (arith, h.1.1.few, few_callers version))
   comes_next (InHead (CountsDue kind n)) after words can h =
       let counts : List ℕ = h.1.0 in
-      subst CanCome (sym (h.2 ∙ ap behind_head h.1.3)) (all_named (most_calls version) 0 counts (few_calls version) (omega (arith, h.1.1.count)) h.1.1.few)
+      subst CanCome (sym (h.2 ∙ ap after_head h.1.3)) (all_named (most_calls version) 0 counts (few_calls version) (omega (arith, h.1.1.count)) h.1.1.few)
   comes_next (InHead (HeadRead kind calls)) after words can h = absurd can
   comes_next (InBody kind begun []) after words can (inl h) = subst CanCome (sym h.3) tt
   comes_next (InBody kind begun []) after words can (inr h) = subst CanCome (sym h.2) tt

@@ -11,10 +11,10 @@ use Rattle.client_scripts.specs.ScriptRules.{grouped}
 pub grouped-concat : (operations : List (List ℕ)) → grouped (sizes operations) (concat operations) ≡ operations
 grouped-concat [] = refl
 grouped-concat (ops ∷ operations) =
-    let front : take (length ops) (ops ++ concat operations) ≡ ops = take_at ops (concat operations) (length ops) refl in
-    let behind : drop (length ops) (ops ++ concat operations) ≡ concat operations = drop_at ops (concat operations) (length ops) refl in
-    ap (λ (x : List ℕ). x ∷ grouped (sizes operations) (drop (length ops) (ops ++ concat operations))) front
-    ∙ ap (λ (x : List ℕ). ops ∷ grouped (sizes operations) x) behind
+    let prefix : take (length ops) (ops ++ concat operations) ≡ ops = take_at ops (concat operations) (length ops) refl in
+    let suffix : drop (length ops) (ops ++ concat operations) ≡ concat operations = drop_at ops (concat operations) (length ops) refl in
+    ap (λ (x : List ℕ). x ∷ grouped (sizes operations) (drop (length ops) (ops ++ concat operations))) prefix
+    ∙ ap (λ (x : List ℕ). ops ∷ grouped (sizes operations) x) suffix
     ∙ ap (λ (x : List (List ℕ)). ops ∷ x) (grouped-concat operations)
 
 pub concat-push : (operations : List (List ℕ)) (ops : List ℕ) → concat (operations ++ ops ∷ []) ≡ concat operations ++ ops
@@ -56,18 +56,18 @@ set_in_gap zero d e x size = absurd (omega arith)
 set_in_gap (suc m) zero e x size = let same : m ≡ e = omega arith in ap (λ (n : ℕ). x ∷ gap n) same
 set_in_gap (suc m) (suc d) e x size = let rest = set_in_gap m d e x (omega arith) in ap (λ (ys : List (Option ℕ)). None ∷ ys) rest
 
--- a stop is put behind those told
-pub set_behind : (front : List (Option ℕ)) (m d e i : ℕ) (x : Option ℕ) → m ≡ d + e + 1 → i ≡ length front + d → set (front ++ gap m) i x ≡ (front ++ (gap d ++ x ∷ [])) ++ gap e
-set_behind [] m d e i x size here =
+-- a stop is put after those told
+pub set_after : (prefix : List (Option ℕ)) (m d e i : ℕ) (x : Option ℕ) → m ≡ d + e + 1 → i ≡ length prefix + d → set (prefix ++ gap m) i x ≡ (prefix ++ (gap d ++ x ∷ [])) ++ gap e
+set_after [] m d e i x size here =
     let same : i ≡ d = omega arith in
     ap (λ (k : ℕ). set (gap m) k x) same ∙ set_in_gap m d e x size ∙ sym (append_assoc (gap d) (x ∷ []) (gap e))
-set_behind (f ∷ front) m d e zero x size here = absurd (omega arith)
-set_behind (f ∷ front) m d e (suc i) x size here = ap (λ (ys : List (Option ℕ)). f ∷ ys) (set_behind front m d e i x size (omega arith))
+set_after (f ∷ prefix) m d e zero x size here = absurd (omega arith)
+set_after (f ∷ prefix) m d e (suc i) x size here = ap (λ (ys : List (Option ℕ)). f ∷ ys) (set_after prefix m d e i x size (omega arith))
 
--- the lines of stops behind places without one
-pub lines_behind_gap : (i d j phases : ℕ) (rest : List (Option ℕ)) → i + d ≡ j → by_number stop_line i (gap d ++ Some phases ∷ rest) ≡ stop_words j phases ∷ by_number stop_line (j + 1) rest
-lines_behind_gap i zero j phases rest e = let same : i ≡ j = omega arith in ap (λ (k : ℕ). stop_words k phases ∷ by_number stop_line (k + 1) rest) same
-lines_behind_gap i (suc d) j phases rest e = lines_behind_gap (i + 1) d j phases rest (omega arith)
+-- the lines of stops after places without one
+pub lines_after_gap : (i d j phases : ℕ) (rest : List (Option ℕ)) → i + d ≡ j → by_number stop_line i (gap d ++ Some phases ∷ rest) ≡ stop_words j phases ∷ by_number stop_line (j + 1) rest
+lines_after_gap i zero j phases rest e = let same : i ≡ j = omega arith in ap (λ (k : ℕ). stop_words k phases ∷ by_number stop_line (k + 1) rest) same
+lines_after_gap i (suc d) j phases rest e = lines_after_gap (i + 1) d j phases rest (omega arith)
 
 -- places without a stop have no lines
 pub no_lines : (i n : ℕ) → by_number stop_line i (gap n) ≡ []

@@ -16,9 +16,9 @@ use Rattle.book_text.specs.CallLines.{calls_from, all_calls}
 use Rattle.book_text.specs.Grammar.{end_words}
 use Rattle.client_scripts.specs.Plans.{Plan, sizes, AreStops, IsPlan}
 use Rattle.client_scripts.specs.Grammar.{by_number, call_line, call_words, caller_lines, stop_words, stop_line, turns_words, script_lines, IsWrittenText}
-use Rattle.client_scripts.specs.ScriptRules.{Begun, begin, with_operation, with_operations, with_stop, grouped, plan_with, ScriptDue, InHead, InBody, Turned, AtEnd, behind_head, IsCallLine, ScriptPasses, script_rules, IsScriptText}
-use Rattle.client_scripts.proofs.Groups.{grouped-concat, gap, set_behind, lines_behind_gap, no_lines, length-gap, AreStops-none, AreStops-set}
-use Rattle.client_scripts.proofs.WrittenTexts.{behind_calls}
+use Rattle.client_scripts.specs.ScriptRules.{Begun, begin, with_operation, with_operations, with_stop, grouped, plan_with, ScriptDue, InHead, InBody, Turned, AtEnd, after_head, IsCallLine, ScriptPasses, script_rules, IsScriptText}
+use Rattle.client_scripts.proofs.Groups.{grouped-concat, gap, set_after, lines_after_gap, no_lines, length-gap, AreStops-none, AreStops-set}
+use Rattle.client_scripts.proofs.WrittenTexts.{after_calls}
 
 module _ (version : Version) (plan : Plan) where
   abbrev To : ScriptDue → List (List (List ℕ)) → Type 0
@@ -44,7 +44,7 @@ module _ (version : Version) (plan : Plan) where
       count = refl;
       small = tt;
       text = refl;
-      leads = moved (script_rules version) (AtEnd plan) (InBody kind begun due) (InBody kind (with_operations begun []) due) lines (behind_calls kind begun due begun.operations (begun.operations ++ []) (sym (append-nil begun.operations))) h;
+      leads = moved (script_rules version) (AtEnd plan) (InBody kind begun due) (InBody kind (with_operations begun []) due) lines (after_calls kind begun due begun.operations (begun.operations ++ []) (sym (append-nil begun.operations))) h;
     }
     read_caller begun i k (suc more) due lines h =
         let first = has_line (script_rules version) (AtEnd plan) (InBody kind begun (calls_from i k (suc more) ++ due)) lines (λ e. absurd cc) h in
@@ -59,7 +59,7 @@ module _ (version : Version) (plan : Plan) where
           small = (read.has, rest.small);
           text = first.text ∙ ap (λ (w : List (List ℕ)). w ∷ first.others) read.text ∙ ap (λ (ls : List (List (List ℕ))). call_words kind (record { caller = i; number = k }) op ∷ ls) rest.text;
           leads = moved (script_rules version) (AtEnd plan) (InBody kind (with_operations next rest.ops) due) (InBody kind (with_operations begun (op ∷ rest.ops)) due) rest.others
-              (behind_calls kind begun due ((begun.operations ++ op ∷ []) ++ rest.ops) (begun.operations ++ op ∷ rest.ops) (append_assoc begun.operations (op ∷ []) rest.ops)) rest.leads;
+              (after_calls kind begun due ((begun.operations ++ op ∷ []) ++ rest.ops) (begun.operations ++ op ∷ rest.ops) (append_assoc begun.operations (op ∷ []) rest.ops)) rest.leads;
         }
 
     -- the lines of all calls give the operations of all callers
@@ -78,7 +78,7 @@ module _ (version : Version) (plan : Plan) where
       count = refl;
       small = tt;
       text = refl;
-      leads = moved (script_rules version) (AtEnd plan) (InBody kind begun []) (InBody kind (with_operations begun []) []) lines (behind_calls kind begun [] begun.operations (begun.operations ++ []) (sym (append-nil begun.operations))) h;
+      leads = moved (script_rules version) (AtEnd plan) (InBody kind begun []) (InBody kind (with_operations begun []) []) lines (after_calls kind begun [] begun.operations (begun.operations ++ []) (sym (append-nil begun.operations))) h;
     }
     read_callers begun i (count ∷ counts) lines h =
         let first = read_caller begun i 0 count (all_calls (i + 1) counts) lines h in
@@ -92,15 +92,15 @@ module _ (version : Version) (plan : Plan) where
           small = (first.small, rest.small);
           text = first.text ∙ ap (λ (ls : List (List (List ℕ))). mine ++ ls) rest.text ∙ sym (append_assoc mine (by_number (caller_lines kind) (i + 1) rest.operations) rest.others);
           leads = moved (script_rules version) (AtEnd plan) (InBody kind (with_operations next (concat rest.operations)) []) (InBody kind (with_operations begun (first.ops ++ concat rest.operations)) []) rest.others
-              (behind_calls kind begun [] ((begun.operations ++ first.ops) ++ concat rest.operations) (begun.operations ++ (first.ops ++ concat rest.operations)) (append_assoc begun.operations first.ops (concat rest.operations))) rest.leads;
+              (after_calls kind begun [] ((begun.operations ++ first.ops) ++ concat rest.operations) (begun.operations ++ (first.ops ++ concat rest.operations)) (append_assoc begun.operations first.ops (concat rest.operations))) rest.leads;
         }
 
-    -- the lines behind the calls give the stops and the turns
-    record IsTailRead (begun : Begun) (front : List (Option ℕ)) (lines : List (List (List ℕ))) : Type 0 where
+    -- the lines after the calls give the stops and the turns
+    record IsTailRead (begun : Begun) (prefix : List (Option ℕ)) (lines : List (List (List ℕ))) : Type 0 where
       pub rest : List (Option ℕ)
       pub turns : List ℕ
-      pub whole : plan ≡ record { kind = kind; operations = grouped begun.calls begun.operations; stops = front ++ rest; turns = turns }
-      pub stops : AreStops begun.calls (front ++ rest)
+      pub whole : plan ≡ record { kind = kind; operations = grouped begun.calls begun.operations; stops = prefix ++ rest; turns = turns }
+      pub stops : AreStops begun.calls (prefix ++ rest)
       pub callers : AllByRecursion (λ caller. caller < length begun.calls) turns
       pub text : lines ≡ by_number stop_line begun.least rest ++ turns_words turns ∷ end_words ∷ []
 
@@ -116,10 +116,10 @@ module _ (version : Version) (plan : Plan) where
           ended [] e text is = (same_end p e, text ∙ ap (λ (w : List (List ℕ)). w ∷ []) is)
           ended (w ∷ others) e text is = absurd e.1
 
-    read_tail : (begun : Begun) (front : List (Option ℕ)) (m : ℕ) (lines : List (List (List ℕ))) → begun.stops ≡ front ++ gap m → length front ≡ begun.least → begun.least + m ≡ length begun.calls → AreStops begun.calls begun.stops
-        → To (InBody kind begun []) lines → IsTailRead begun front lines
-    read_tail begun front m [] told here size may h = absurd cc
-    read_tail begun front m (words ∷ lines) told here size may (next, inl stop, leads) =
+    read_tail : (begun : Begun) (prefix : List (Option ℕ)) (m : ℕ) (lines : List (List (List ℕ))) → begun.stops ≡ prefix ++ gap m → length prefix ≡ begun.least → begun.least + m ≡ length begun.calls → AreStops begun.calls begun.stops
+        → To (InBody kind begun []) lines → IsTailRead begun prefix lines
+    read_tail begun prefix m [] told here size may h = absurd cc
+    read_tail begun prefix m (words ∷ lines) told here size may (next, inl stop, leads) =
         let c : ℕ = stop.0 in
         let p : ℕ = stop.1 in
         let line = stop.2 in
@@ -129,9 +129,9 @@ module _ (version : Version) (plan : Plan) where
         let at : begun.least + d ≡ c = omega (arith, line.may.rising) in
         let left : m ≡ d + e + 1 = omega (arith, line.may.rising, line.may.inside) in
         let shown : List (Option ℕ) = gap d ++ Some p ∷ [] in
-        let stops : after.stops ≡ (front ++ shown) ++ gap e = ap (λ (s : List (Option ℕ)). set s c (Some p)) told ∙ set_behind front m d e c (Some p) left (omega arith) in
-        let more = read_tail after (front ++ shown) e lines stops (omega (arith, length-append front shown, length-append (gap d) (Some p ∷ []), length-gap d)) (omega (arith, line.may.rising, line.may.inside)) (AreStops-set begun.calls begun.stops c p may line.may.inside line.may.early) (moved (script_rules version) (AtEnd plan) next (InBody kind after []) lines stop.3 leads) in
-        let joined : (front ++ shown) ++ more.rest ≡ front ++ (gap d ++ Some p ∷ more.rest) = append_assoc front shown more.rest ∙ ap (λ (s : List (Option ℕ)). front ++ s) (append_assoc (gap d) (Some p ∷ []) more.rest) in
+        let stops : after.stops ≡ (prefix ++ shown) ++ gap e = ap (λ (s : List (Option ℕ)). set s c (Some p)) told ∙ set_after prefix m d e c (Some p) left (omega arith) in
+        let more = read_tail after (prefix ++ shown) e lines stops (omega (arith, length-append prefix shown, length-append (gap d) (Some p ∷ []), length-gap d)) (omega (arith, line.may.rising, line.may.inside)) (AreStops-set begun.calls begun.stops c p may line.may.inside line.may.early) (moved (script_rules version) (AtEnd plan) next (InBody kind after []) lines stop.3 leads) in
+        let joined : (prefix ++ shown) ++ more.rest ≡ prefix ++ (gap d ++ Some p ∷ more.rest) = append_assoc prefix shown more.rest ∙ ap (λ (s : List (Option ℕ)). prefix ++ s) (append_assoc (gap d) (Some p ∷ []) more.rest) in
         record {
           rest = gap d ++ Some p ∷ more.rest;
           turns = more.turns;
@@ -139,9 +139,9 @@ module _ (version : Version) (plan : Plan) where
           stops = subst (AreStops begun.calls) joined more.stops;
           callers = more.callers;
           text = ap (λ (w : List (List ℕ)). w ∷ lines) line.text ∙ ap (λ (ls : List (List (List ℕ))). stop_words c p ∷ ls) more.text
-              ∙ ap (λ (ls : List (List (List ℕ))). ls ++ turns_words more.turns ∷ end_words ∷ []) (sym (lines_behind_gap begun.least d c p more.rest at));
+              ∙ ap (λ (ls : List (List (List ℕ))). ls ++ turns_words more.turns ∷ end_words ∷ []) (sym (lines_after_gap begun.least d c p more.rest at));
         }
-    read_tail begun front m (words ∷ lines) told here size may (next, inr turned, leads) =
+    read_tail begun prefix m (words ∷ lines) told here size may (next, inr turned, leads) =
         let end = read_end (plan_with kind begun turned.0) lines (moved (script_rules version) (AtEnd plan) next (Turned (plan_with kind begun turned.0)) lines turned.2 leads) in
         record {
           rest = gap m;
@@ -153,7 +153,7 @@ module _ (version : Version) (plan : Plan) where
               ∙ ap (λ (ls : List (List (List ℕ))). ls ++ turns_words turned.0 ∷ end_words ∷ []) (sym (no_lines begun.least m));
         }
 
-  enters : (due : HeadDue) (words : List (List ℕ)) (after : ScriptDue) → ScriptPasses version (InHead due) words after → (next : HeadDue) × HeadPasses version (codes "script") due words next × (after ≡ behind_head next)
+  enters : (due : HeadDue) (words : List (List ℕ)) (after : ScriptDue) → ScriptPasses version (InHead due) words after → (next : HeadDue) × HeadPasses version (codes "script") due words next × (after ≡ after_head next)
   enters due words after h = h
 
   -- ---- all lines
@@ -165,7 +165,7 @@ module _ (version : Version) (plan : Plan) where
   -- the parts that were read are those of the plan
   whole_read : (lines : List (List (List ℕ))) → To (InHead TitleDue) lines → IsWholeRead lines
   whole_read lines h =
-      let head = head_read (script_rules version) (AtEnd plan) version (codes "script") InHead behind_head enters refl (λ kind. refl) (λ kind n. refl) (λ due e. absurd cc) lines h in
+      let head = head_read (script_rules version) (AtEnd plan) version (codes "script") InHead after_head enters refl (λ kind. refl) (λ kind n. refl) (λ due e. absurd cc) lines h in
       let kind = head.object in
       let calls = read_callers kind (begin head.counts) 0 head.counts head.others head.leads in
       let begun : Begun = with_operations (begin head.counts) (concat calls.operations) in

@@ -17,20 +17,20 @@ use Rattle.book_text.specs.Ending.{IsEnded, IsNoEnd}
 use Rattle.book_text.proofs.Lifts.{goes_within, fault_within}
 use Rattle.book_text.proofs.Endings.{goes_end, stops_end}
 use Rattle.client_scripts.specs.Plans.{Plan}
-use Rattle.client_scripts.specs.ScriptRules.{InHead, Turned, AtEnd, behind_head, ScriptPasses, ScriptFails, script_wanted, script_rules, IsScriptText, IsNoScriptText, IsFirstScriptFault}
+use Rattle.client_scripts.specs.ScriptRules.{InHead, Turned, AtEnd, after_head, ScriptPasses, ScriptFails, script_wanted, script_rules, IsScriptText, IsNoScriptText, IsFirstScriptFault}
 use Rattle.client_scripts.proofs.SharpScripts.{script_sharp}
 
 -- ---- the head within the text of a script
 
 module _ (version : Version) where
-  head_right : (due after : HeadDue) (words : List (List ℕ)) → HeadPasses version (codes "script") due words after → ScriptPasses version (behind_head due) words (behind_head after)
+  head_right : (due after : HeadDue) (words : List (List ℕ)) → HeadPasses version (codes "script") due words after → ScriptPasses version (after_head due) words (after_head after)
   head_right TitleDue after words h = (after, h, refl)
   head_right ObjectDue after words h = (after, h, refl)
   head_right (CallersDue kind) after words h = (after, h, refl)
   head_right (CountsDue kind n) after words h = (after, h, refl)
   head_right (HeadRead kind calls) after words h = absurd h
 
-  head_wrong : (due : HeadDue) (bytes : List ℕ) (what : What) → IsWrong (head_rules version (codes "script")) due (head_wanted due) bytes what → IsWrong (script_rules version) (behind_head due) (script_wanted (behind_head due)) bytes what
+  head_wrong : (due : HeadDue) (bytes : List ℕ) (what : What) → IsWrong (head_rules version (codes "script")) due (head_wanted due) bytes what → IsWrong (script_rules version) (after_head due) (script_wanted (after_head due)) bytes what
   head_wrong TitleDue bytes what (inl h) = inl h
   head_wrong TitleDue bytes what (inr h) = inr (record { line = h.line; rest = h.rest; whole = h.whole; test = record { fails = h.test.fails; first = h.test.first } })
   head_wrong ObjectDue bytes what (inl h) = inl h
@@ -41,11 +41,11 @@ module _ (version : Version) where
   head_wrong (CountsDue kind n) bytes what (inr h) = inr (record { line = h.line; rest = h.rest; whole = h.whole; test = record { fails = h.test.fails; first = h.test.first } })
   head_wrong (HeadRead kind calls) bytes what h = absurd h
 
-  pub head_goes : (due after : HeadDue) (text left : Unread) → GoesTo (head_rules version (codes "script")) due text after left → GoesTo (script_rules version) (behind_head due) text (behind_head after) left
-  head_goes = goes_within (head_rules version (codes "script")) (script_rules version) behind_head head_right head_wrong
+  pub head_goes : (due after : HeadDue) (text left : Unread) → GoesTo (head_rules version (codes "script")) due text after left → GoesTo (script_rules version) (after_head due) text (after_head after) left
+  head_goes = goes_within (head_rules version (codes "script")) (script_rules version) after_head head_right head_wrong
 
-  pub head_fault : (due : HeadDue) (text : Unread) (fault : TextFault) → IsFirstFault (head_rules version (codes "script")) due text fault → IsFirstFault (script_rules version) (behind_head due) text fault
-  head_fault = fault_within (head_rules version (codes "script")) (script_rules version) behind_head head_right head_wrong
+  pub head_fault : (due : HeadDue) (text : Unread) (fault : TextFault) → IsFirstFault (head_rules version (codes "script")) due text fault → IsFirstFault (script_rules version) (after_head due) text fault
+  head_fault = fault_within (head_rules version (codes "script")) (script_rules version) after_head head_right head_wrong
 
 -- ---- the end
 
@@ -73,7 +73,7 @@ one_first_fault version = readings.one_first (script_rules version) (script_shar
 pub no_first_fault : (version : Version) (bytes : List ℕ) (plan : Plan) (fault : TextFault) → IsScriptText version bytes plan → IsFirstScriptFault version bytes fault → ⊥
 no_first_fault version = readings.no_first (script_rules version) (script_sharp version) (InHead TitleDue) AtEnd same_end (λ plan. refl)
 
--- no text is a proper front of another
+-- no text is a proper prefix of another
 pub no_prefix : (version : Version) (bytes more : List ℕ) (a b : Plan) → IsScriptText version bytes a → IsScriptText version (bytes ++ more) b → more ≡ []
 no_prefix version = readings.no_prefix (script_rules version) (script_sharp version) (InHead TitleDue) AtEnd same_end (λ plan. refl)
 

@@ -18,26 +18,26 @@ use Rattle.text_fields.specs.OperationLaws.{one_kind_operation, solid_kind_words
 use Rattle.text_fields.proofs.NumberTexts.{same_first, same_number, solid_decimal}
 use Rattle.text_fields.proofs.HeadTexts.{same_numbers, solid_numbers, plain, head_sharp}
 use Rattle.book_text.specs.CallLines.{place_words}
-use Rattle.book_text.proofs.EntryTexts.{behind_place}
-use Rattle.client_scripts.specs.ScriptRules.{Begun, with_operation, with_stop, plan_with, ScriptDue, InHead, InBody, Turned, AtEnd, behind_head, IsCallLine, CallFails, IsStopLine, IsTurnsLine, TailPasses, TailFails, ScriptPasses, ScriptFails, script_wanted, script_rules}
+use Rattle.book_text.proofs.EntryTexts.{after_place}
+use Rattle.client_scripts.specs.ScriptRules.{Begun, with_operation, with_stop, plan_with, ScriptDue, InHead, InBody, Turned, AtEnd, after_head, IsCallLine, CallFails, IsStopLine, IsTurnsLine, TailPasses, TailFails, ScriptPasses, ScriptFails, script_wanted, script_rules}
 
 -- ---- the line of a call
 
 pub small_has : (version : Version) (op : ℕ) → op < word_limit version → IsTrue (nat_lt op (word_limit version))
 small_has version op h = lt-ltb op (word_limit version) h
 
--- words behind an operation's are none where they are an operation's
+-- words after an operation's are none where they are an operation's
 pub one_operation : (version : Version) (kind : Kind) (a b : ℕ) (x y : List (List ℕ)) → a < word_limit version → b < word_limit version → operation_words kind a ++ x ≡ operation_words kind b ++ y → a ≡ b
 one_operation version kind a b x y h k e = one_kind_operation version kind a b x y (small_has version a h) (small_has version b k) e
 
 pub call_once : (version : Version) (kind : Kind) (call : Call) (words : List (List ℕ)) (a b : ℕ) → IsCallLine version kind call words a → IsCallLine version kind call words b → a ≡ b
 call_once version kind call words a b h k =
-    let e = behind_place call (operation_words kind a) (operation_words kind b) (sym h.text ∙ k.text) in
+    let e = after_place call (operation_words kind a) (operation_words kind b) (sym h.text ∙ k.text) in
     one_operation version kind a b [] [] h.has k.has (ap (λ (ws : List (List ℕ)). ws ++ []) e)
 
 call_apart : (version : Version) (kind : Kind) (call : Call) (words : List (List ℕ)) (op : ℕ) (name : What) → IsCallLine version kind call words op → CallFails version kind call words name → ⊥
 call_apart version kind call words op what.Place h k = k (operation_words kind op) h.text
-call_apart version kind call words op what.Op h k = k.2 op h.has (behind_place call k.0 (operation_words kind op) (sym k.1 ∙ h.text))
+call_apart version kind call words op what.Op h k = k.2 op h.has (after_place call k.0 (operation_words kind op) (sym k.1 ∙ h.text))
 call_apart version kind call words op _ h k = k
 
 call_solid : (version : Version) (kind : Kind) (call : Call) (words : List (List ℕ)) (op : ℕ) → IsCallLine version kind call words op → AreSolid words
@@ -48,7 +48,7 @@ call_solid version kind call words op h =
       each = AllByRecursion-append IsSolid (place_words call) (operation_words kind op) (solid_decimal call.caller h.named.0, (solid_decimal call.number h.named.1.0, tt)) operation.each;
     })
 
--- ---- the lines behind the calls
+-- ---- the lines after the calls
 
 -- a line that begins with 'stop' is no line of turns
 not_both : (x y : List (List ℕ)) → codes "stop" ∷ x ≡ codes "turns" ∷ y → ⊥
@@ -104,7 +104,7 @@ module _ (version : Version) where
   head = head_sharp version (codes "script") title_solid
 
   one_way : (due a b : ScriptDue) (words : List (List ℕ)) → ScriptPasses version due words a → ScriptPasses version due words b → a ≡ b
-  one_way (InHead due) a b words h k = h.2 ∙ ap behind_head (head.one_way due h.0 k.0 words h.1 k.1) ∙ sym k.2
+  one_way (InHead due) a b words h k = h.2 ∙ ap after_head (head.one_way due h.0 k.0 words h.1 k.1) ∙ sym k.2
   one_way (InBody kind begun []) a b words h k = tail_once kind begun words a b h k
   one_way (InBody kind begun (call ∷ calls)) a b words h k = h.2 ∙ ap (λ (op : ℕ). InBody kind (with_operation begun op) calls) (call_once version kind call words h.0 k.0 h.1 k.1) ∙ sym k.2
   one_way (Turned plan) a b words h k = h.1 ∙ sym k.1

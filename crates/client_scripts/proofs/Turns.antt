@@ -11,12 +11,12 @@ use Rattle.text_fields.proofs.NumberTexts.{same_first}
 use Rattle.text_fields.proofs.Sharp.{stops_line}
 
 -- where a further word stands, it is the next turn's
-pub turn_behind : (n : ℕ) (xs ys : List ℕ) (word : List ℕ) (words : List (List ℕ)) → map decimal ys ≡ map decimal xs ++ word ∷ words → AllByRecursion (λ caller. caller < n) ys
+pub turn_after : (n : ℕ) (xs ys : List ℕ) (word : List ℕ) (words : List (List ℕ)) → map decimal ys ≡ map decimal xs ++ word ∷ words → AllByRecursion (λ caller. caller < n) ys
     → (caller : ℕ) × (caller < n) × (word ≡ decimal caller)
-turn_behind n [] [] word words e h = absurd cc
-turn_behind n [] (y ∷ ys) word words e h = (y, h.0, sym (same_first (decimal y) word (map decimal ys) words e).0)
-turn_behind n (x ∷ xs) [] word words e h = absurd cc
-turn_behind n (x ∷ xs) (y ∷ ys) word words e h = turn_behind n xs ys word words (same_first (decimal y) (decimal x) (map decimal ys) (map decimal xs ++ word ∷ words) e).1 h.1
+turn_after n [] [] word words e h = absurd cc
+turn_after n [] (y ∷ ys) word words e h = (y, h.0, sym (same_first (decimal y) word (map decimal ys) words e).0)
+turn_after n (x ∷ xs) [] word words e h = absurd cc
+turn_after n (x ∷ xs) (y ∷ ys) word words e h = turn_after n xs ys word words (same_first (decimal y) (decimal x) (map decimal ys) (map decimal xs ++ word ∷ words) e).1 h.1
 
 -- callers can be written
 pub numbers_below : (n : ℕ) (xs : List ℕ) → n ≤ 2 ^ 64 → AllByRecursion (λ caller. caller < n) xs → AreNumbers xs

@@ -19,7 +19,7 @@ use Rattle.client_scripts.specs.declared.TheConstants.{PHASES}
 use Rattle.client_scripts.specs.Plans.{Plan, sizes, AreStops, IsPlan}
 use Rattle.client_scripts.specs.Grammar.{by_number, call_line, caller_lines, stop_line, turns_words, script_lines, IsWrittenText}
 use Rattle.client_scripts.specs.ScriptRules.{Begun, begin, with_operation, with_operations, with_stop, grouped, plan_with, InHead, InBody, Turned, AtEnd, ScriptPasses, script_rules, IsScriptText}
-use Rattle.client_scripts.proofs.Groups.{grouped-concat, gap, set_behind, length-stops}
+use Rattle.client_scripts.proofs.Groups.{grouped-concat, gap, set_after, length-stops}
 
 pub few_callers : (version : Version) → most_callers version < 2 ^ 32
 few_callers First = omega arith
@@ -33,9 +33,9 @@ pub few_calls : (version : Version) → most_calls version < 2 ^ 32
 few_calls First = omega arith
 few_calls Second = omega arith
 
--- the state behind calls, by their operations
-pub behind_calls : (kind : Kind) (begun : Begun) (due : List Call) (a b : List ℕ) → a ≡ b → InBody kind (record begun { operations = a }) due ≡ InBody kind (record begun { operations = b }) due
-behind_calls kind begun due a b e = ap (λ (ops : List ℕ). InBody kind (record begun { operations = ops }) due) e
+-- the state after calls, by their operations
+pub after_calls : (kind : Kind) (begun : Begun) (due : List Call) (a b : List ℕ) → a ≡ b → InBody kind (record begun { operations = a }) due ≡ InBody kind (record begun { operations = b }) due
+after_calls kind begun due a b e = ap (λ (ops : List ℕ). InBody kind (record begun { operations = ops }) due) e
 
 at_most : (most : ℕ) (counts : List ℕ) (i : ℕ) → AreAtMost most counts → get_or counts i 0 ≤ most
 at_most most [] i h = omega arith
@@ -49,35 +49,35 @@ module _ (version : Version) (kind : Kind) where
   -- the lines of a caller's calls are right
   caller_passes : (begun : Begun) (i k : ℕ) (ops : List ℕ) (due : List Call) → i < 2 ^ 64 → k + length ops < 2 ^ 64 → AreSmall ops
       → AllPass (ScriptPasses version) (InBody kind begun (calls_from i k (length ops) ++ due)) (by_number (call_line kind i) k ops) (InBody kind (with_operations begun ops) due)
-  caller_passes begun i k [] due few small has = behind_calls kind begun due begun.operations (begun.operations ++ []) (sym (append-nil begun.operations))
+  caller_passes begun i k [] due few small has = after_calls kind begun due begun.operations (begun.operations ++ []) (sym (append-nil begun.operations))
   caller_passes begun i k (op ∷ ops) due few small has =
       let next : Begun = with_operation begun op in
       let joined : (begun.operations ++ op ∷ []) ++ ops ≡ begun.operations ++ op ∷ ops = append_assoc begun.operations (op ∷ []) ops in (
         InBody kind next (calls_from i (k + 1) (length ops) ++ due),
         (op, record { named = (few, (omega arith, tt)); has = has.0; text = refl }, refl),
-        subst (AllPass (ScriptPasses version) (InBody kind next (calls_from i (k + 1) (length ops) ++ due)) (by_number (call_line kind i) (k + 1) ops)) (behind_calls kind begun due _ _ joined)
+        subst (AllPass (ScriptPasses version) (InBody kind next (calls_from i (k + 1) (length ops) ++ due)) (by_number (call_line kind i) (k + 1) ops)) (after_calls kind begun due _ _ joined)
             (caller_passes next i (k + 1) ops due few (omega arith) has.1),
       )
 
   -- so are the lines of all callers' calls
   callers_pass : (most : ℕ) (begun : Begun) (i : ℕ) (operations : List (List ℕ)) → most < 2 ^ 32 → i + length operations < 2 ^ 64 → AreAtMost most (sizes operations) → AllByRecursion AreSmall operations
       → AllPass (ScriptPasses version) (InBody kind begun (all_calls i (sizes operations))) (by_number (caller_lines kind) i operations) (InBody kind (with_operations begun (concat operations)) [])
-  callers_pass most begun i [] few small calls has = behind_calls kind begun [] begun.operations (begun.operations ++ []) (sym (append-nil begun.operations))
+  callers_pass most begun i [] few small calls has = after_calls kind begun [] begun.operations (begun.operations ++ []) (sym (append-nil begun.operations))
   callers_pass most begun i (ops ∷ operations) few small calls has =
       let joined : (begun.operations ++ ops) ++ concat operations ≡ begun.operations ++ (ops ++ concat operations) = append_assoc begun.operations ops (concat operations) in
       let later : List Call = all_calls (i + 1) (sizes operations) in
       AllPass-append (script_rules version) (InBody kind begun (all_calls i (sizes (ops ∷ operations)))) (InBody kind (with_operations begun ops) later) (InBody kind (with_operations begun (concat (ops ∷ operations))) [])
       (caller_lines kind i ops) (by_number (caller_lines kind) (i + 1) operations)
       (caller_passes begun i 0 ops later (omega arith) (omega (arith, calls.0)) has.0)
-      (subst (AllPass (ScriptPasses version) (InBody kind (with_operations begun ops) later) (by_number (caller_lines kind) (i + 1) operations)) (behind_calls kind begun [] _ _ joined)
+      (subst (AllPass (ScriptPasses version) (InBody kind (with_operations begun ops) later) (by_number (caller_lines kind) (i + 1) operations)) (after_calls kind begun [] _ _ joined)
       (callers_pass most (with_operations begun ops) (i + 1) operations few (omega arith) calls.1 has.1))
 
-  -- the stops told so far are a front of all stops, and none is told of the callers behind it
+  -- the stops told so far are a prefix of all stops, and none is told of the callers after it
   record AreToldTo (calls : List ℕ) (stops whole : List (Option ℕ)) (i least : ℕ) (done counts : List ℕ) (rest : List (Option ℕ)) : Type 0 where
-    pub front : List (Option ℕ)
-    pub told : stops ≡ front ++ gap (length rest)
-    pub all : whole ≡ front ++ rest
-    pub here : i ≡ length front
+    pub prefix : List (Option ℕ)
+    pub told : stops ≡ prefix ++ gap (length rest)
+    pub all : whole ≡ prefix ++ rest
+    pub here : i ≡ length prefix
     pub order : least ≤ i
     pub split : calls ≡ done ++ counts
     pub place : length done ≡ i
@@ -86,7 +86,7 @@ module _ (version : Version) (kind : Kind) where
   get_middle [] c counts = refl
   get_middle (d ∷ done) c counts = get_middle done c counts
 
-  -- the lines behind the calls are right
+  -- the lines after the calls are right
   tail_passes : (calls operations : List ℕ) (turns : List ℕ) (stops whole : List (Option ℕ)) (i least : ℕ) (done counts : List ℕ) (rest : List (Option ℕ)) → AreToldTo calls stops whole i least done counts rest → AreStops counts rest
       → length calls < 2 ^ 32 → AreAtMost (2 ^ 32) calls → AllByRecursion (λ caller. caller < length calls) turns → AreNumbers turns
       → AllPass (ScriptPasses version) (InBody kind (record { calls = calls; operations = operations; stops = stops; least = least }) []) (by_number stop_line i rest ++ turns_words turns ∷ [])
@@ -101,10 +101,10 @@ module _ (version : Version) (kind : Kind) where
   tail_passes calls operations turns stops whole i least done (c ∷ counts) (None ∷ rest) told may few small callers numbers =
       let one : List (Option ℕ) = None ∷ [] in
       tail_passes calls operations turns stops whole (i + 1) least (done ++ c ∷ []) counts rest (record {
-        front = told.front ++ one;
-        told = told.told ∙ sym (append_assoc told.front (None ∷ []) (gap (length rest)));
-        all = told.all ∙ sym (append_assoc told.front (None ∷ []) rest);
-        here = omega (arith, told.here, length-append told.front one);
+        prefix = told.prefix ++ one;
+        told = told.told ∙ sym (append_assoc told.prefix (None ∷ []) (gap (length rest)));
+        all = told.all ∙ sym (append_assoc told.prefix (None ∷ []) rest);
+        here = omega (arith, told.here, length-append told.prefix one);
         order = omega (arith, told.order);
         split = told.split ∙ sym (append_assoc done (c ∷ []) counts);
         place = omega (arith, told.place, length-append done (c ∷ []));
@@ -119,10 +119,10 @@ module _ (version : Version) (kind : Kind) where
         InBody kind next [],
         inl (i, phases, record { may = record { rising = told.order; inside = inside; early = early; numbers = (omega arith, (omega arith, tt)) }; text = refl }, refl),
         tail_passes calls operations turns next.stops whole (i + 1) (i + 1) (done ++ c ∷ []) counts rest (record {
-          front = told.front ++ Some phases ∷ [];
-          told = ap (λ (s : List (Option ℕ)). set s i (Some phases)) told.told ∙ set_behind told.front (length (Some phases ∷ rest)) 0 (length rest) i (Some phases) (omega arith) (omega (arith, told.here));
-          all = told.all ∙ sym (append_assoc told.front (Some phases ∷ []) rest);
-          here = omega (arith, told.here, length-append told.front (Some phases ∷ []));
+          prefix = told.prefix ++ Some phases ∷ [];
+          told = ap (λ (s : List (Option ℕ)). set s i (Some phases)) told.told ∙ set_after told.prefix (length (Some phases ∷ rest)) 0 (length rest) i (Some phases) (omega arith) (omega (arith, told.here));
+          all = told.all ∙ sym (append_assoc told.prefix (Some phases ∷ []) rest);
+          here = omega (arith, told.here, length-append told.prefix (Some phases ∷ []));
           order = omega arith;
           split = told.split ∙ sym (append_assoc done (c ∷ []) counts);
           place = omega (arith, told.place, length-append done (c ∷ []));
@@ -153,14 +153,14 @@ module _ (version : Version) (plan : Plan) (w : IsPlan version plan) where
       let stops : List (List (List ℕ)) = by_number stop_line 0 plan.stops in
       let turns = turns_words plan.turns in
       let told = tail_passes version plan.kind counts (concat plan.operations) plan.turns began.stops plan.stops 0 0 [] counts plan.stops
-      (record { front = []; told = ap gap (sym (length-stops counts plan.stops w.stops)); all = refl; here = refl; order = omega arith; split = refl; place = refl })
+      (record { prefix = []; told = ap gap (sym (length-stops counts plan.stops w.stops)); all = refl; here = refl; order = omega arith; split = refl; place = refl })
       w.stops (omega (arith, w.callers, few_callers version)) (wider counts w.calls) (subst (λ (n : ℕ). AllByRecursion (λ caller. caller < n) plan.turns) (sym size) w.turns) (turns_small plan.turns w.turns) in
       let tail : AllPass (ScriptPasses version) (InBody plan.kind read []) (stops ++ turns ∷ []) (Turned plan)
       = subst (λ (p : Plan). AllPass (ScriptPasses version) (InBody plan.kind read []) (stops ++ turns ∷ []) (Turned p)) same told in
       let last : AllPass (ScriptPasses version) (Turned plan) (end_words ∷ []) (AtEnd plan) = (AtEnd plan, (refl, refl), refl) in
       let ended = AllPass-append (script_rules version) (InBody plan.kind read []) (Turned plan) (AtEnd plan) (stops ++ turns ∷ []) (end_words ∷ []) tail last in
       let joined : (stops ++ turns ∷ []) ++ end_words ∷ [] ≡ stops ++ turns ∷ end_words ∷ [] = append_assoc stops (turns ∷ []) (end_words ∷ []) in
-      let behind = subst (λ (ls : List (List (List ℕ))). AllPass (ScriptPasses version) (InBody plan.kind read []) ls (AtEnd plan)) joined ended in (
+      let suffix = subst (λ (ls : List (List (List ℕ))). AllPass (ScriptPasses version) (InBody plan.kind read []) ls (AtEnd plan)) joined ended in (
         InHead ObjectDue,
         (ObjectDue, (refl, refl), refl),
         (
@@ -172,7 +172,7 @@ module _ (version : Version) (plan : Plan) (w : IsPlan version plan) where
             (
               InBody plan.kind began (all_calls 0 counts),
               (HeadRead plan.kind counts, (counts, record { count = refl; few = w.calls }, refl, refl), refl),
-              AllPass-append (script_rules version) (InBody plan.kind began (all_calls 0 counts)) (InBody plan.kind read []) (AtEnd plan) (by_number (caller_lines plan.kind) 0 plan.operations) (stops ++ turns ∷ end_words ∷ []) calls behind,
+              AllPass-append (script_rules version) (InBody plan.kind began (all_calls 0 counts)) (InBody plan.kind read []) (AtEnd plan) (by_number (caller_lines plan.kind) 0 plan.operations) (stops ++ turns ∷ end_words ∷ []) calls suffix,
             ),
           ),
         ),

@@ -38,7 +38,7 @@ generated_operation Map v k = by_thirds k (operation words.put (v % 8) v) (opera
 abbrev pub generated_operations : ℕ → ℕ → Kind → ℕ → List ℕ
 generated_operations number calls kind caller = map (λ k. generated_operation kind (value_of number caller k) k) (range_with_len 0 calls)
 
--- The script made from a number: so many callers with so many calls each, no stop and no turns.
+-- The script made from a number: this many callers with this many calls each, no stop and no turns.
 abbrev pub generated : ℕ → ℕ → ℕ → Kind → Plan
 generated number callers calls kind = record {
   kind = kind;

@@ -28,12 +28,12 @@ IsCallRead words call text op left =
 abbrev pub IsCallFault : KindWords → Call → Unread → TextFault → Type 0
 IsCallFault words call text fault = (begun : Begun) (more : List Call) → IsFirstFault (script_rules words.version) (InBody words.kind begun (call ∷ more)) text fault
 
--- the next lines are those of so many calls of a caller, with these operations
+-- the next lines are those of this many calls of a caller, with these operations
 abbrev pub AreCallsRead : KindWords → ℕ → ℕ → Unread → List ℕ → Unread → Type 0
 AreCallsRead words i count text ops left =
     (begun : Begun) (more : List Call) → GoesTo (script_rules words.version) (InBody words.kind begun (calls_from i 0 count ++ more)) text (InBody words.kind (with_operations begun ops) more) left
 
--- in the next lines, which are to be those of so many calls of a caller, a reader stops
+-- in the next lines, which are to be those of this many calls of a caller, a reader stops
 abbrev pub AreCallsStopped : KindWords → ℕ → ℕ → Unread → ReadFault → Type 0
 AreCallsStopped words i count text e = (begun : Begun) (more : List Call) → StopsFor (script_rules words.version) (InBody words.kind begun (calls_from i 0 count ++ more)) text e
 

@@ -70,12 +70,12 @@ pub data ScriptDue : Type 0 where
   AtEnd : Plan → ScriptDue
 
 -- After the head come the calls.
-abbrev pub behind_head : HeadDue → ScriptDue
-behind_head TitleDue = InHead TitleDue
-behind_head ObjectDue = InHead ObjectDue
-behind_head (CallersDue kind) = InHead (CallersDue kind)
-behind_head (CountsDue kind n) = InHead (CountsDue kind n)
-behind_head (HeadRead kind calls) = InBody kind (begin calls) (all_calls 0 calls)
+abbrev pub after_head : HeadDue → ScriptDue
+after_head TitleDue = InHead TitleDue
+after_head ObjectDue = InHead ObjectDue
+after_head (CallersDue kind) = InHead (CallersDue kind)
+after_head (CountsDue kind n) = InHead (CountsDue kind n)
+after_head (HeadRead kind calls) = InBody kind (begin calls) (all_calls 0 calls)
 
 -- ---- the lines of calls
 
@@ -92,9 +92,9 @@ pub record IsCallLine (version : Version) (kind : Kind) (call : Call) (words : L
 -- the tests of the line of a call
 abbrev pub CallFails : Version → Kind → Call → List (List ℕ) → What → Type 0
 -- the line doesn't begin with the caller and the number that are due
-CallFails version kind call words what.Place = (behind : List (List ℕ)) → words ≢ place_words call ++ behind
+CallFails version kind call words what.Place = (suffix : List (List ℕ)) → words ≢ place_words call ++ suffix
 -- the words after them are no operation, and nothing more
-CallFails version kind call words what.Op = (behind : List (List ℕ)) × (words ≡ place_words call ++ behind) × ((op : ℕ) → op < word_limit version → behind ≢ operation_words kind op)
+CallFails version kind call words what.Op = (suffix : List (List ℕ)) × (words ≡ place_words call ++ suffix) × ((op : ℕ) → op < word_limit version → suffix ≢ operation_words kind op)
 CallFails version kind call words _ = ⊥
 
 -- ---- the lines of stops and of turns
@@ -106,7 +106,7 @@ pub record IsStop (begun : Begun) (caller phases : ℕ) : Type 0 where
   pub early : phases < PHASES * slice_index begun.calls caller
   pub numbers : AreNumbers (caller ∷ phases ∷ [])
 
--- turns of so many callers
+-- turns of this many callers
 pub record AreTurns (n : ℕ) (turns : List ℕ) : Type 0 where
   pub callers : AllByRecursion (λ caller. caller < n) turns
   pub numbers : AreNumbers turns
@@ -116,14 +116,14 @@ pub record IsStopLine (begun : Begun) (words : List (List ℕ)) (caller phases :
   pub may : IsStop begun caller phases
   pub text : words ≡ stop_words caller phases
 
--- the line of the turns of so many callers
+-- the line of the turns of this many callers
 pub record IsTurnsLine (n : ℕ) (words : List (List ℕ)) (turns : List ℕ) : Type 0 where
   pub may : AreTurns n turns
   pub text : words ≡ turns_words turns
 
 -- the line begins with the word 'stop', and these words stand after it
 abbrev pub BeginsAsStop : List (List ℕ) → List (List ℕ) → Type 0
-BeginsAsStop words behind = words ≡ codes "stop" ∷ behind
+BeginsAsStop words suffix = words ≡ codes "stop" ∷ suffix
 
 -- the right lines after the calls: a stop, or the turns
 abbrev pub TailPasses : Kind → Begun → List (List ℕ) → ScriptDue → Type 0
@@ -134,16 +134,16 @@ TailPasses kind begun words after =
 -- the tests of the lines after the calls
 abbrev pub TailFails : Begun → List (List ℕ) → What → Type 0
 -- the line begins with the word 'stop', and is no line of a stop
-TailFails begun words what.Stop = (behind : List (List ℕ)) × BeginsAsStop words behind × ((caller phases : ℕ) → ¬ (IsStopLine begun words caller phases))
+TailFails begun words what.Stop = (suffix : List (List ℕ)) × BeginsAsStop words suffix × ((caller phases : ℕ) → ¬ (IsStopLine begun words caller phases))
 -- the line doesn't begin with the word 'stop', and is no line of turns
-TailFails begun words what.Turns = ((behind : List (List ℕ)) → ¬ (BeginsAsStop words behind)) × ((turns : List ℕ) → ¬ (IsTurnsLine (length begun.calls) words turns))
+TailFails begun words what.Turns = ((suffix : List (List ℕ)) → ¬ (BeginsAsStop words suffix)) × ((turns : List ℕ) → ¬ (IsTurnsLine (length begun.calls) words turns))
 TailFails begun words _ = ⊥
 
 -- ---- the rules
 
 -- the right lines of a script's text
 abbrev pub ScriptPasses : Version → ScriptDue → List (List ℕ) → ScriptDue → Type 0
-ScriptPasses version (InHead due) words after = (next : HeadDue) × HeadPasses version (codes "script") due words next × (after ≡ behind_head next)
+ScriptPasses version (InHead due) words after = (next : HeadDue) × HeadPasses version (codes "script") due words next × (after ≡ after_head next)
 ScriptPasses version (InBody kind begun []) words after = TailPasses kind begun words after
 ScriptPasses version (InBody kind begun (call ∷ calls)) words after = (op : ℕ) × IsCallLine version kind call words op × (after ≡ InBody kind (with_operation begun op) calls)
 ScriptPasses version (Turned plan) words after = (words ≡ end_words) × (after ≡ AtEnd plan)

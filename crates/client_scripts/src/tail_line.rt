@@ -15,7 +15,7 @@ use text_fields::{Words, next_number, number};
 
 /// What a line after the calls says.
 pub(crate) enum TailLine {
-    /// This caller stops after so many phases.
+    /// This caller stops after this many phases.
     Stop(u32, u64),
     /// The callers that take turns.
     Turns(Vec<u32>),
@@ -79,7 +79,7 @@ fn read_stop(words: &mut Words, clients: &[Client], least: u32) -> Option<(u32, 
     }
 }
 
-/// Whether this caller may stop after so many phases.
+/// Whether this caller may stop after this many phases.
 fn may_stop(clients: &[Client], least: u32, caller: u64, phases: u64) -> bool
     ensures { IsTrue result ↔ IsStop (told clients.now least) caller phases }
 {

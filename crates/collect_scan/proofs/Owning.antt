@@ -18,7 +18,7 @@ use Rattle.world_laws.proofs.Ordering.{cuts_rise, cuts_hold_looked}
 use Rattle.world_laws.proofs.Owning.{AllOwned, Owns, OwnsKept, start_owned, steps_owned}
 use Rattle.collect_scan.specs.Scanned.{scan_with, HasScanned}
 use Rattle.collect_scan.specs.Given.{given_with, AddsCut, CutsAreFew, OwnEntriesAreCounts, CutsHoldGiven, CutsHoldLooks, ViewScansHavePhase}
-use Rattle.collect_scan.proofs.Leaving.{scans_add_their_cut, ended, purpose, after_is}
+use Rattle.collect_scan.proofs.ReadOnly.{scans_add_their_cut, ended, purpose, after_is}
 
 -- What holds of a local of a reachable world.
 record Of (i : ℕ) (l : Local) : Type 0 where
@@ -123,9 +123,9 @@ module _ (s : Shape) (i : ℕ) (region : Region) (opening : Opening) (cut : List
   old_there p given there =
       ap (λ (gs : List Given). slice_get gs p) adds.cuts ∙ slice_get-push_old before.cuts (given_with before region cut) p given there
 
-slice_get-behind : {X : Type 0} (more xs : List X) (p : ℕ) → slice_get (more ++ xs) (length more + p) ≡ slice_get xs p
-slice_get-behind [] xs p = ap (slice_get xs) (let e : 0 + p ≡ p = omega arith in e)
-slice_get-behind (y ∷ more) xs p = ap (slice_get (y ∷ (more ++ xs))) (let e : length (y ∷ more) + p ≡ suc (length more + p) = omega arith in e) ∙ slice_get-behind more xs p
+slice_get-suffix : {X : Type 0} (more xs : List X) (p : ℕ) → slice_get (more ++ xs) (length more + p) ≡ slice_get xs p
+slice_get-suffix [] xs p = ap (slice_get xs) (let e : 0 + p ≡ p = omega arith in e)
+slice_get-suffix (y ∷ more) xs p = ap (slice_get (y ∷ (more ++ xs))) (let e : length (y ∷ more) + p ≡ suc (length more + p) = omega arith in e) ∙ slice_get-suffix more xs p
 
 pub cuts_are_few : CutsAreFew
 cuts_are_few s i region opening cut before after (locals, t, low, is) h j =
@@ -147,6 +147,6 @@ cuts_hold_looks s i region opening cut before after (locals, t, low, is) h p loo
     let a = adds s i region opening cut before after h in
     let long : length (local_at locals i).looked ≡ length a.looks + length before.looked = ap (λ (m : Local). length m.looked) is ∙ ap length a.looked ∙ length-append a.looks before.looked in
     cuts_hold_looked s locals i (length a.looks + p) (length before.cuts) look (given_with before region cut) t low
-    (ap (λ (m : Local). slice_get m.looked (length a.looks + p)) is ∙ ap (λ (xs : List Looked). slice_get xs (length a.looks + p)) a.looked ∙ slice_get-behind a.looks before.looked p ∙ there)
+    (ap (λ (m : Local). slice_get m.looked (length a.looks + p)) is ∙ ap (λ (xs : List Looked). slice_get xs (length a.looks + p)) a.looked ∙ slice_get-suffix a.looks before.looked p ∙ there)
     (ap (λ (m : Local). slice_get m.cuts (length before.cuts)) is ∙ last_there s i region opening cut before after h)
     (omega (arith, long)) same

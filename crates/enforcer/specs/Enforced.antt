@@ -16,7 +16,7 @@ use Rattle.row_gather.specs.declared.gathered.Gathered.{Gathered}
 use Rattle.enforcer.specs.declared.outcome.Outcome.{Outcome}
 use Rattle.enforcer.specs.declared.outcome.Unjudged.{Unjudged}
 use Rattle.enforcer.specs.Judged.{record_in, cut_in, end_of, is_illegal, IsRightFor, IsRightByPeeks}
-use Rattle.enforcer.specs.Kept.{TicksForNewBehind}
+use Rattle.enforcer.specs.Kept.{TicksForNewAfter}
 
 -- How far a caller has come after a whole call: one call more, with this operation, this record and this seen cut, and published.
 abbrev pub after_call : ℕ → Record → List ℕ → Progress → Progress
@@ -34,7 +34,7 @@ reply_of (Err u) = u.reply
 -- book that was kept before.
 abbrev pub TicksForWholeCall : ℕ → Option Gathered → Outcome → Option Gathered → ℕ → ℕ → Type 0
 TicksForWholeCall n kept outcome gathered before after =
-    (scanned : ℕ) × (before ≤ scanned) × (scanned ≤ before + 4 * most_words n) × TicksForNewBehind n kept outcome gathered scanned after
+    (scanned : ℕ) × (before ≤ scanned) × (scanned ≤ before + 4 * most_words n) × TicksForNewAfter n kept outcome gathered scanned after
 
 -- An outcome that is right by what its caller peeked is the verdict at the end of the call's line.
 abbrev pub OutcomesAreVerdicts : Type 0

@@ -25,11 +25,11 @@ abbrev pub IsVerdictOn : Record → List ℕ → LineEnd → Type 0
 IsVerdictOn r cut end = (end ≡ Delivered r cut) ⊎ (end ≡ Error r cut)
 
 -- How the caller stands after that: halted after an error, and else ready for its next call.
-abbrev pub stance_behind : LineEnd → Stance
-stance_behind (Error r cut) = record ready { live = false }
-stance_behind _ = ready
+abbrev pub stance_after : LineEnd → Stance
+stance_after (Error r cut) = record ready { live = false }
+stance_after _ = ready
 
--- Behind a reply that is delivered to one of n callers its book is kept, at the seen cut; behind an error none is.
-abbrev pub IsKeptBehindLine : ℕ → LineEnd → Option Gathered → Type 0
-IsKeptBehindLine n (Delivered r cut) gathered = IsSomeAnd gathered (λ g. (length g.book ≡ n) × (g.cut ≡ cut))
-IsKeptBehindLine n _ gathered = gathered ≡ None
+-- After a reply that is delivered to one of n callers its book is kept, at the seen cut; after an error none is.
+abbrev pub IsKeptAfterLine : ℕ → LineEnd → Option Gathered → Type 0
+IsKeptAfterLine n (Delivered r cut) gathered = IsSomeAnd gathered (λ g. (length g.book ≡ n) × (g.cut ≡ cut))
+IsKeptAfterLine n _ gathered = gathered ≡ None

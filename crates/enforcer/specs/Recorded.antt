@@ -1,4 +1,4 @@
--- How the local of a caller stands behind the publication of its record.
+-- How the local of a caller stands after the publication of its record.
 use Rattle.std.specs.Prelude.{◌≡◌, ◌<◌, ◌-◌, ℕ, Bool, true, false, is_none, List, [], ◌∷◌, Option, None, Some, slice_index, slice_index_or}
 use Rattle.world_core.specs.declared.region.Region.{Region}
 use Rattle.world_core.specs.declared.region.Region.TheVariants.{N, M}

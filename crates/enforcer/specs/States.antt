@@ -1,4 +1,4 @@
--- The callers inside the states of a call behind its publication, and what these states tell.
+-- The callers inside the states of a call after its publication, and what these states tell.
 use Rattle.std.specs.Prelude.{ℕ, List}
 use Rattle.row_table.specs.declared.caller.Caller.{Caller}
 use Rattle.enforcer.specs.declared.published_call.Published.{Published}

@@ -8,7 +8,7 @@ ghost use Rattle.drv_wrapper.specs.Stands.{ready};
 ghost use Rattle.drv_wrapper.specs.Telling.{told_after};
 ghost use Rattle.enforcer.specs.Recorded.{HoldsOwn};
 ghost use Rattle.enforcer.specs.Judged.{record_in, cut_in, stance_after, AreWide, IsRightByPeeks, IsRightOf};
-ghost use Rattle.enforcer.specs.Kept.{IsKeptBehind};
+ghost use Rattle.enforcer.specs.Kept.{IsKeptAfterOutcome};
 ghost use Rattle.enforcer.specs.Enforced.{after_call, record_unjudged, reply_of, TicksForWholeCall};
 
 use crate::judging::judge;
@@ -30,7 +30,7 @@ use world_core::{Outside, Program};
 /// The call is announced, the object is asked, the view is taken, and the record, reply and view, is published; then
 /// the cut of what is published is seen, and the book at that cut is judged.
 ///
-/// This is the call to make in place of the object's own. Two callers of a queue, one after the other, over an
+/// This is the call to make instead of the object's own. Two callers of a queue, one after the other, over an
 /// object `Replies` and its `RepliesPass` that are written as on the page of [`BlackBox`]:
 ///
 /// ```text
@@ -208,7 +208,7 @@ pub fn enforce<S: SeqObject, B: BlackBox, L: Ledger>(
     ensures kept { IfOk result (λ r. IsGatheredBy (local_with r.0) gathered.new) }
     // After `Delivered` a book of as many callers as the rows have is kept, at the seen cut, and
     // after `Illegal` none is.
-    ensures kept_book { IfOk result (λ r. IsKeptBehind rows.now.callers r.1 gathered.new) }
+    ensures kept_book { IfOk result (λ r. IsKeptAfterOutcome rows.now.callers r.1 gathered.new) }
     // With an outcome the counter of steps has risen by at most four times the most words that a
     // scan takes, and then once for each word of the call's book that the book kept before lacks,
     // where that is of as many callers and its cut is within the seen one.

@@ -11,7 +11,7 @@ ghost use Rattle.drv_wrapper.specs.Stands.{ready};
 ghost use Rattle.enforcer.specs.Recorded.{HoldsOwn};
 ghost use Rattle.enforcer.specs.States.{caller_seen, reply_seen, view_seen, cut_seen};
 ghost use Rattle.enforcer.specs.Judged.{record_in, cut_in, stance_after, IsRightByPeeks, IsRightOf};
-ghost use Rattle.enforcer.specs.Kept.{IsKeptBehind, TicksForNewBehind};
+ghost use Rattle.enforcer.specs.Kept.{IsKeptAfterOutcome, TicksForNewAfter};
 
 use crate::outcome::{Outcome, Unjudged};
 use crate::seen_call::Seen;
@@ -160,11 +160,11 @@ pub fn judge<P: Program, S: SeqObject, L: Ledger>(
     ensures kept { IfOk result (λ r. IsGatheredBy (local_with r.0) gathered.new) }
     // After `Delivered` a book of as many callers as the rows have is kept, at the seen cut, and
     // after `Illegal` none is.
-    ensures kept_book { IfOk result (λ r. IsKeptBehind rows.now.callers r.1 gathered.new) }
+    ensures kept_book { IfOk result (λ r. IsKeptAfterOutcome rows.now.callers r.1 gathered.new) }
     // With an outcome the counter of steps has risen once for each word of the call's book that the
     // book kept before lacks, where that is of as many callers and its cut is within the seen one.
     ensures new_words { IfOk result (λ r.
-        TicksForNewBehind rows.now.callers gathered.old r.1 gathered.new steps.old steps.new) }
+        TicksForNewAfter rows.now.callers gathered.old r.1 gathered.new steps.old steps.new) }
     // The caller of an unjudged call is still one of these rows, with the same number.
     ensures unjudged_caller { IfErr result (λ u. IsStill P.meaning rows.now (caller_seen seen) u.caller) }
     // The caller of an unjudged call has made peeks alone, and the counter of steps has risen by 1

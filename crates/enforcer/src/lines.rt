@@ -11,7 +11,7 @@ ghost use Rattle.frontier_check.specs.Standing.{IsStandingFor};
 ghost use Rattle.drv_wrapper.specs.Stands.{ready};
 ghost use Rattle.enforcer.specs.Recorded.{HoldsOwn};
 ghost use Rattle.enforcer.specs.States.{caller_seen, reply_seen, view_seen, cut_seen};
-ghost use Rattle.enforcer.specs.Lines.{StandsIn, IsHeldIn, IsVerdictOn, stance_behind, IsKeptBehindLine};
+ghost use Rattle.enforcer.specs.Lines.{StandsIn, IsHeldIn, IsVerdictOn, stance_after, IsKeptAfterLine};
 
 use crate::judging::{gather, halted};
 use crate::outcome::Unjudged;
@@ -127,7 +127,7 @@ pub fn judge_line<P: Program, S: SeqObject, L: Ledger>(
     // With an end of the line the caller is idle.
     ensures idle { IfOk result (λ r. IsIdle (local_with r.0)) }
     // With `Error` the caller is halted, and with any other end it is ready for its next call.
-    ensures stance { IfOk result (λ r. stance_of r.0 ≡ stance_behind r.1) }
+    ensures stance { IfOk result (λ r. stance_of r.0 ≡ stance_after r.1) }
     // The line ends with `Delivered` or with `Error`, with the record and the cut of the seen call.
     ensures end { IfOk result (λ r. IsVerdictOn (record { reply = reply_seen seen; view = view_seen seen }) (cut_seen seen) r.1) }
     // With an end of the line the seen cut holds each record that the caller has published, and no
@@ -142,7 +142,7 @@ pub fn judge_line<P: Program, S: SeqObject, L: Ledger>(
     ensures kept { IfOk result (λ r. IsGatheredBy (local_with r.0) gathered.new) }
     // After `Delivered` a book of as many callers as the rows have is kept, at the seen cut, and
     // after any other end none is.
-    ensures kept_book { IfOk result (λ r. IsKeptBehindLine rows.now.callers r.1 gathered.new) }
+    ensures kept_book { IfOk result (λ r. IsKeptAfterLine rows.now.callers r.1 gathered.new) }
     // Where a book is now kept, what is kept of an order stands, for this object, in that book or
     // in one from which it has grown.
     ensures stands { StandsIn (S.init object.now) (S.next object.now) gathered.new standing.new }

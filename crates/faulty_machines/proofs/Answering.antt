@@ -1,4 +1,4 @@
--- The last call of a log is answered as its definition says behind the earlier ones.
+-- The last call of a log is answered as its definition says after the earlier ones.
 use Rattle.std.proofs.Common.{◌≡◌, ◌≢◌, ℕ, ◌+◌, ◌-◌, ◌%◌, ◌⊎◌, inl, inr, ◌==◌, eqb, Bool, true, false, not, ◌&&◌, if◌then◌else◌, cond, List, [], ◌∷◌, ◌++◌, length, Option, None, refl, sym, ap, ◌∙◌, arith}
 use Rattle.std.specs.List.{filter}
 use Rattle.std.proofs.lemmas.Bool.Decides.{eqb_tells}
@@ -9,8 +9,8 @@ use Rattle.shared_log.specs.Entries.{entry}
 use Rattle.faulty_machines.specs.Calls.{is_put, earlier, last_call, unless, reply_after}
 use Rattle.faulty_machines.specs.Lossy.{turned, without_second_puts, puts_in, LosesEachSecondPut}
 use Rattle.faulty_machines.specs.Twice.{without_takes, TakesLeaveTheList}
-use Rattle.faulty_machines.specs.Late.{waits_after, waiting_from, waiting_of, late_change, late_changes, late_reply_behind, PutsWait}
-use Rattle.faulty_machines.specs.Invent.{invent_reply_behind, ThirdCallsAreInvented}
+use Rattle.faulty_machines.specs.Late.{waits_after, waiting_from, waiting_of, late_change, late_changes, late_reply_after, PutsWait}
+use Rattle.faulty_machines.specs.Invent.{invent_reply_after, ThirdCallsAreInvented}
 
 -- a log parted from its last call
 pub earlier-more : (before : List Entry) (e : Entry) → earlier (before ++ e ∷ []) ≡ before
@@ -27,9 +27,9 @@ pub takes_leave_the_list : TakesLeaveTheList
 takes_leave_the_list next init before e = answer-more (λ (l : List Entry) (c : Entry). reply_after next init (without_takes l) c.op) before e
 
 pub third_calls_are_invented : ThirdCallsAreInvented
-third_calls_are_invented next init before e = answer-more (invent_reply_behind next init) before e
+third_calls_are_invented next init before e = answer-more (invent_reply_after next init) before e
 
--- whether a number is odd, and whether the next put is a second one behind so many puts
+-- whether a number is odd, and whether the next put is a second one after this many puts
 odd_by : (n : ℕ) → ((eqb (n % 2) 1 ≡ true) × (n % 2 ≡ 1)) ⊎ ((eqb (n % 2) 1 ≡ false) × (n % 2 ≢ 1)) → not (n % 2 == 1) ≡ ((n + 1) % 2 == 1)
 odd_by n (inl h) = ap not h.0 ∙ sym (ne_eqb ((n + 1) % 2) 1 (λ e. let odd = h.1 in omega arith))
 odd_by n (inr h) = ap not h.0 ∙ sym (eq-eqb ((n + 1) % 2) 1 (let even = h.1 in omega arith))
@@ -48,7 +48,7 @@ count-cons false e puts = omega arith
 puts_in-cons : (e : Entry) (log : List Entry) → puts_in (e ∷ log) ≡ cond (is_put e.op) 1 0 + puts_in log
 puts_in-cons e log = count-cons (is_put e.op) e (filter (λ c. is_put c.op) log)
 
--- a call behind some others, of which n puts stand before
+-- a call after some others, of which n puts stand before
 second_puts-append : (n : ℕ) (before : List Entry) (e : Entry)
     → without_second_puts (n % 2 == 1) (before ++ e ∷ []) ≡ without_second_puts (n % 2 == 1) before ++ unless (is_put e.op && ((n + puts_in before) % 2 == 1)) e
 second_puts-append n [] e = append-nil _ ∙ ap (λ (k : ℕ). unless (is_put e.op && (k % 2 == 1)) e) (omega arith)
@@ -69,12 +69,12 @@ loses_each_second_put =
       reply = λ next init before e. answer-more (λ (l : List Entry) (c : Entry). reply_after next init (without_second_puts false l) c.op) before e;
     }
 
-late_changes-append : (front before : List Entry) (e : Entry) → late_changes front (before ++ e ∷ []) ≡ late_changes front before ++ late_change (front ++ before) e
-late_changes-append front [] e = append-nil (late_change front e) ∙ ap (λ (l : List Entry). late_change l e) (sym (append-nil front))
-late_changes-append front (c ∷ before) e =
-    ap (λ (l : List Entry). late_change front c ++ l) (late_changes-append (front ++ c ∷ []) before e)
-    ∙ sym (append_assoc (late_change front c) (late_changes (front ++ c ∷ []) before) (late_change (front ++ c ∷ [] ++ before) e))
-    ∙ ap (λ (l : List Entry). late_change front c ++ late_changes (front ++ c ∷ []) before ++ late_change l e) (append_assoc front (c ∷ []) before)
+late_changes-append : (prefix before : List Entry) (e : Entry) → late_changes prefix (before ++ e ∷ []) ≡ late_changes prefix before ++ late_change (prefix ++ before) e
+late_changes-append prefix [] e = append-nil (late_change prefix e) ∙ ap (λ (l : List Entry). late_change l e) (sym (append-nil prefix))
+late_changes-append prefix (c ∷ before) e =
+    ap (λ (l : List Entry). late_change prefix c ++ l) (late_changes-append (prefix ++ c ∷ []) before e)
+    ∙ sym (append_assoc (late_change prefix c) (late_changes (prefix ++ c ∷ []) before) (late_change (prefix ++ c ∷ [] ++ before) e))
+    ∙ ap (λ (l : List Entry). late_change prefix c ++ late_changes (prefix ++ c ∷ []) before ++ late_change l e) (append_assoc prefix (c ∷ []) before)
 
 waiting_from-append : (i : ℕ) (waits : Option ℕ) (before : List Entry) (e : Entry) → waiting_from i waits (before ++ e ∷ []) ≡ cond (e.caller == i) (waits_after e.op) (waiting_from i waits before)
 waiting_from-append i waits [] e = refl
@@ -95,5 +95,5 @@ puts_wait =
       changes = changes_more;
       own = waiting_own;
       other = waiting_other;
-      reply = λ next init before e. answer-more (late_reply_behind next init) before e;
+      reply = λ next init before e. answer-more (late_reply_after next init) before e;
     }

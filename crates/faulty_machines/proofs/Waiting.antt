@@ -55,7 +55,7 @@ module _ (next : List ℕ → ℕ → List ℕ × ℕ) (old : List ℕ) (waiting
     waiting_more after i is wide old =
         waiting_by after i is wide old (eqb_tells (get_or log k d).caller i) ∙ ap (waiting_of i) (sym (take_more log k d low))
 
--- the last call of a log is answered behind the changes of the others and its caller's waiting one
+-- the last call of a log is answered after the changes of the others and its caller's waiting one
 pub late_answered : (next : List ℕ → ℕ → List ℕ × ℕ) (init : List ℕ) (log : List Entry) (d : Entry) (waiting : List (Option ℕ)) (begun words made : List ℕ) (reply : ℕ) → 0 < length log → begun ≡ init
     → words ≡ list_after next begun (late_changes [] (take (length log - 1) log))
     → get_or waiting (get_or log (length log - 1) d).caller None ≡ waiting_of (get_or log (length log - 1) d).caller (take (length log - 1) log)

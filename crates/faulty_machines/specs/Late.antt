@@ -34,12 +34,12 @@ late_changes before (e ∷ log) = late_change before e ++ late_changes (before +
 
 -- The reply to a call after some others: it is lawful at the list that their changes leave, and
 -- then the waiting one of its caller.
-abbrev pub late_reply_behind : (List ℕ → ℕ → List ℕ × ℕ) → List ℕ → List Entry → Entry → ℕ
-late_reply_behind next init before e = reply_after next init (late_changes [] before ++ waiting_call e.caller (waiting_of e.caller before)) e.op
+abbrev pub late_reply_after : (List ℕ → ℕ → List ℕ × ℕ) → List ℕ → List Entry → Entry → ℕ
+late_reply_after next init before e = reply_after next init (late_changes [] before ++ waiting_call e.caller (waiting_of e.caller before)) e.op
 
 -- The reply to the last call of a log.
 abbrev pub late_reply : (List ℕ → ℕ → List ℕ × ℕ) → List ℕ → List Entry → ℕ
-late_reply next init log = late_reply_behind next init (earlier log) (last_call log)
+late_reply next init log = late_reply_after next init (earlier log) (last_call log)
 
 -- A call makes its changes after those of the others, what waits of its caller afterwards is the
 -- call itself where it is a put, and it is answered before its own change.
@@ -47,4 +47,4 @@ pub record PutsWait : Type 0 where
   pub changes : (before : List Entry) (e : Entry) → late_changes [] (before ++ e ∷ []) ≡ late_changes [] before ++ late_change before e
   pub own : (before : List Entry) (e : Entry) → waiting_of e.caller (before ++ e ∷ []) ≡ waits_after e.op
   pub other : (i : ℕ) (before : List Entry) (e : Entry) → e.caller ≢ i → waiting_of i (before ++ e ∷ []) ≡ waiting_of i before
-  pub reply : (next : List ℕ → ℕ → List ℕ × ℕ) (init : List ℕ) (before : List Entry) (e : Entry) → late_reply next init (before ++ e ∷ []) ≡ late_reply_behind next init before e
+  pub reply : (next : List ℕ → ℕ → List ℕ × ℕ) (init : List ℕ) (before : List Entry) (e : Entry) → late_reply next init (before ++ e ∷ []) ≡ late_reply_after next init before e

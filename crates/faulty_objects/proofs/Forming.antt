@@ -172,7 +172,7 @@ pub meetings_are_formed : MeetingsAreFormed
 meetings_are_formed caller = formed (λ _. IsMeeting caller) (λ _. IsMeetingReply) (λ _. meeting_form caller)
 
 -- the last of a list that has one
-last_of : (x : ℕ) (xs : List ℕ) → (front : List ℕ) × (last : ℕ) × (x ∷ xs ≡ front ++ last ∷ [])
+last_of : (x : ℕ) (xs : List ℕ) → (prefix : List ℕ) × (last : ℕ) × (x ∷ xs ≡ prefix ++ last ∷ [])
 last_of x [] = ([], x, refl)
 last_of x (y ∷ ys) = let h = last_of y ys in (x ∷ h.0, h.1, ap (λ (l : List ℕ). x ∷ l) h.2)
 

@@ -54,7 +54,7 @@ abbrev pub empty_places : ℕ → List Deed
 empty_places zero = []
 empty_places (suc count) = empty_places count ++ Swapped (item_index count) 0 0 ∷ []
 
--- An enqueue takes a place by one addition to the counter, and stores one more than its value there, if there are so many places.
+-- An enqueue takes a place by one addition to the counter, and stores one more than its value there, if there are this many places.
 pub record IsEnqueued (places value : ℕ) (before after : List Deed) : Type 0 where
   pub place : ℕ
   pub stored : place < places → after ≡ before ++ Added 0 1 place ∷ Stored (item_index place) (value + 1) ∷ []
@@ -70,7 +70,7 @@ pub record IsDequeued (places reply : ℕ) (before after : List Deed) : Type 0 w
   pub all_empty : found ≡ 0 → (count ≡ min counter places) × (after ≡ before ++ Loaded 0 counter ∷ empty_places count) × (reply ≡ reply_none)
   pub item : found ≢ 0 → (count < min counter places) × (after ≡ before ++ Loaded 0 counter ∷ (empty_places count ++ Swapped (item_index count) 0 found ∷ [])) × (reply ≡ reply_value (found - 1))
 
--- A call of a one-pass queue with so many places.
+-- A call of a one-pass queue with this many places.
 pub record IsOnePass (places op reply : ℕ) (before after : List Deed) : Type 0 where
   pub puts : (value : ℕ) → value < 2 ^ 32 → op ≡ enqueue value → IsEnqueued places value before after × (reply ≡ reply_done)
   pub takes : op ≡ dequeue → IsDequeued places reply before after

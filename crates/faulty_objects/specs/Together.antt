@@ -53,7 +53,7 @@ pub record IsGiven (who reply : ℕ) (history : List Access) : Type 0 where
 abbrev pub IsNoneOrGiven : ℕ → ℕ → List Access → Type 0
 IsNoneOrGiven who reply history = (reply ≡ reply_none) ⊎ IsGiven who reply history
 
--- The passes of n callers of a one-pass queue with so many places tell one history. Its places are given in order, and what is
+-- The passes of n callers of a one-pass queue with this many places tell one history. Its places are given in order, and what is
 -- taken was put.
 pub record TellOneQueue (places n : ℕ) (history : List Access) (passes : List WordsPass) : Type 0 where
   pub told : AreOfOneHistory queue_may (λ _. IsOnePass places) n history passes

@@ -13,7 +13,7 @@ use Rattle.book_base.specs.declared.call.Record.{Record}
 use Rattle.book_base.specs.Cut.{Holds, IsWithin}
 use Rattle.book_base.specs.Book.{Page, IsValid, IsCall, IsAnswered, operation_of, record_of, Precedes}
 use Rattle.book_base.specs.Order.{call_at, step_at, IsLegalOrder}
-use Rattle.book_base.specs.Foresight.{Leaves, IsHopeless, HasEarly, rank_of}
+use Rattle.book_base.specs.Foresight.{Leaves, IsInfeasible, HasEarly, rank_of}
 use Rattle.book_base.proofs.PageLemmas.{caller_from_call, caller_from_answer}
 use Rattle.book_base.proofs.GrowthLemmas.{below_calls}
 use Rattle.book_base.specs.Next.{next_call, raised, list_after, HoldsAnswered, MayComeNext, MayStandNext, Continues}
@@ -157,7 +157,7 @@ recorded-from_may book next cut list caller op reply place known gives by may r 
 pub unended-from_least : (book : List Page) (cut : List ℕ) (first : ℕ) → IsLeast book cut (length book) first → HoldsAnswered book cut → ⊥
 unended-from_least book cut first least all = let held : get_or cut first 0 < get_or cut first 0 = all (next_call cut first) least.answered in absurd (omega arith)
 
--- an order of no more than so many places goes on by one of the places that are chosen
+-- an order of no more than this many places goes on by one of the places that are chosen
 goes_on-by : (book : List Page) (next : List ℕ → ℕ → List ℕ × ℕ) (cut list : List ℕ) (marks : Marks) (places : List Place) → MarksSuffice book next cut list marks
     → AreChosen book next cut list marks (length book) places → (few : ℕ) (rest : List Place) → length rest ≤ few → Continues book next cut list rest → GoesOnBy book next cut list places
 goes_on-by book next cut list marks places suffice h zero rest short goes = let by = suffice rest goes in absurd (omega (arith, by.4))
@@ -248,22 +248,22 @@ view-of book cut first number found is at r there =
     let made : ℕ → Call = λ n. record { caller = first; number = n } in
     ap (λ (x : Record). x.view) (same_Some r found (sym there ∙ (sym (ap (λ (n : ℕ). record_of book (made n)) is) ∙ at)))
 
--- Nothing goes on with a call that is hopeless where an order from the start reaches,
-pub hopeless-ends : (init : List ℕ) (next : List ℕ → ℕ → List ℕ × ℕ) (book : List Page) (cut list : List ℕ) (place : Place) (rest : List Place) → IsReached init next book cut list
-    → IsHopeless init next book cut list (next_call cut place.caller) → Continues book next cut list (place ∷ rest) → ⊥
-hopeless-ends init next book cut list place rest reached hopeless goes =
+-- Nothing goes on with a call that is infeasible where an order from the start reaches,
+pub infeasible-ends : (init : List ℕ) (next : List ℕ → ℕ → List ℕ × ℕ) (book : List Page) (cut list : List ℕ) (place : Place) (rest : List Place) → IsReached init next book cut list
+    → IsInfeasible init next book cut list (next_call cut place.caller) → Continues book next cut list (place ∷ rest) → ⊥
+infeasible-ends init next book cut list place rest reached infeasible goes =
     let made : ℕ → Place = λ n. record { caller = place.caller; number = n; reply = place.reply } in
-    hopeless reached.before rest place.reply reached.reaches
+    infeasible reached.before rest place.reply reached.reaches
     (subst (λ (n : ℕ). IsLegalOrder init next book (reached.before ++ made n ∷ rest)) goes.0.may_come.next (reached.legal (place ∷ rest) goes))
 
 -- so that its caller has no place that is to be tried.
-pub hopeless-skip : (init : List ℕ) (next : List ℕ → ℕ → List ℕ × ℕ) (book : List Page) (cut list : List ℕ) (marks : Marks) (places : List Place) (caller : ℕ)
-    → IsReached init next book cut list → AreChosen book next cut list marks caller places → IsHopeless init next book cut list (next_call cut caller)
+pub infeasible-skip : (init : List ℕ) (next : List ℕ → ℕ → List ℕ × ℕ) (book : List Page) (cut list : List ℕ) (marks : Marks) (places : List Place) (caller : ℕ)
+    → IsReached init next book cut list → AreChosen book next cut list marks caller places → IsInfeasible init next book cut list (next_call cut caller)
     → AreChosen book next cut list marks (caller + 1) places
-hopeless-skip init next book cut list marks places caller reached h hopeless =
+infeasible-skip init next book cut list marks places caller reached h infeasible =
     chosen-next book next cut list marks caller places places h
     (more-kept book next cut list caller places h.sound (λ (place : Place) (rest : List Place) (by : place.caller ≡ caller) (goes : Continues book next cut list (place ∷ rest)).
-    absurd (hopeless-ends init next book cut list place rest reached (subst (λ (i : ℕ). IsHopeless init next book cut list (next_call cut i)) (sym by) hopeless) goes)))
+    absurd (infeasible-ends init next book cut list place rest reached (subst (λ (i : ℕ). IsInfeasible init next book cut list (next_call cut i)) (sym by) infeasible) goes)))
 
 -- the rank of a word of a list is one in the list
 pub rank_in : (ranks : List (ℕ × ℕ)) (list words : List ℕ) (i rank : ℕ) → words ≡ list → i < length words → rank_of ranks (get_or words i 0) ≡ Some rank → IsRankIn ranks list rank

@@ -1,4 +1,4 @@
--- The places of a front: one more, and what goes on behind them.
+-- The places of a prefix: one more, and what goes on after them.
 use Rattle.std.proofs.Common.{◌≡◌, ℕ, ◌+◌, ◌*◌, ◌<◌, ◌≤◌, ◌∙◌, List, [], ◌∷◌, ◌++◌, length, get_or, set, sum, Some, refl, sym, ap, subst, inl, inr, arith}
 use Rattle.std.specs.Option.{IsSomeAnd}
 use Rattle.std.proofs.lemmas.Bool.{cases_eq}
@@ -17,9 +17,9 @@ use Rattle.book_base.proofs.ReachingLemmas.{no_places_reach_the_start, one_more_
 use Rattle.book_base.specs.Next.{next_call, raised, list_after, MayComeNext, Continues}
 use Rattle.book_laws.proofs.LegalOrder.{raised_other, raised_more, raised_same, legal_order_from_continues}
 use Rattle.book_laws.proofs.Precedence.{may_come_next-from_first}
-use Rattle.frontier_check.specs.declared.front.Front.{Front}
+use Rattle.frontier_check.specs.declared.prefix.Prefix.{Prefix}
 use Rattle.frontier_check.specs.declared.walk.TheConstants.{ROOM}
-use Rattle.frontier_check.specs.Front.{no_calls, IsNext, Follow, LeavesOpen, Stands, IsPut, IsFront}
+use Rattle.frontier_check.specs.Prefix.{no_calls, IsNext, Follow, LeavesOpen, Stands, IsPut, IsPrefix}
 use Rattle.frontier_check.proofs.Leading.{zeros, raised_within, sum_raised, sum_small}
 
 -- one place more
@@ -77,7 +77,7 @@ leaves-before book cut place inside is leaves i r known =
           λ (j : ℕ). omega (arith, leaves i r there j, raised_more cut place.caller j inside)
     ]
 
--- What goes on behind places goes on from where they begin.
+-- What goes on after places goes on from where they begin.
 pub record Closing (book : List Page) (next : List ℕ → ℕ → List ℕ × ℕ) (cut list : List ℕ) (places : List Place) (to_cut to_list : List ℕ) : Type 0 where
   pub goes : (rest : List Place) → Continues book next to_cut to_list rest → Continues book next cut list (places ++ rest)
   pub leaves : LeavesOpen book cut
@@ -101,20 +101,20 @@ closing book next cut list (first ∷ places) to_cut to_list valid wide (at, rep
       leaves = leaves-before book cut first inside at rest.leaves;
     }
 
--- The places that were put are a front, where they leave each other call its place.
-pub front-from_put : (init : List ℕ) (next : List ℕ → ℕ → List ℕ × ℕ) (book : List Page) (front : Front) → IsPut init next book front → LeavesOpen book front.cut → IsFront init next book front
-front-from_put init next book front put leaves =
+-- The places that were put are a prefix, where they leave each other call its place.
+pub prefix-from_put : (init : List ℕ) (next : List ℕ → ℕ → List ℕ × ℕ) (book : List Page) (prefix : Prefix) → IsPut init next book prefix → LeavesOpen book prefix.cut → IsPrefix init next book prefix
+prefix-from_put init next book prefix put leaves =
     let long : length (no_calls book) ≡ length book = length-replicate (length book) 0 in
-    let closed = closing book next (no_calls book) init front.places.items front.cut front.here.words put.stands.valid (omega arith) put.follow leaves in
+    let closed = closing book next (no_calls book) init prefix.places.items prefix.cut prefix.here.words put.stands.valid (omega arith) put.follow leaves in
     record {
       stands = put.stands;
-      legal = λ rest goes. legal_order_from_continues book init next (no_calls book) (front.places.items ++ rest) (omega arith) (zeros book) (closed.goes rest goes);
+      legal = λ rest goes. legal_order_from_continues book init next (no_calls book) (prefix.places.items ++ rest) (omega arith) (zeros book) (closed.goes rest goes);
     }
 
--- the front without places
-pub stands-start : (init : List ℕ) (next : List ℕ → ℕ → List ℕ × ℕ) (book : List Page) (front : Front) → IsValid book → IsSmall book → length init ≤ 1
-    → front.places.items ≡ [] → front.cut ≡ no_calls book → front.here.words ≡ init → Stands init next book front
-stands-start init next book front valid small begins places cut list =
+-- the prefix without places
+pub stands-start : (init : List ℕ) (next : List ℕ → ℕ → List ℕ × ℕ) (book : List Page) (prefix : Prefix) → IsValid book → IsSmall book → length init ≤ 1
+    → prefix.places.items ≡ [] → prefix.cut ≡ no_calls book → prefix.here.words ≡ init → Stands init next book prefix
+stands-start init next book prefix valid small begins places cut list =
     let long : length (no_calls book) ≡ length book = length-replicate (length book) 0 in
     record {
       valid = valid;
@@ -122,44 +122,44 @@ stands-start init next book front valid small begins places cut list =
       wide = ap (λ (c : List ℕ). length c) cut ∙ long;
       within = λ (i : ℕ). omega (arith, zeros book i, ap (λ (c : List ℕ). get_or c i 0) cut);
       words = omega (arith, begins, ap (λ (l : List ℕ). length l) list);
-      reaches = subst (λ (order : List Place). Reaches init next book order front.cut front.here.words) (sym places)
-          (subst (λ (c : List ℕ). Reaches init next book [] c front.here.words) (sym cut)
+      reaches = subst (λ (order : List Place). Reaches init next book order prefix.cut prefix.here.words) (sym places)
+          (subst (λ (c : List ℕ). Reaches init next book [] c prefix.here.words) (sym cut)
           (subst (λ (l : List ℕ). Reaches init next book [] (no_calls book) l) (sym list) (no_places_reach_the_start init next book (length book))));
     }
 
-pub put-start : (init : List ℕ) (next : List ℕ → ℕ → List ℕ × ℕ) (book : List Page) (front : Front) → IsValid book → IsSmall book → length init ≤ 1
-    → front.places.items ≡ [] → front.cut ≡ no_calls book → front.here.words ≡ init → IsPut init next book front
-put-start init next book front valid small begins places cut list = record {
-  stands = stands-start init next book front valid small begins places cut list;
-  follow = subst (λ (order : List Place). Follow book next (no_calls book) init order front.cut front.here.words) (sym places) (sym cut, sym list);
+pub put-start : (init : List ℕ) (next : List ℕ → ℕ → List ℕ × ℕ) (book : List Page) (prefix : Prefix) → IsValid book → IsSmall book → length init ≤ 1
+    → prefix.places.items ≡ [] → prefix.cut ≡ no_calls book → prefix.here.words ≡ init → IsPut init next book prefix
+put-start init next book prefix valid small begins places cut list = record {
+  stands = stands-start init next book prefix valid small begins places cut list;
+  follow = subst (λ (order : List Place). Follow book next (no_calls book) init order prefix.cut prefix.here.words) (sym places) (sym cut, sym list);
 }
 
-pub front-start : (init : List ℕ) (next : List ℕ → ℕ → List ℕ × ℕ) (book : List Page) (front : Front) → IsValid book → IsSmall book → length init ≤ 1
-    → front.places.items ≡ [] → front.cut ≡ no_calls book → front.here.words ≡ init → IsFront init next book front
-front-start init next book front valid small begins places cut list =
+pub prefix-start : (init : List ℕ) (next : List ℕ → ℕ → List ℕ × ℕ) (book : List Page) (prefix : Prefix) → IsValid book → IsSmall book → length init ≤ 1
+    → prefix.places.items ≡ [] → prefix.cut ≡ no_calls book → prefix.here.words ≡ init → IsPrefix init next book prefix
+prefix-start init next book prefix valid small begins places cut list =
     let long : length (no_calls book) ≡ length book = length-replicate (length book) 0 in
     record {
-      stands = stands-start init next book front valid small begins places cut list;
+      stands = stands-start init next book prefix valid small begins places cut list;
       legal = λ rest goes. subst (λ (order : List Place). IsLegalOrder init next book (order ++ rest)) (sym places)
           (legal_order_from_continues book init next (no_calls book) rest (omega arith) (zeros book)
-          (subst (λ (c : List ℕ). Continues book next c init rest) cut (subst (λ (l : List ℕ). Continues book next front.cut l rest) list goes)));
+          (subst (λ (c : List ℕ). Continues book next c init rest) cut (subst (λ (l : List ℕ). Continues book next prefix.cut l rest) list goes)));
     }
 
--- what is known of the next place of a front that stands
-pub record Putting (book : List Page) (front : Front) (place : Place) : Type 0 where
-  pub caller : place.caller < length front.cut
+-- what is known of the next place of a prefix that stands
+pub record Putting (book : List Page) (prefix : Prefix) (place : Place) : Type 0 where
+  pub caller : place.caller < length prefix.cut
   pub number : place.number < MAX_CALLS
-  pub words : length front.here.words < ROOM
+  pub words : length prefix.here.words < ROOM
 
-pub putting : (init : List ℕ) (next : List ℕ → ℕ → List ℕ × ℕ) (book : List Page) (front : Front) (place : Place) → Stands init next book front → IsNext book front.cut place
-    → Putting book front place
-putting init next book front place s is =
+pub putting : (init : List ℕ) (next : List ℕ → ℕ → List ℕ × ℕ) (book : List Page) (prefix : Prefix) (place : Place) → Stands init next book prefix → IsNext book prefix.cut place
+    → Putting book prefix place
+putting init next book prefix place s is =
     let there : place.caller < length book = caller_from_call book place.caller place.number is.is_call in
-    let inside : place.caller < length front.cut = omega (arith, s.wide) in
-    let longer : length (raised front.cut place.caller) ≡ length book = length-set front.cut place.caller (get_or front.cut place.caller 0 + 1) ∙ s.wide in
-    let few : sum (raised front.cut place.caller) ≤ MAX_CALLERS * MAX_CALLS =
-    sum_small book (raised front.cut place.caller) s.small longer (raised_within book front.cut (call_at place) inside is.is_call is.next s.within) in
-    let more = sum_raised front.cut place.caller inside in
+    let inside : place.caller < length prefix.cut = omega (arith, s.wide) in
+    let longer : length (raised prefix.cut place.caller) ≡ length book = length-set prefix.cut place.caller (get_or prefix.cut place.caller 0 + 1) ∙ s.wide in
+    let few : sum (raised prefix.cut place.caller) ≤ MAX_CALLERS * MAX_CALLS =
+    sum_small book (raised prefix.cut place.caller) s.small longer (raised_within book prefix.cut (call_at place) inside is.is_call is.next s.within) in
+    let more = sum_raised prefix.cut place.caller inside in
     record {
       caller = inside;
       number = omega (arith, is.is_call, s.small.calls place.caller);
@@ -167,7 +167,7 @@ putting init next book front place s is =
     }
 
 -- One more place is put.
-pub put-more : (init : List ℕ) (next : List ℕ → ℕ → List ℕ × ℕ) (book : List Page) (old new : Front) (place : Place) → ((list : List ℕ) (op : ℕ) → length (next list op).0 ≤ length list + 1)
+pub put-more : (init : List ℕ) (next : List ℕ → ℕ → List ℕ × ℕ) (book : List Page) (old new : Prefix) (place : Place) → ((list : List ℕ) (op : ℕ) → length (next list op).0 ≤ length list + 1)
     → IsPut init next book old → IsNext book old.cut place → (next old.here.words (step_at book place).0).1 ≡ place.reply
     → new.places.items ≡ old.places.items ++ place ∷ [] → new.cut ≡ raised old.cut place.caller → new.here.words ≡ list_after book next old.here.words place
     → IsPut init next book new
@@ -195,8 +195,8 @@ put-more init next book old new place grows put is gives places cut list =
           (subst (λ (l : List ℕ). Follow book next (no_calls book) init (old.places.items ++ place ∷ []) (raised old.cut place.caller) l) (sym list) follow));
     }
 
--- The list of a front that stands fits the room of a state.
-pub stands-fit : (init : List ℕ) (next : List ℕ → ℕ → List ℕ × ℕ) (book : List Page) (front : Front) → Stands init next book front → length front.here.words ≤ ROOM
-stands-fit init next book front s =
-    let few : sum front.cut ≤ MAX_CALLERS * MAX_CALLS = sum_small book front.cut s.small s.wide s.within in
+-- The list of a prefix that stands fits the room of a state.
+pub stands-fit : (init : List ℕ) (next : List ℕ → ℕ → List ℕ × ℕ) (book : List Page) (prefix : Prefix) → Stands init next book prefix → length prefix.here.words ≤ ROOM
+stands-fit init next book prefix s =
+    let few : sum prefix.cut ≤ MAX_CALLERS * MAX_CALLS = sum_small book prefix.cut s.small s.wide s.within in
     omega (arith, s.words)

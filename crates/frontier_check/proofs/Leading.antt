@@ -18,8 +18,8 @@ use Rattle.book_base.specs.Next.{raised, list_after, HoldsAnswered, MayComeNext,
 use Rattle.book_laws.proofs.LegalOrder.{raised_same, raised_other, within_cut, continues_from_legal_order}
 use Rattle.frontier_check.specs.declared.walk.Level.{Level}
 use Rattle.frontier_check.specs.declared.walk.TheConstants.{ROOM}
-use Rattle.frontier_check.specs.declared.front.Front.{Front}
-use Rattle.frontier_check.specs.Front.{no_calls, IsFront}
+use Rattle.frontier_check.specs.declared.prefix.Prefix.{Prefix}
+use Rattle.frontier_check.specs.Prefix.{no_calls, IsPrefix}
 use Rattle.book_base.specs.Pruning.{IsDeadEnd, IsReached}
 use Rattle.frontier_check.specs.Search.{places_of, IsOpen, Leads, Fits, order_of}
 
@@ -94,14 +94,14 @@ leads-reaches init next book before cut list (first ∷ levels) to_cut to_list w
     subst (λ (order : List Place). Reaches init next book order to_cut to_list) (append_assoc before (first.place ∷ []) (order_of levels))
     (leads-reaches init next book (before ++ first.place ∷ []) (raised cut first.place.caller) (list_after book next list first.place) levels to_cut to_list (omega arith) one later)
 
--- The levels that lead from a front to a cut and a list reach them, behind its places.
-pub reached-from_leads : (init : List ℕ) (next : List ℕ → ℕ → List ℕ × ℕ) (book : List Page) (front : Front) (levels : List Level) (cut list : List ℕ)
-    → IsFront init next book front → Leads book next front.cut front.here.words levels cut list → IsReached init next book cut list
-reached-from_leads init next book front levels cut list f leads = record {
-  before = front.places.items ++ order_of levels;
-  reaches = leads-reaches init next book front.places.items front.cut front.here.words levels cut list (omega (arith, f.stands.wide)) f.stands.reaches leads;
-  legal = λ rest goes. subst (λ (order : List Place). IsLegalOrder init next book order) (sym (append_assoc front.places.items (order_of levels) rest))
-      (f.legal (order_of levels ++ rest) (leads-more book next front.cut front.here.words levels cut list rest leads goes));
+-- The levels that lead from a prefix to a cut and a list reach them, after its places.
+pub reached-from_leads : (init : List ℕ) (next : List ℕ → ℕ → List ℕ × ℕ) (book : List Page) (prefix : Prefix) (levels : List Level) (cut list : List ℕ)
+    → IsPrefix init next book prefix → Leads book next prefix.cut prefix.here.words levels cut list → IsReached init next book cut list
+reached-from_leads init next book prefix levels cut list f leads = record {
+  before = prefix.places.items ++ order_of levels;
+  reaches = leads-reaches init next book prefix.places.items prefix.cut prefix.here.words levels cut list (omega (arith, f.stands.wide)) f.stands.reaches leads;
+  legal = λ rest goes. subst (λ (order : List Place). IsLegalOrder init next book order) (sym (append_assoc prefix.places.items (order_of levels) rest))
+      (f.legal (order_of levels ++ rest) (leads-more book next prefix.cut prefix.here.words levels cut list rest leads goes));
 }
 
 -- a raised cut holds one call more
@@ -162,12 +162,12 @@ pub record Standing (book : List Page) (levels : List Level) (cut list : List �
   pub fits : Fits cut list
   pub after : length levels + 1 < ROOM
 
-pub standing : (book : List Page) (front : Front) (init : List ℕ) (next : List ℕ → ℕ → List ℕ × ℕ) (levels : List Level) (cut list : List ℕ) (place : Place)
-    → IsFront init next book front → ((list : List ℕ) (op : ℕ) → length (next list op).0 ≤ length list + 1)
-    → Leads book next front.cut front.here.words levels cut list → MayComeNext book cut (call_at place) → Standing book levels cut list place
-standing book front init next levels cut list place f grows leads may =
+pub standing : (book : List Page) (prefix : Prefix) (init : List ℕ) (next : List ℕ → ℕ → List ℕ × ℕ) (levels : List Level) (cut list : List ℕ) (place : Place)
+    → IsPrefix init next book prefix → ((list : List ℕ) (op : ℕ) → length (next list op).0 ≤ length list + 1)
+    → Leads book next prefix.cut prefix.here.words levels cut list → MayComeNext book cut (call_at place) → Standing book levels cut list place
+standing book prefix init next levels cut list place f grows leads may =
     let small = f.stands.small in
-    let reach = leads-reach book next front.cut front.here.words levels cut list grows (omega (arith, f.stands.wide)) f.stands.within leads in
+    let reach = leads-reach book next prefix.cut prefix.here.words levels cut list grows (omega (arith, f.stands.wide)) f.stands.within leads in
     let wide : length cut ≡ length book = reach.wide ∙ f.stands.wide in
     let there : place.caller < length book = caller_from_call book place.caller place.number may.is_call in
     let inside : place.caller < length cut = omega arith in
@@ -184,16 +184,16 @@ standing book front init next levels cut list place f grows leads may =
     }
 
 -- the cut at which a walk stands has a count for each caller
-pub leads-wide : (book : List Page) (front : Front) (init : List ℕ) (next : List ℕ → ℕ → List ℕ × ℕ) (levels : List Level) (cut list : List ℕ) → IsFront init next book front
-    → ((list : List ℕ) (op : ℕ) → length (next list op).0 ≤ length list + 1) → Leads book next front.cut front.here.words levels cut list → length cut ≡ length book
-leads-wide book front init next levels cut list f grows leads =
-    (leads-reach book next front.cut front.here.words levels cut list grows (omega (arith, f.stands.wide)) f.stands.within leads).wide ∙ f.stands.wide
+pub leads-wide : (book : List Page) (prefix : Prefix) (init : List ℕ) (next : List ℕ → ℕ → List ℕ × ℕ) (levels : List Level) (cut list : List ℕ) → IsPrefix init next book prefix
+    → ((list : List ℕ) (op : ℕ) → length (next list op).0 ≤ length list + 1) → Leads book next prefix.cut prefix.here.words levels cut list → length cut ≡ length book
+leads-wide book prefix init next levels cut list f grows leads =
+    (leads-reach book next prefix.cut prefix.here.words levels cut list grows (omega (arith, f.stands.wide)) f.stands.within leads).wide ∙ f.stands.wide
 
--- The levels that lead to a cut with all answered calls make a legal order, behind the places of the front.
-pub legal-from_leads : (book : List Page) (front : Front) (init : List ℕ) (next : List ℕ → ℕ → List ℕ × ℕ) (levels : List Level) (cut list : List ℕ) → IsFront init next book front
-    → Leads book next front.cut front.here.words levels cut list → HoldsAnswered book cut → IsLegalOrder init next book (front.places.items ++ order_of levels)
-legal-from_leads book front init next levels cut list f leads all =
-    f.legal (order_of levels) (leads-continues book next front.cut front.here.words levels cut list leads all)
+-- The levels that lead to a cut with all answered calls make a legal order, after the places of the prefix.
+pub legal-from_leads : (book : List Page) (prefix : Prefix) (init : List ℕ) (next : List ℕ → ℕ → List ℕ × ℕ) (levels : List Level) (cut list : List ℕ) → IsPrefix init next book prefix
+    → Leads book next prefix.cut prefix.here.words levels cut list → HoldsAnswered book cut → IsLegalOrder init next book (prefix.places.items ++ order_of levels)
+legal-from_leads book prefix init next levels cut list f leads all =
+    f.legal (order_of levels) (leads-continues book next prefix.cut prefix.here.words levels cut list leads all)
 
 -- Where the start is a dead end, the book has no legal order.
 pub none-from_dead : (book : List Page) (init : List ℕ) (next : List ℕ → ℕ → List ℕ × ℕ) → IsDeadEnd book next (no_calls book) init → HasLegalOrder init next book → ⊥
@@ -205,7 +205,7 @@ none-from_dead book init next dead legal =
 pub lowered : (cut : List ℕ) (i n : ℕ) → n ≡ get_or cut i 0 → set (raised cut i) i n ≡ cut
 lowered cut i n e = set-set cut i (get_or cut i 0 + 1) n ∙ (ap (λ (m : ℕ). set cut i m) e ∙ set-get_or cut i 0)
 
--- So a search behind a front without places that finds none is right.
+-- So a search after a prefix without places that finds none is right.
 pub none-found : {X E : Type 0} (book : List Page) (init : List ℕ) (next : List ℕ → ℕ → List ℕ × ℕ) (cut list : List ℕ) (result : Result (Option X) E) → cut ≡ no_calls book → list ≡ init
     → IfOk result (λ found. IfNone found (IsDeadEnd book next cut list)) → IfOk result (λ found. IfNone found (HasLegalOrder init next book → ⊥))
 none-found book init next cut list (Ok None) same_cut same_list dead =

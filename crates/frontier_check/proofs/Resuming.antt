@@ -15,11 +15,11 @@ use Rattle.book_base.specs.Next.{raised, list_after}
 use Rattle.book_base.proofs.PageLemmas.{caller_from_call, caller_from_answer}
 use Rattle.book_base.proofs.ViewLemmas.{answer_stands, answered_at}
 use Rattle.book_laws.proofs.LegalOrder.{raised_same, raised_other}
-use Rattle.frontier_check.specs.declared.front.Front.{Front}
+use Rattle.frontier_check.specs.declared.prefix.Prefix.{Prefix}
 use Rattle.frontier_check.specs.declared.mark.Mark.{Mark}
 use Rattle.frontier_check.specs.declared.mark.Standing.{Standing}
 use Rattle.frontier_check.specs.declared.walk.TheConstants.{ROOM}
-use Rattle.frontier_check.specs.Front.{no_calls, Follow, IsPut}
+use Rattle.frontier_check.specs.Prefix.{no_calls, Follow, IsPut}
 use Rattle.frontier_check.specs.Standing.{HasGrown, IsQuiet, IsMark, AreMarks, IsStandingFor, IsAsWide, StillStands, MarksEnd, KeepsMarks}
 use Rattle.frontier_check.proofs.Following.{stands-fit}
 
@@ -120,9 +120,9 @@ module _ (a b : List Page) (next : List ℕ → ℕ → List ℕ × ℕ) (grown 
       let on = steps_stay (raised cut place.caller) (list_after a next list place) places to_list later in
       λ i. same i ∷ on i
 
--- A front that was put stays put in a book that has grown, where none of its calls was answered since; and so does one with the same
+-- A prefix that was put stays put in a book that has grown, where none of its calls was answered since; and so does one with the same
 -- places, cut and list.
-put_stays : (init : List ℕ) (next : List ℕ → ℕ → List ℕ × ℕ) (a b : List Page) (old new : Front) → HasGrown a b → NoneAnswered a b old.cut → IsValid b → IsSmall b → IsPut init next a old
+put_stays : (init : List ℕ) (next : List ℕ → ℕ → List ℕ × ℕ) (a b : List Page) (old new : Prefix) → HasGrown a b → NoneAnswered a b old.cut → IsValid b → IsSmall b → IsPut init next a old
     → new.places.items ≡ old.places.items → new.cut ≡ old.cut → new.here.words ≡ old.here.words → IsPut init next b new
 put_stays init next a b old new grown none valid small put places cut list =
     let s = put.stands in
@@ -160,7 +160,7 @@ module _ (init : List ℕ) (next : List ℕ → ℕ → List ℕ × ℕ) where
     earlier = is.earlier;
     grown = grown_on is.earlier a b is.grown grown;
     records = is.records;
-    front = is.front;
+    prefix = is.prefix;
     rest = is.rest;
     begins = is.begins;
     len = is.len;
@@ -169,12 +169,12 @@ module _ (init : List ℕ) (next : List ℕ → ℕ → List ℕ × ℕ) where
     put = is.put;
   }
 
-  mark_of : (book : List Page) (order other rest : List Place) (m : Mark) (is : IsMark init next book order m) → other ≡ is.front.places.items ++ rest → IsMark init next book other m
+  mark_of : (book : List Page) (order other rest : List Place) (m : Mark) (is : IsMark init next book order m) → other ≡ is.prefix.places.items ++ rest → IsMark init next book other m
   mark_of book order other rest m is begins = record {
     earlier = is.earlier;
     grown = is.grown;
     records = is.records;
-    front = is.front;
+    prefix = is.prefix;
     rest = rest;
     begins = begins;
     len = is.len;
@@ -186,11 +186,11 @@ module _ (init : List ℕ) (next : List ℕ → ℕ → List ℕ × ℕ) where
   mark_longer : (book : List Page) (order more : List Place) (m : Mark) → IsMark init next book order m → IsMark init next book (order ++ more) m
   mark_longer book order more m is =
       mark_of book order (order ++ more) (is.rest ++ more) m is
-      (ap (λ (o : List Place). o ++ more) is.begins ∙ append_assoc is.front.places.items is.rest more)
+      (ap (λ (o : List Place). o ++ more) is.begins ∙ append_assoc is.prefix.places.items is.rest more)
 
   mark_shorter : (book : List Page) (order : List Place) (n : ℕ) (m : Mark) → m.len ≤ n → IsMark init next book order m → IsMark init next book (take n order) m
   mark_shorter book order n m low is =
-      let first = is.front.places.items in
+      let first = is.prefix.places.items in
       let len = length first in
       let within : len ≤ n = omega (arith, low, is.len) in
       let same : take len (take n order) ≡ first =
@@ -199,7 +199,7 @@ module _ (init : List ℕ) (next : List ℕ → ℕ → List ℕ × ℕ) where
       (sym (take-append-drop len (take n order)) ∙ ap (λ (o : List Place). o ++ drop len (take n order)) same)
 
   mark_low : (book : List Page) (order : List Place) (m : Mark) → IsMark init next book order m → m.len ≤ length order
-  mark_low book order m is = omega (arith, is.len, ap (λ (o : List Place). length o) is.begins, length-append is.front.places.items is.rest)
+  mark_low book order m is = omega (arith, is.len, ap (λ (o : List Place). length o) is.begins, length-append is.prefix.places.items is.rest)
 
   mark_wide : (book : List Page) (order : List Place) (m : Mark) → IsMark init next book order m → IsAsWide book m
   mark_wide book order m is = (
@@ -208,17 +208,17 @@ module _ (init : List ℕ) (next : List ℕ → ℕ → List ℕ × ℕ) where
   )
 
   mark_fits : (book : List Page) (order : List Place) (m : Mark) → IsMark init next book order m → length m.words.items ≤ ROOM
-  mark_fits book order m is = omega (arith, ap (λ (l : List ℕ). length l) is.words, stands-fit init next is.earlier is.front is.put.stands)
+  mark_fits book order m is = omega (arith, ap (λ (l : List ℕ). length l) is.words, stands-fit init next is.earlier is.prefix is.put.stands)
 
-  -- a mark where a front ends
-  mark_here : (book : List Page) (front : Front) (m : Mark) → IsPut init next book front → MarksEnd front (answered book) m → IsMark init next book front.places.items m
-  mark_here book front m put e = record {
+  -- a mark where a prefix ends
+  mark_here : (book : List Page) (prefix : Prefix) (m : Mark) → IsPut init next book prefix → MarksEnd prefix (answered book) m → IsMark init next book prefix.places.items m
+  mark_here book prefix m put e = record {
     earlier = book;
     grown = grown_here book;
     records = e.answered;
-    front = front;
+    prefix = prefix;
     rest = [];
-    begins = sym (append-nil front.places.items);
+    begins = sym (append-nil prefix.places.items);
     len = e.len;
     cut = sym e.cut;
     words = sym e.words;
@@ -242,10 +242,10 @@ module _ (init : List ℕ) (next : List ℕ → ℕ → List ℕ × ℕ) where
   marks_more book order least [] m is here low h = (omega (arith, here, low), is, tt)
   marks_more book order least (x ∷ ms) m is here low (le, first, later) = (le, first, marks_more book order x.len ms m is here (mark_low book order x first) later)
 
-  -- one mark more, where a front ends
-  pub marks_push : (book : List Page) (front : Front) (ms : List Mark) (m : Mark) → IsPut init next book front → MarksEnd front (answered book) m
-      → AreMarks init next book front.places.items 0 ms → AreMarks init next book front.places.items 0 (ms ++ m ∷ [])
-  marks_push book front ms m put e h = marks_more book front.places.items 0 ms m (mark_here book front m put e) e.len (omega arith) h
+  -- one mark more, where a prefix ends
+  pub marks_push : (book : List Page) (prefix : Prefix) (ms : List Mark) (m : Mark) → IsPut init next book prefix → MarksEnd prefix (answered book) m
+      → AreMarks init next book prefix.places.items 0 ms → AreMarks init next book prefix.places.items 0 (ms ++ m ∷ [])
+  marks_push book prefix ms m put e h = marks_more book prefix.places.items 0 ms m (mark_here book prefix m put e) e.len (omega arith) h
 
   marks_at : (book : List Page) (order : List Place) (least : ℕ) (ms : List Mark) (k : ℕ) (m : Mark) → k < length ms → m ≡ get_or ms k m → AreMarks init next book order least ms
       → (least ≤ m.len) × IsMark init next book order m
@@ -276,21 +276,21 @@ module _ (init : List ℕ) (next : List ℕ → ℕ → List ℕ × ℕ) where
   -- the marks up to one of them, of the places up to that one
   pub marks_taken : (book : List Page) (order places : List Place) (ms some : List Mark) (k : ℕ) (m : Mark) → k < length ms → m ≡ get_or ms k m → AreMarks init next book order 0 ms
       → places ≡ take m.len order → some ≡ take (k + 1) ms → AreMarks init next book places 0 some
-  marks_taken book order places ms some k m low is h front fewer =
+  marks_taken book order places ms some k m low is h prefix fewer =
       let on : k + 1 ≡ suc k = omega arith in
-      subst (λ (ps : List Place). AreMarks init next book ps 0 some) (sym front)
+      subst (λ (ps : List Place). AreMarks init next book ps 0 some) (sym prefix)
       (subst (λ (xs : List Mark). AreMarks init next book (take m.len order) 0 xs) (sym (fewer ∙ ap (λ (n : ℕ). take n ms) on)) (marks_cut book order 0 ms k m low is h))
 
-  -- A front is put whose places are those up to a mark that still stands.
-  pub mark_resumed : (book : List Page) (order : List Place) (ms : List Mark) (k : ℕ) (m : Mark) (new : Front) → IsValid book → IsSmall book → k < length ms → m ≡ get_or ms k m
+  -- A prefix is put whose places are those up to a mark that still stands.
+  pub mark_resumed : (book : List Page) (order : List Place) (ms : List Mark) (k : ℕ) (m : Mark) (new : Prefix) → IsValid book → IsSmall book → k < length ms → m ≡ get_or ms k m
       → AreMarks init next book order 0 ms → StillStands book m → new.places.items ≡ take m.len order → new.cut ≡ m.cut → new.here.words ≡ m.words.items → IsPut init next book new
   mark_resumed book order ms k m new valid small low at h stands places cut words =
       let is = (marks_at book order 0 ms k m low at h).1 in
-      let first = is.front.places.items in
-      let quiet : IsQuiet is.front.cut m.answered book = subst (λ (c : List ℕ). IsQuiet c m.answered book) (sym is.cut) stands.0 in
+      let first = is.prefix.places.items in
+      let quiet : IsQuiet is.prefix.cut m.answered book = subst (λ (c : List ℕ). IsQuiet c m.answered book) (sym is.cut) stands.0 in
       let taken : take m.len order ≡ first =
       (λ i. take (is.len i) (is.begins i)) ∙ (take-append-le (length first) first is.rest (omega arith) ∙ take_all (length first) first (omega arith)) in
-      put_stays init next is.earlier book is.front new is.grown (none_answered is.earlier book is.front.cut m.answered is.grown is.records quiet) valid small is.put
+      put_stays init next is.earlier book is.prefix new is.grown (none_answered is.earlier book is.prefix.cut m.answered is.grown is.records quiet) valid small is.put
       (places ∙ taken) (cut ∙ sym is.cut) (words ∙ sym is.words)
 
   marks_lower : (book : List Page) (order : List Place) (least most : ℕ) (ms : List Mark) → least ≤ most → AreMarks init next book order most ms → AreMarks init next book order least ms
@@ -310,25 +310,25 @@ module _ (init : List ℕ) (next : List ℕ → ℕ → List ℕ × ℕ) where
   marks_fewer book order least (suc n) [] h = tt
   marks_fewer book order least (suc n) (m ∷ ms) (le, is, later) = (le, is, marks_fewer book order m.len n ms later)
 
-  -- The marks of a front that was put are kept after one more place.
-  pub marks_put : (book : List Page) (front : Front) (before : List Place) (place : Place) (records : List ℕ) (marks more : List Mark) → IsPut init next book front → records ≡ answered book
-      → front.places.items ≡ before ++ place ∷ [] → KeepsMarks front records marks more
-      → AreMarks init next book before 0 marks → AreMarks init next book front.places.items 0 more
-  marks_put book front before place records marks more put same longer keeps h =
+  -- The marks of a prefix that was put are kept after one more place.
+  pub marks_put : (book : List Page) (prefix : Prefix) (before : List Place) (place : Place) (records : List ℕ) (marks more : List Mark) → IsPut init next book prefix → records ≡ answered book
+      → prefix.places.items ≡ before ++ place ∷ [] → KeepsMarks prefix records marks more
+      → AreMarks init next book before 0 marks → AreMarks init next book prefix.places.items 0 more
+  marks_put book prefix before place records marks more put same longer keeps h =
       keeps init next book put same (subst (λ (ps : List Place). AreMarks init next book ps 0 marks) (sym longer) (marks_longer book before (place ∷ []) 0 marks h))
 
 -- ---- marks that are kept
 
-pub keeps_same : (front : Front) (records : List ℕ) (marks more : List Mark) → more ≡ marks → KeepsMarks front records marks more
-keeps_same front records marks more same init next book put known h = subst (λ (ms : List Mark). AreMarks init next book front.places.items 0 ms) (sym same) h
+pub keeps_same : (prefix : Prefix) (records : List ℕ) (marks more : List Mark) → more ≡ marks → KeepsMarks prefix records marks more
+keeps_same prefix records marks more same init next book put known h = subst (λ (ms : List Mark). AreMarks init next book prefix.places.items 0 ms) (sym same) h
 
--- with one more where the front ends
-pub keeps_one : (front : Front) (records : List ℕ) (marks more : List Mark) (m : Mark) → MarksEnd front records m → more ≡ marks ++ m ∷ [] → KeepsMarks front records marks more
-keeps_one front records marks more m ends longer init next book put known h =
-    subst (λ (ms : List Mark). AreMarks init next book front.places.items 0 ms) (sym longer)
-    (marks_push init next book front marks m put (subst (λ (c : List ℕ). MarksEnd front c m) known ends) h)
+-- with one more where the prefix ends
+pub keeps_one : (prefix : Prefix) (records : List ℕ) (marks more : List Mark) (m : Mark) → MarksEnd prefix records m → more ≡ marks ++ m ∷ [] → KeepsMarks prefix records marks more
+keeps_one prefix records marks more m ends longer init next book put known h =
+    subst (λ (ms : List Mark). AreMarks init next book prefix.places.items 0 ms) (sym longer)
+    (marks_push init next book prefix marks m put (subst (λ (c : List ℕ). MarksEnd prefix c m) known ends) h)
 
 -- but for one of them
-pub keeps_removed : (front : Front) (records : List ℕ) (marks more fewer : List Mark) (k : ℕ) → KeepsMarks front records marks more → fewer ≡ remove more k → KeepsMarks front records marks fewer
-keeps_removed front records marks more fewer k keeps one init next book put known h =
-    subst (λ (ms : List Mark). AreMarks init next book front.places.items 0 ms) (sym one) (marks_removed init next book front.places.items 0 more k (keeps init next book put known h))
+pub keeps_removed : (prefix : Prefix) (records : List ℕ) (marks more fewer : List Mark) (k : ℕ) → KeepsMarks prefix records marks more → fewer ≡ remove more k → KeepsMarks prefix records marks fewer
+keeps_removed prefix records marks more fewer k keeps one init next book put known h =
+    subst (λ (ms : List Mark). AreMarks init next book prefix.places.items 0 ms) (sym one) (marks_removed init next book prefix.places.items 0 more k (keeps init next book put known h))

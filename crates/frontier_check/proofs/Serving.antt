@@ -182,7 +182,7 @@ considered-choice book next cut list old items new wide valid sound may which = 
   | inr exchanged ↦ more-exchanged book next cut list old new items wide valid sound may exchanged
 ]
 
--- An unanswered call that leaves the list isn't tried.
+-- An unanswered read-only call isn't tried.
 pub considered-idle : (book : List Page) (next : List ℕ → ℕ → List ℕ × ℕ) (cut list : List ℕ) (places : List Place) (call : Call) (op : ℕ) → length cut ≡ length book → HasOneOpen book
     → AllByRecursion (MayStandNext book next cut list) places → call.number ≡ get_or cut call.caller 0 → operation_of book call ≡ Some op → (IsAnswered book call → ⊥)
     → (next list op).0 ≡ list → IsOneMore book next cut list call.caller places places

@@ -14,8 +14,8 @@ use Rattle.frontier_check.specs.declared.walk.Level.{Level}
 use Rattle.frontier_check.specs.declared.walk.Walk.{Walk}
 use Rattle.frontier_check.specs.declared.walk.TheConstants.{ROOM}
 use Rattle.frontier_check.specs.Memo.{IsMemo, Remembers}
-use Rattle.frontier_check.specs.declared.front.Front.{Front}
-use Rattle.frontier_check.specs.Front.{IsFront}
+use Rattle.frontier_check.specs.declared.prefix.Prefix.{Prefix}
+use Rattle.frontier_check.specs.Prefix.{IsPrefix}
 use Rattle.book_base.specs.Pruning.{IsLeast, IsDeadEnd, IsReached}
 use Rattle.frontier_check.specs.Search.{places_of, Fits, IsOpen, Leads, IsWalk, order_of, weigh, weight}
 use Rattle.next_calls.proofs.Least.{may_come-from_least}
@@ -37,17 +37,17 @@ same_open book next cut new_cut list new_list places new_places e f k h =
     (subst (λ (l : List ℕ). IsOpen book next cut l new_places) (sym f) (subst (λ (ps : List Place). IsOpen book next cut list ps) (sym k) h))
 
 -- the last choice is taken
-pub walk-choose : (book : List Page) (front : Front) (init : List ℕ) (next : List ℕ → ℕ → List ℕ × ℕ) (old new : Walk) (choice : Choice)
-    → IsWalk book front init next old (places_of old.choices.items) → old.choices.items ≡ new.choices.items ++ choice ∷ []
+pub walk-choose : (book : List Page) (prefix : Prefix) (init : List ℕ) (next : List ℕ → ℕ → List ℕ × ℕ) (old new : Walk) (choice : Choice)
+    → IsWalk book prefix init next old (places_of old.choices.items) → old.choices.items ≡ new.choices.items ++ choice ∷ []
     → new.levels ≡ old.levels → new.counts ≡ old.counts → new.here ≡ old.here → new.memo ≡ old.memo
-    → IsWalk book front init next new (choice.place ∷ places_of new.choices.items) × (weigh ROOM new.levels.items (length new.choices.items + 1) ≡ weight old)
-walk-choose book front init next old new choice h choices levels counts here memo =
+    → IsWalk book prefix init next new (choice.place ∷ places_of new.choices.items) × (weigh ROOM new.levels.items (length new.choices.items + 1) ≡ weight old)
+walk-choose book prefix init next old new choice h choices levels counts here memo =
     let more : IsOpen book next old.counts.items old.here.words (places_of (new.choices.items ++ choice ∷ [])) =
     subst (λ (cs : List Choice). IsOpen book next old.counts.items old.here.words (places_of cs)) choices h.here in
     let long : length new.choices.items + 1 ≡ length old.choices.items = sym (ap (λ (cs : List Choice). length cs) choices ∙ length_push new.choices.items choice) in (
       record {
         begins = h.begins;
-        leads = same_leads book next front.cut front.here.words old.levels.items new.levels.items old.counts.items new.counts.items old.here.words new.here.words
+        leads = same_leads book next prefix.cut prefix.here.words old.levels.items new.levels.items old.counts.items new.counts.items old.here.words new.here.words
             (ap (λ v. v.items) levels) (ap (λ v. v.items) counts) (ap (λ s. s.words) here) h.leads;
         here = same_open book next old.counts.items new.counts.items old.here.words new.here.words (choice.place ∷ places_of new.choices.items) (choice.place ∷ places_of new.choices.items)
             (ap (λ v. v.items) counts) (ap (λ s. s.words) here) refl (open-last book next old.counts.items old.here.words new.choices.items choice more);
@@ -60,13 +60,13 @@ walk-choose book front init next old new choice h choices levels counts here mem
     )
 
 -- one more dead end is remembered
-pub walk-remember : (book : List Page) (front : Front) (init : List ℕ) (next : List ℕ → ℕ → List ℕ × ℕ) (old new : Walk)
-    → IsWalk book front init next old [] → new.levels ≡ old.levels → new.counts ≡ old.counts → new.here ≡ old.here → IsMemo new.memo → new.memo.callers ≡ old.memo.callers
+pub walk-remember : (book : List Page) (prefix : Prefix) (init : List ℕ) (next : List ℕ → ℕ → List ℕ × ℕ) (old new : Walk)
+    → IsWalk book prefix init next old [] → new.levels ≡ old.levels → new.counts ≡ old.counts → new.here ≡ old.here → IsMemo new.memo → new.memo.callers ≡ old.memo.callers
     → ((cut list : List ℕ) → Remembers new.memo cut list → Remembers old.memo cut list ⊎ ((cut ≡ old.counts.items) × (list ≡ old.here.words)))
-    → IsWalk book front init next new []
-walk-remember book front init next old new h levels counts here memo callers only = record {
+    → IsWalk book prefix init next new []
+walk-remember book prefix init next old new h levels counts here memo callers only = record {
   begins = h.begins;
-  leads = same_leads book next front.cut front.here.words old.levels.items new.levels.items old.counts.items new.counts.items old.here.words new.here.words
+  leads = same_leads book next prefix.cut prefix.here.words old.levels.items new.levels.items old.counts.items new.counts.items old.here.words new.here.words
       (ap (λ v. v.items) levels) (ap (λ v. v.items) counts) (ap (λ s. s.words) here) h.leads;
   here = same_open book next old.counts.items new.counts.items old.here.words new.here.words [] [] (ap (λ v. v.items) counts) (ap (λ s. s.words) here) refl h.here;
   dead = λ (cut list : List ℕ) there. elim (only cut list there) [
@@ -81,17 +81,17 @@ walk-remember book front init next old new h levels counts here memo callers onl
 }
 
 -- a place leads to a remembered dead end
-pub walk-skip : (book : List Page) (front : Front) (init : List ℕ) (next : List ℕ → ℕ → List ℕ × ℕ) (old new : Walk) (place : Place)
-    → IsWalk book front init next old (place ∷ places_of old.choices.items) → Remembers old.memo (raised old.counts.items place.caller) (list_after book next old.here.words place)
+pub walk-skip : (book : List Page) (prefix : Prefix) (init : List ℕ) (next : List ℕ → ℕ → List ℕ × ℕ) (old new : Walk) (place : Place)
+    → IsWalk book prefix init next old (place ∷ places_of old.choices.items) → Remembers old.memo (raised old.counts.items place.caller) (list_after book next old.here.words place)
     → new.levels ≡ old.levels → new.counts.items ≡ old.counts.items → new.here ≡ old.here → new.choices ≡ old.choices → new.memo ≡ old.memo
-    → IsWalk book front init next new (places_of new.choices.items) × (weight new < weigh ROOM old.levels.items (length old.choices.items + 1))
-walk-skip book front init next old new place h there levels counts here choices memo =
+    → IsWalk book prefix init next new (places_of new.choices.items) × (weight new < weigh ROOM old.levels.items (length old.choices.items + 1))
+walk-skip book prefix init next old new place h there levels counts here choices memo =
     let dead = h.dead (raised old.counts.items place.caller) (list_after book next old.here.words place) there in
     let same : weight new ≡ weigh ROOM old.levels.items (length old.choices.items) =
     ap (λ v. weigh ROOM v.items (length new.choices.items)) levels ∙ ap (λ v. weigh ROOM old.levels.items (length v.items)) choices in (
       record {
         begins = h.begins;
-        leads = same_leads book next front.cut front.here.words old.levels.items new.levels.items old.counts.items new.counts.items old.here.words new.here.words
+        leads = same_leads book next prefix.cut prefix.here.words old.levels.items new.levels.items old.counts.items new.counts.items old.here.words new.here.words
             (ap (λ v. v.items) levels) counts (ap (λ s. s.words) here) h.leads;
         here = same_open book next old.counts.items new.counts.items old.here.words new.here.words (places_of old.choices.items) (places_of new.choices.items)
             counts (ap (λ s. s.words) here) (ap (λ v. places_of v.items) choices) (open-rest book next old.counts.items old.here.words place (places_of old.choices.items) dead h.here);
@@ -113,30 +113,30 @@ pub record IsDeeper (book : List Page) (next : List ℕ → ℕ → List ℕ × 
   pub room : new.here.room ≡ old.here.room
   pub memo : new.memo ≡ old.memo
 
-deeper-leads : (book : List Page) (front : Front) (init : List ℕ) (next : List ℕ → ℕ → List ℕ × ℕ) (old new : Walk) (level : Level)
-    → IsWalk book front init next old (level.place ∷ places_of old.choices.items) → IsDeeper book next old new level
-    → Leads book next front.cut front.here.words new.levels.items new.counts.items new.here.words
-deeper-leads book front init next old new level h d =
+deeper-leads : (book : List Page) (prefix : Prefix) (init : List ℕ) (next : List ℕ → ℕ → List ℕ × ℕ) (old new : Walk) (level : Level)
+    → IsWalk book prefix init next old (level.place ∷ places_of old.choices.items) → IsDeeper book next old new level
+    → Leads book next prefix.cut prefix.here.words new.levels.items new.counts.items new.here.words
+deeper-leads book prefix init next old new level h d =
     let here : IsOpen book next old.counts.items old.here.words (level.place ∷ places_of level.choices.items) =
     subst (λ (cs : List Choice). IsOpen book next old.counts.items old.here.words (level.place ∷ places_of cs)) (sym d.choices) h.here in
-    same_leads book next front.cut front.here.words (old.levels.items ++ level ∷ []) new.levels.items (raised old.counts.items level.place.caller) new.counts.items
+    same_leads book next prefix.cut prefix.here.words (old.levels.items ++ level ∷ []) new.levels.items (raised old.counts.items level.place.caller) new.counts.items
     (list_after book next old.here.words level.place) new.here.words d.levels d.counts d.here
-    (leads-push book next front.cut front.here.words old.levels.items old.counts.items old.here.words level h.leads d.words here)
+    (leads-push book next prefix.cut prefix.here.words old.levels.items old.counts.items old.here.words level h.leads d.words here)
 
-pub walk-deeper : (book : List Page) (front : Front) (init : List ℕ) (next : List ℕ → ℕ → List ℕ × ℕ) (old new : Walk) (level : Level)
+pub walk-deeper : (book : List Page) (prefix : Prefix) (init : List ℕ) (next : List ℕ → ℕ → List ℕ × ℕ) (old new : Walk) (level : Level)
     → ((list : List ℕ) (op : ℕ) → length (next list op).0 ≤ length list + 1)
-    → IsWalk book front init next old (level.place ∷ places_of old.choices.items) → IsDeeper book next old new level
+    → IsWalk book prefix init next old (level.place ∷ places_of old.choices.items) → IsDeeper book next old new level
     → IsOpen book next new.counts.items new.here.words (places_of new.choices.items) → length new.choices.items ≤ length book
-    → IsWalk book front init next new (places_of new.choices.items) × (weight new < weigh ROOM old.levels.items (length old.choices.items + 1))
-walk-deeper book front init next old new level grows h d here few =
-    let s = standing book front init next old.levels.items old.counts.items old.here.words level.place h.begins grows h.leads h.here.sound.0.may_come in
+    → IsWalk book prefix init next new (places_of new.choices.items) × (weight new < weigh ROOM old.levels.items (length old.choices.items + 1))
+walk-deeper book prefix init next old new level grows h d here few =
+    let s = standing book prefix init next old.levels.items old.counts.items old.here.words level.place h.begins grows h.leads h.here.sound.0.may_come in
     let callers = h.begins.stands.small.callers in
     let same : weight new ≡ weigh ROOM (old.levels.items ++ level ∷ []) (length new.choices.items) = ap (λ (ls : List Level). weigh ROOM ls (length new.choices.items)) d.levels in
     let more : weigh ROOM old.levels.items (length level.choices.items + 1) ≡ weigh ROOM old.levels.items (length old.choices.items + 1) =
     ap (λ (cs : List Choice). weigh ROOM old.levels.items (length cs + 1)) d.choices in (
       record {
         begins = h.begins;
-        leads = deeper-leads book front init next old new level h d;
+        leads = deeper-leads book prefix init next old new level h d;
         here = here;
         dead = λ cut list at. h.dead cut list (subst (λ m. Remembers m cut list) d.memo at);
         memo = subst (λ m. IsMemo m) (sym d.memo) h.memo;
@@ -146,10 +146,10 @@ walk-deeper book front init next old new level grows h d here few =
       omega (arith, same, more, weigh-push ROOM old.levels.items level (length new.choices.items) s.depth (omega arith)),
     )
 
-pub walk-found : (book : List Page) (front : Front) (init : List ℕ) (next : List ℕ → ℕ → List ℕ × ℕ) (old new : Walk) (level : Level)
-    → IsWalk book front init next old (level.place ∷ places_of old.choices.items) → IsDeeper book next old new level → HoldsAnswered book new.counts.items
-    → IsLegalOrder init next book (front.places.items ++ order_of new.levels.items)
-walk-found book front init next old new level h d all = legal-from_leads book front init next new.levels.items new.counts.items new.here.words h.begins (deeper-leads book front init next old new level h d) all
+pub walk-found : (book : List Page) (prefix : Prefix) (init : List ℕ) (next : List ℕ → ℕ → List ℕ × ℕ) (old new : Walk) (level : Level)
+    → IsWalk book prefix init next old (level.place ∷ places_of old.choices.items) → IsDeeper book next old new level → HoldsAnswered book new.counts.items
+    → IsLegalOrder init next book (prefix.places.items ++ order_of new.levels.items)
+walk-found book prefix init next old new level h d all = legal-from_leads book prefix init next new.levels.items new.counts.items new.here.words h.begins (deeper-leads book prefix init next old new level h d) all
 
 -- Where a place that is put next leads to.
 pub record LeadsTo (book : List Page) (next : List ℕ → ℕ → List ℕ × ℕ) (old : Walk) (level : Level) (cut list : List ℕ) : Type 0 where
@@ -158,42 +158,42 @@ pub record LeadsTo (book : List Page) (next : List ℕ → ℕ → List ℕ × �
   pub cut_is : cut ≡ raised old.counts.items level.place.caller
   pub list_is : list ≡ list_after book next old.here.words level.place
 
-leads-to : (book : List Page) (front : Front) (init : List ℕ) (next : List ℕ → ℕ → List ℕ × ℕ) (old : Walk) (level : Level) (cut list : List ℕ)
-    → IsWalk book front init next old (level.place ∷ places_of old.choices.items) → LeadsTo book next old level cut list
-    → Leads book next front.cut front.here.words (old.levels.items ++ level ∷ []) cut list
-leads-to book front init next old level cut list h to =
+leads-to : (book : List Page) (prefix : Prefix) (init : List ℕ) (next : List ℕ → ℕ → List ℕ × ℕ) (old : Walk) (level : Level) (cut list : List ℕ)
+    → IsWalk book prefix init next old (level.place ∷ places_of old.choices.items) → LeadsTo book next old level cut list
+    → Leads book next prefix.cut prefix.here.words (old.levels.items ++ level ∷ []) cut list
+leads-to book prefix init next old level cut list h to =
     let here : IsOpen book next old.counts.items old.here.words (level.place ∷ places_of level.choices.items) =
     subst (λ (cs : List Choice). IsOpen book next old.counts.items old.here.words (level.place ∷ places_of cs)) (sym to.choices) h.here in
-    same_leads book next front.cut front.here.words (old.levels.items ++ level ∷ []) (old.levels.items ++ level ∷ []) (raised old.counts.items level.place.caller) cut
+    same_leads book next prefix.cut prefix.here.words (old.levels.items ++ level ∷ []) (old.levels.items ++ level ∷ []) (raised old.counts.items level.place.caller) cut
     (list_after book next old.here.words level.place) list refl to.cut_is to.list_is
-    (leads-push book next front.cut front.here.words old.levels.items old.counts.items old.here.words level h.leads to.words here)
+    (leads-push book next prefix.cut prefix.here.words old.levels.items old.counts.items old.here.words level h.leads to.words here)
 
 -- Where a place leads to a pair that isn't the end, one more word fits the list there.
-pub deeper-fits : (book : List Page) (front : Front) (init : List ℕ) (next : List ℕ → ℕ → List ℕ × ℕ) (old : Walk) (level : Level) (cut list : List ℕ) (first : ℕ)
-    → ((list : List ℕ) (op : ℕ) → length (next list op).0 ≤ length list + 1) → IsWalk book front init next old (level.place ∷ places_of old.choices.items)
+pub deeper-fits : (book : List Page) (prefix : Prefix) (init : List ℕ) (next : List ℕ → ℕ → List ℕ × ℕ) (old : Walk) (level : Level) (cut list : List ℕ) (first : ℕ)
+    → ((list : List ℕ) (op : ℕ) → length (next list op).0 ≤ length list + 1) → IsWalk book prefix init next old (level.place ∷ places_of old.choices.items)
     → LeadsTo book next old level cut list → IsLeast book cut (length book) first → Fits cut list
-deeper-fits book front init next old level cut list first grows h to least =
+deeper-fits book prefix init next old level cut list first grows h to least =
     let valid = h.begins.stands.valid in
     let place : Place = record { caller = first; number = get_or cut first 0; reply = 0 } in
     let there = answer_stands book (next_call cut first) least.answered in
     let own = valid.own (next_call cut first) there.0 there.1 in
     let may : MayComeNext book cut (next_call cut first) =
     may_come-from_least book cut first first there.0.view valid least (λ (r : Record) at. ap (λ (x : Record). x.view) (same_Some r there.0 (sym at ∙ there.1))) (omega (arith, own)) in
-    (standing book front init next (old.levels.items ++ level ∷ []) cut list place h.begins grows (leads-to book front init next old level cut list h to) may).fits
+    (standing book prefix init next (old.levels.items ++ level ∷ []) cut list place h.begins grows (leads-to book prefix init next old level cut list h to) may).fits
 
 -- An order from the start reaches where a place leads to.
-pub deeper-reached : (book : List Page) (front : Front) (init : List ℕ) (next : List ℕ → ℕ → List ℕ × ℕ) (old : Walk) (level : Level) (cut list : List ℕ)
-    → IsWalk book front init next old (level.place ∷ places_of old.choices.items) → LeadsTo book next old level cut list → IsReached init next book cut list
-deeper-reached book front init next old level cut list h to = reached-from_leads init next book front (old.levels.items ++ level ∷ []) cut list h.begins (leads-to book front init next old level cut list h to)
+pub deeper-reached : (book : List Page) (prefix : Prefix) (init : List ℕ) (next : List ℕ → ℕ → List ℕ × ℕ) (old : Walk) (level : Level) (cut list : List ℕ)
+    → IsWalk book prefix init next old (level.place ∷ places_of old.choices.items) → LeadsTo book next old level cut list → IsReached init next book cut list
+deeper-reached book prefix init next old level cut list h to = reached-from_leads init next book prefix (old.levels.items ++ level ∷ []) cut list h.begins (leads-to book prefix init next old level cut list h to)
 
 -- one level back from a dead end
-pub walk-back : (book : List Page) (front : Front) (init : List ℕ) (next : List ℕ → ℕ → List ℕ × ℕ) (old new : Walk) (level : Level)
-    → IsWalk book front init next old [] → old.levels.items ≡ new.levels.items ++ level ∷ [] → new.counts.items ≡ set old.counts.items level.place.caller level.place.number
+pub walk-back : (book : List Page) (prefix : Prefix) (init : List ℕ) (next : List ℕ → ℕ → List ℕ × ℕ) (old new : Walk) (level : Level)
+    → IsWalk book prefix init next old [] → old.levels.items ≡ new.levels.items ++ level ∷ [] → new.counts.items ≡ set old.counts.items level.place.caller level.place.number
     → new.here.words ≡ level.words.items → new.here.room ≡ old.here.room → new.choices ≡ level.choices → new.memo ≡ old.memo
-    → IsWalk book front init next new (places_of new.choices.items) × (weight new < weigh ROOM old.levels.items 0)
-walk-back book front init next old new level h levels counts here room choices memo =
-    let back = leads-pop book next front.cut front.here.words new.levels.items level old.counts.items old.here.words
-    (subst (λ (ls : List Level). Leads book next front.cut front.here.words ls old.counts.items old.here.words) levels h.leads) in
+    → IsWalk book prefix init next new (places_of new.choices.items) × (weight new < weigh ROOM old.levels.items 0)
+walk-back book prefix init next old new level h levels counts here room choices memo =
+    let back = leads-pop book next prefix.cut prefix.here.words new.levels.items level old.counts.items old.here.words
+    (subst (λ (ls : List Level). Leads book next prefix.cut prefix.here.words ls old.counts.items old.here.words) levels h.leads) in
     let cut : new.counts.items ≡ back.from =
     counts ∙ (ap (λ (c : List ℕ). set c level.place.caller level.place.number) back.to_cut_is ∙ lowered back.from level.place.caller level.place.number back.here.sound.0.may_come.next) in
     let dead : IsDeadEnd book next (raised back.from level.place.caller) (list_after book next level.words.items level.place) =
@@ -203,7 +203,7 @@ walk-back book front init next old new level h levels counts here room choices m
     let old_is : weigh ROOM old.levels.items 0 ≡ weigh ROOM (new.levels.items ++ level ∷ []) 0 = ap (λ (ls : List Level). weigh ROOM ls 0) levels in (
       record {
         begins = h.begins;
-        leads = same_leads book next front.cut front.here.words new.levels.items new.levels.items back.from new.counts.items level.words.items new.here.words refl cut here back.leads;
+        leads = same_leads book next prefix.cut prefix.here.words new.levels.items new.levels.items back.from new.counts.items level.words.items new.here.words refl cut here back.leads;
         here = same_open book next back.from new.counts.items level.words.items new.here.words (places_of level.choices.items) (places_of new.choices.items) cut here
             (ap (λ v. places_of v.items) choices) (open-rest book next back.from level.words.items level.place (places_of level.choices.items) dead back.here);
         dead = λ c l at. h.dead c l (subst (λ m. Remembers m c l) memo at);
@@ -220,32 +220,32 @@ pub record LastLevel (old : Walk) (level : Level) : Type 0 where
   pub number : level.place.number ≤ MAX_CALLS
   pub words : length level.words.items ≤ ROOM
 
-pub last_level : (book : List Page) (front : Front) (init : List ℕ) (next : List ℕ → ℕ → List ℕ × ℕ) (old : Walk) (levels : List Level) (level : Level)
-    → ((list : List ℕ) (op : ℕ) → length (next list op).0 ≤ length list + 1) → IsWalk book front init next old [] → old.levels.items ≡ levels ++ level ∷ [] → LastLevel old level
-last_level book front init next old levels level grows h is =
-    let back = leads-pop book next front.cut front.here.words levels level old.counts.items old.here.words
-    (subst (λ (ls : List Level). Leads book next front.cut front.here.words ls old.counts.items old.here.words) is h.leads) in
-    let s = standing book front init next levels back.from level.words.items level.place h.begins grows back.leads back.here.sound.0.may_come in
+pub last_level : (book : List Page) (prefix : Prefix) (init : List ℕ) (next : List ℕ → ℕ → List ℕ × ℕ) (old : Walk) (levels : List Level) (level : Level)
+    → ((list : List ℕ) (op : ℕ) → length (next list op).0 ≤ length list + 1) → IsWalk book prefix init next old [] → old.levels.items ≡ levels ++ level ∷ [] → LastLevel old level
+last_level book prefix init next old levels level grows h is =
+    let back = leads-pop book next prefix.cut prefix.here.words levels level old.counts.items old.here.words
+    (subst (λ (ls : List Level). Leads book next prefix.cut prefix.here.words ls old.counts.items old.here.words) is h.leads) in
+    let s = standing book prefix init next levels back.from level.words.items level.place h.begins grows back.leads back.here.sound.0.may_come in
     let long : length old.counts.items ≡ length back.from = ap (λ (c : List ℕ). length c) back.to_cut_is ∙ length-set back.from level.place.caller (get_or back.from level.place.caller 0 + 1) in
     record { caller = omega (arith, s.caller); number = omega (arith, s.number); words = omega (arith, s.fits) }
 
--- a dead end where the front ends
-pub walk-none : (book : List Page) (front : Front) (init : List ℕ) (next : List ℕ → ℕ → List ℕ × ℕ) (walk : Walk) → IsWalk book front init next walk [] → walk.levels.items ≡ []
-    → IsDeadEnd book next front.cut front.here.words
-walk-none book front init next walk h none =
-    let leads : Leads book next front.cut front.here.words [] walk.counts.items walk.here.words =
-    subst (λ (ls : List Level). Leads book next front.cut front.here.words ls walk.counts.items walk.here.words) none h.leads in
-    subst (λ (c : List ℕ). IsDeadEnd book next c front.here.words) (sym leads.0)
+-- a dead end where the prefix ends
+pub walk-none : (book : List Page) (prefix : Prefix) (init : List ℕ) (next : List ℕ → ℕ → List ℕ × ℕ) (walk : Walk) → IsWalk book prefix init next walk [] → walk.levels.items ≡ []
+    → IsDeadEnd book next prefix.cut prefix.here.words
+walk-none book prefix init next walk h none =
+    let leads : Leads book next prefix.cut prefix.here.words [] walk.counts.items walk.here.words =
+    subst (λ (ls : List Level). Leads book next prefix.cut prefix.here.words ls walk.counts.items walk.here.words) none h.leads in
+    subst (λ (c : List ℕ). IsDeadEnd book next c prefix.here.words) (sym leads.0)
     (subst (λ (l : List ℕ). IsDeadEnd book next walk.counts.items l) (sym leads.1) (dead_end book next walk.counts.items walk.here.words h.here))
 
--- the walk where the front ends
-pub walk-start : (book : List Page) (front : Front) (init : List ℕ) (next : List ℕ → ℕ → List ℕ × ℕ) (walk : Walk) → IsFront init next book front
-    → walk.levels.items ≡ [] → walk.counts.items ≡ front.cut → walk.here.words ≡ front.here.words
+-- the walk where the prefix ends
+pub walk-start : (book : List Page) (prefix : Prefix) (init : List ℕ) (next : List ℕ → ℕ → List ℕ × ℕ) (walk : Walk) → IsPrefix init next book prefix
+    → walk.levels.items ≡ [] → walk.counts.items ≡ prefix.cut → walk.here.words ≡ prefix.here.words
     → walk.here.room ≡ ROOM → IsMemo walk.memo → walk.memo.callers ≡ length book → ((cut list : List ℕ) → Remembers walk.memo cut list → ⊥)
-    → IsOpen book next walk.counts.items walk.here.words (places_of walk.choices.items) → IsWalk book front init next walk (places_of walk.choices.items)
-walk-start book front init next walk f levels counts here room memo callers none start = record {
+    → IsOpen book next walk.counts.items walk.here.words (places_of walk.choices.items) → IsWalk book prefix init next walk (places_of walk.choices.items)
+walk-start book prefix init next walk f levels counts here room memo callers none start = record {
   begins = f;
-  leads = subst (λ (ls : List Level). Leads book next front.cut front.here.words ls walk.counts.items walk.here.words) (sym levels) (sym counts, sym here);
+  leads = subst (λ (ls : List Level). Leads book next prefix.cut prefix.here.words ls walk.counts.items walk.here.words) (sym levels) (sym counts, sym here);
   here = start;
   dead = λ cut list there. absurd (none cut list there);
   memo = memo;
@@ -253,15 +253,15 @@ walk-start book front init next walk f levels counts here room memo callers none
   room = room;
 }
 
--- One more word fits the list of a front behind which a call is open.
-pub front-fits : (book : List Page) (front : Front) (init : List ℕ) (next : List ℕ → ℕ → List ℕ × ℕ) (cut list : List ℕ) (first : ℕ)
-    → ((list : List ℕ) (op : ℕ) → length (next list op).0 ≤ length list + 1) → IsFront init next book front → cut ≡ front.cut → list ≡ front.here.words
+-- One more word fits the list of a prefix after which a call is open.
+pub prefix-fits : (book : List Page) (prefix : Prefix) (init : List ℕ) (next : List ℕ → ℕ → List ℕ × ℕ) (cut list : List ℕ) (first : ℕ)
+    → ((list : List ℕ) (op : ℕ) → length (next list op).0 ≤ length list + 1) → IsPrefix init next book prefix → cut ≡ prefix.cut → list ≡ prefix.here.words
     → IsLeast book cut (length book) first → Fits cut list
-front-fits book front init next cut list first grows f same_cut same_list least =
+prefix-fits book prefix init next cut list first grows f same_cut same_list least =
     let valid = f.stands.valid in
     let place : Place = record { caller = first; number = get_or cut first 0; reply = 0 } in
     let there = answer_stands book (next_call cut first) least.answered in
     let own = valid.own (next_call cut first) there.0 there.1 in
     let may : MayComeNext book cut (next_call cut first) =
     may_come-from_least book cut first first there.0.view valid least (λ (r : Record) at. ap (λ (x : Record). x.view) (same_Some r there.0 (sym at ∙ there.1))) (omega (arith, own)) in
-    (standing book front init next [] cut list place f grows (sym same_cut, sym same_list) may).fits
+    (standing book prefix init next [] cut list place f grows (sym same_cut, sym same_list) may).fits

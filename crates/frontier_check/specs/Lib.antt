@@ -1,4 +1,4 @@
-pub mod Front
+pub mod Prefix
 pub mod Standing
 pub mod Twin
 pub mod Search

@@ -10,14 +10,14 @@ use Rattle.book_base.specs.declared.marks.Marks.{Marks}
 use Rattle.book_base.specs.Pruning.{IsDeadEnd, IsMarked, MarksSuffice}
 use Rattle.book_base.specs.Next.{next_call, raised, list_after, HoldsAnswered, MayComeNext, MayStandNext, Continues}
 use Rattle.frontier_check.specs.declared.choice.Choice.{Choice}
-use Rattle.frontier_check.specs.declared.front.Front.{Front}
+use Rattle.frontier_check.specs.declared.prefix.Prefix.{Prefix}
 use Rattle.frontier_check.specs.declared.walk.Level.{Level}
 use Rattle.frontier_check.specs.declared.walk.Walk.{Walk}
 use Rattle.frontier_check.specs.declared.walk.Outcome.{Outcome}
 use Rattle.frontier_check.specs.declared.walk.Outcome.TheVariants.{Found, NoneLeft, GoesOn}
 use Rattle.frontier_check.specs.declared.walk.TheConstants.{ROOM}
 use Rattle.frontier_check.specs.Memo.{IsMemo, Remembers}
-use Rattle.frontier_check.specs.Front.{IsFront}
+use Rattle.frontier_check.specs.Prefix.{IsPrefix}
 
 -- the object's list may grow by one word for each call of a book
 abbrev pub Fits : List ℕ → List ℕ → Type 0
@@ -47,7 +47,7 @@ pub record IsOpen (book : List Page) (next : List ℕ → ℕ → List ℕ × �
 abbrev pub IsRankIn : List (ℕ × ℕ) → List ℕ → ℕ → Type 0
 IsRankIn ranks list rank = (limit : ℕ) → rank < limit → HasEarly ranks list limit
 
--- An order goes on by one of these places, or one goes on that has no more than so many places.
+-- An order goes on by one of these places, or one goes on that has no more than this many places.
 abbrev pub IsServed : List Page → (List ℕ → ℕ → List ℕ × ℕ) → List ℕ → List ℕ → List Place → ℕ → Type 0
 IsServed book next cut list places few =
     GoesOnBy book next cut list places ⊎ ((other : List Place) × Continues book next cut list other × (length other ≤ few))
@@ -89,10 +89,10 @@ Leads book next cut list (level ∷ levels) to_cut to_list =
 abbrev pub AllDead : List Page → (List ℕ → ℕ → List ℕ × ℕ) → Walk → Type 0
 AllDead book next walk = (cut list : List ℕ) → Remembers walk.memo cut list → IsDeadEnd book next cut list
 
--- A walk from where a front ends, at whose own end these places are still to be tried.
-pub record IsWalk (book : List Page) (front : Front) (init : List ℕ) (next : List ℕ → ℕ → List ℕ × ℕ) (walk : Walk) (places : List Place) : Type 0 where
-  pub begins : IsFront init next book front
-  pub leads : Leads book next front.cut front.here.words walk.levels.items walk.counts.items walk.here.words
+-- A walk from where a prefix ends, at whose own end these places are still to be tried.
+pub record IsWalk (book : List Page) (prefix : Prefix) (init : List ℕ) (next : List ℕ → ℕ → List ℕ × ℕ) (walk : Walk) (places : List Place) : Type 0 where
+  pub begins : IsPrefix init next book prefix
+  pub leads : Leads book next prefix.cut prefix.here.words walk.levels.items walk.counts.items walk.here.words
   pub here : IsOpen book next walk.counts.items walk.here.words places
   pub dead : AllDead book next walk
   pub memo : IsMemo walk.memo
@@ -103,12 +103,12 @@ pub record IsWalk (book : List Page) (front : Front) (init : List ℕ) (next : L
 abbrev pub order_of : List Level → List Place
 order_of levels = map (λ level. level.place) levels
 
--- how many ways there may be of so many places, where at each of them no more may be tried than there are callers
+-- how many ways there may be of this many places, where at each of them no more may be tried than there are callers
 unfoldable pub ways : ℕ → ℕ
 ways zero = 1
 ways (suc depth) = (MAX_CALLERS + 2) * ways depth
 
--- how much may be left to try, where at most so many places follow the first cut: each choice of a level weighs more than all that
+-- how much may be left to try, where at most this many places follow the first cut: each choice of a level weighs more than all that
 -- may come below it
 unfoldable pub weigh : ℕ → List Level → ℕ → ℕ
 weigh depth [] choices = (choices + 1) * ways depth
@@ -118,9 +118,9 @@ weigh depth (level ∷ levels) choices = (length level.choices.items + 1) * ways
 abbrev pub weight : Walk → ℕ
 weight walk = weigh ROOM walk.levels.items (length walk.choices.items)
 
--- What came of a step is so: the levels make a legal order behind the front, nothing goes on from the front, or the walk goes on
+-- What came of a step is so: the levels make a legal order after the prefix, nothing goes on from the prefix, or the walk goes on
 -- with less weight than before.
-abbrev pub IsRightOutcome : List Page → Front → List ℕ → (List ℕ → ℕ → List ℕ × ℕ) → ℕ → Walk → Outcome → Type 0
-IsRightOutcome book front init next before walk Found = IsLegalOrder init next book (front.places.items ++ order_of walk.levels.items)
-IsRightOutcome book front init next before walk NoneLeft = IsDeadEnd book next front.cut front.here.words
-IsRightOutcome book front init next before walk GoesOn = IsWalk book front init next walk (places_of walk.choices.items) × (weight walk < before)
+abbrev pub IsRightOutcome : List Page → Prefix → List ℕ → (List ℕ → ℕ → List ℕ × ℕ) → ℕ → Walk → Outcome → Type 0
+IsRightOutcome book prefix init next before walk Found = IsLegalOrder init next book (prefix.places.items ++ order_of walk.levels.items)
+IsRightOutcome book prefix init next before walk NoneLeft = IsDeadEnd book next prefix.cut prefix.here.words
+IsRightOutcome book prefix init next before walk GoesOn = IsWalk book prefix init next walk (places_of walk.choices.items) × (weight walk < before)

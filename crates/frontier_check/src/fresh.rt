@@ -1,11 +1,11 @@
 ghost use Rattle.std.specs.Prelude.{◌≡◌, ◌<◌, length, IfOk, IfSome, IsTrue};
 ghost use Rattle.book_base.specs.Next.{HoldsAnswered};
-ghost use Rattle.frontier_check.specs.Front.{IsNext, IsPut};
+ghost use Rattle.frontier_check.specs.Prefix.{IsNext, IsPut};
 ghost use Rattle.frontier_check.specs.Standing.{AreMarks};
 
-use crate::front::{Front, answers_in};
 use crate::mark::Mark;
 use crate::plan::total;
+use crate::prefix::{Prefix, answers_in};
 use crate::walk::ROOM;
 use book_base::{Book, Call, Cut, NoMemory, Place, SeqObject, State};
 use std::alloc::Global;
@@ -63,12 +63,12 @@ fn least_of(counts: &Cut) -> u32
 fn gives<S: SeqObject>(
     object: &S,
     book: &Book,
-    front: &Front,
+    prefix: &Prefix,
     spare: &mut State,
     place: Place,
 ) -> bool
-    requires put { IsPut (S.init object.now) (S.next object.now) book.now front.now }
-    requires next { IsNext book.now front.now.cut place }
+    requires put { IsPut (S.init object.now) (S.next object.now) book.now prefix.now }
+    requires next { IsNext book.now prefix.now.cut place }
     requires room { spare.old.room ≡ ROOM }
     ensures room { spare.new.room ≡ ROOM }
 {
@@ -76,7 +76,7 @@ fn gives<S: SeqObject>(
         caller: place.caller,
         number: place.number,
     });
-    spare.copy_from(&front.here);
+    spare.copy_from(&prefix.here);
     object.step(spare, op) == place.reply
 }
 
@@ -131,40 +131,40 @@ fn held_after(cut: &Cut, view: &Cut) -> u32
     held
 }
 
-// Of the callers' first calls outside a front the one to put next, where the least view of all such calls holds one alone,
+// Of the callers' first calls outside a prefix the one to put next, where the least view of all such calls holds one alone,
 // and the object gives its reply: what else may stand next is left to a search, which can go back.
 fn next_place<S: SeqObject>(
     object: &S,
     book: &Book,
     later: &[Place],
-    front: &Front,
+    prefix: &Prefix,
     spare: &mut State,
     counts: &Cut,
     turns: &Cut,
 ) -> Option<Place>
-    requires put { IsPut (S.init object.now) (S.next object.now) book.now front.now }
+    requires put { IsPut (S.init object.now) (S.next object.now) book.now prefix.now }
     requires counts { length counts.now ≡ length book.now }
     requires turns { length turns.now ≡ length book.now }
     requires room { spare.old.room ≡ ROOM }
     ensures room { spare.new.room ≡ ROOM }
-    ensures next { IfSome result (IsNext book.now front.now.cut) }
+    ensures next { IfSome result (IsNext book.now prefix.now.cut) }
 {
     let first = Call {
         caller: least_of(counts),
-        number: front.cut.get(least_of(counts)),
+        number: prefix.cut.get(least_of(counts)),
     };
     if first.number >= book.answers(first.caller) {
         return None;
     }
     let view = book.record(first).view;
-    if held_after(&front.cut, &view) > 1 {
+    if held_after(&prefix.cut, &view) > 1 {
         return None;
     }
     let mut best: Option<Place> = None;
     let mut least = u64::MAX;
     for caller in 0..book.callers() {
         let turn = turns.get(caller);
-        let number = front.cut.get(caller);
+        let number = prefix.cut.get(caller);
         if turn < least
             && let Some(reply) = reply_of(book, later, Call { caller, number }, turn)
         {
@@ -173,7 +173,7 @@ fn next_place<S: SeqObject>(
                 number,
                 reply,
             };
-            if front.may_take(book, &view, place) && gives(object, book, front, spare, place) {
+            if prefix.may_take(book, &view, place) && gives(object, book, prefix, spare, place) {
                 best = Some(place);
                 least = turn;
             }
@@ -193,7 +193,7 @@ pub fn calls_after(book: &Book, cut: &Cut) -> u64
     left
 }
 
-/// Puts answered calls after the places of a front, and those of the later places, as long as one of them may stand next
+/// Puts answered calls after the places of a prefix, and those of the later places, as long as one of them may stand next
 /// with the reply that the object gives, and leaves marks at intervals. The later places come first, in their order, and
 /// then the calls with the least views. Whether the object gave the replies; no clause says how far it comes.
 pub fn put_fresh<S: SeqObject>(
@@ -201,33 +201,33 @@ pub fn put_fresh<S: SeqObject>(
     object: &S,
     book: &Book,
     later: &[Place],
-    front: &mut Front,
+    prefix: &mut Prefix,
     marks: &mut Vec<Mark>,
 ) -> Result<bool, NoMemory>
-    requires put { IsPut (S.init object.now) (S.next object.now) book.now front.old }
-    requires room { front.old.here.room ≡ ROOM }
-    requires marks { AreMarks (S.init object.now) (S.next object.now) book.now front.old.places.items 0 marks.old.items }
+    requires put { IsPut (S.init object.now) (S.next object.now) book.now prefix.old }
+    requires room { prefix.old.here.room ≡ ROOM }
+    requires marks { AreMarks (S.init object.now) (S.next object.now) book.now prefix.old.places.items 0 marks.old.items }
     ensures put { IfOk result (λ given. IsTrue given
-        → IsPut (S.init object.now) (S.next object.now) book.now front.new) }
+        → IsPut (S.init object.now) (S.next object.now) book.now prefix.new) }
     ensures marks { IfOk result (λ given. IsTrue given
-        → AreMarks (S.init object.now) (S.next object.now) book.now front.new.places.items 0 marks.new.items) }
+        → AreMarks (S.init object.now) (S.next object.now) book.now prefix.new.places.items 0 marks.new.items) }
 {
     let answered = answers_in(book);
     let mut spare = State::with_room(alloc, ROOM)?;
-    let mut counts = counts_after(book, &front.cut);
-    let mut turns = turns_after(book, later, &front.cut);
-    for _ in 0..calls_after(book, &front.cut) {
-        let next = next_place(object, book, later, front, &mut spare, &counts, &turns);
+    let mut counts = counts_after(book, &prefix.cut);
+    let mut turns = turns_after(book, later, &prefix.cut);
+    for _ in 0..calls_after(book, &prefix.cut) {
+        let next = next_place(object, book, later, prefix, &mut spare, &counts, &turns);
         let Some(place) = next else {
             return Ok(true);
         };
-        if !front.put(object, book, place)? {
+        if !prefix.put(object, book, place)? {
             return Ok(false);
         }
-        let number = front.cut.get(place.caller);
+        let number = prefix.cut.get(place.caller);
         counts.set(place.caller, count_of(book, place.caller, number));
         turns.set(place.caller, turn_of(book, later, place.caller, number));
-        front.mark_at_interval(alloc, &answered, marks)?;
+        prefix.mark_at_interval(alloc, &answered, marks)?;
     }
     Ok(true)
 }

@@ -4,7 +4,7 @@ use book_base::{NoMemory, Place};
 use std::alloc::Global;
 use std::marker::Model;
 
-/// The last legal order that was found, behind whose places the next search begins.
+/// The last legal order that was found, after whose places the next search begins.
 ///
 /// Clauses see it as that order. Every guide is a good one: it costs or saves time alone.
 #[derive(Debug, Drop)]
@@ -38,7 +38,7 @@ impl Guide {
         &self.order
     }
 
-    /// Keeps an order in place of the last one.
+    /// Keeps an order instead of the last one.
     pub fn keep(&mut self, alloc: Global, order: &[Place]) -> Result<(), NoMemory>
         ensures { OnOk result (self.new ≡ order.now) }
     {

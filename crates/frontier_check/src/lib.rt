@@ -3,11 +3,11 @@
 
 mod choice;
 mod fresh;
-mod front;
 mod guide;
 mod mark;
 mod memo;
 mod plan;
+mod prefix;
 mod remaining;
 mod resume;
 mod search;

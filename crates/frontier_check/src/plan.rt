@@ -1,10 +1,10 @@
 ghost use Rattle.std.specs.Prelude.{◌≡◌, ◌<◌, ◌≤◌, length};
 
-use crate::front::Front;
+use crate::prefix::Prefix;
 use book_base::{Book, Call, Cut, NoMemory, Place};
 use std::alloc::Global;
 
-/// The turn of each call after a front among those that may come next: the least is tried first.
+/// The turn of each call after a prefix among those that may come next: the least is tried first.
 ///
 /// The turns are a guess. A search comes to the same verdict with any, so that no clause says what they
 /// are.
@@ -17,21 +17,26 @@ pub struct Plan {
 }
 
 impl Plan {
-    /// After the places of a front the calls of a guide's later places come first, in its order, then the answered
+    /// After the places of a prefix the calls of a guide's later places come first, in its order, then the answered
     /// calls by what their views count, and last all others.
-    pub fn new(alloc: Global, book: &Book, later: &[Place], front: &Front) -> Result<Plan, NoMemory>
-        requires { length front.now.cut ≡ length book.now }
+    pub fn new(
+        alloc: Global,
+        book: &Book,
+        later: &[Place],
+        prefix: &Prefix,
+    ) -> Result<Plan, NoMemory>
+        requires { length prefix.now.cut ≡ length book.now }
     {
-        let most = most_calls(book, &front.cut);
+        let most = most_calls(book, &prefix.cut);
         let size = (book.callers() as usize).saturating_mul(most as usize);
         let mut plan = Plan {
             turns: vec![in alloc; u32::MAX; size]?,
-            first: front.cut,
+            first: prefix.cut,
             most,
             guided: u32::try_from(later.len()).unwrap_or(u32::MAX),
         };
         for caller in 0..book.callers() {
-            plan.guess(book, caller, front.cut.get(caller), later.len());
+            plan.guess(book, caller, prefix.cut.get(caller), later.len());
         }
         for (index, place) in later.iter().enumerate() {
             plan.put(place.caller, place.number, index);

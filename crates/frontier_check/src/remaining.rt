@@ -1,59 +1,59 @@
-//! What is left of a book after a front, as a book of its own, of which the object may say more
+//! What is left of a book after a prefix, as a book of its own, of which the object may say more
 //! than a search from there finds soon.
 ghost use Rattle.std.specs.Prelude.{◌≡◌, length};
 
-use crate::front::Front;
+use crate::prefix::Prefix;
 use crate::walk::ROOM;
 use book_base::{Book, BookFault, Call, Cut, Decision, NoMemory, OpWord, Place, SeqObject, State};
 use std::alloc::Global;
 
-/// The places of an order that the object decides on for what is left after a front, if it does.
+/// The places of an order that the object decides on for what is left after a prefix, if it does.
 ///
 /// It is asked of a book of those calls alone, before which caller 0 makes calls that lead to the
-/// front's list. No clause says that the places follow the front's: who takes them steps through
+/// prefix's list. No clause says that the places follow the prefix's: who takes them steps through
 /// them.
 pub fn decided_after<S: SeqObject>(
     alloc: Global,
     object: &S,
     book: &Book,
-    front: &Front,
+    prefix: &Prefix,
 ) -> Result<Option<Vec<Place>>, NoMemory>
-    requires { length front.now.cut ≡ length book.now }
+    requires { length prefix.now.cut ≡ length book.now }
 {
-    let puts = puts_of(alloc, object, book, front)?;
+    let puts = puts_of(alloc, object, book, prefix)?;
     let mut left = Book::new(alloc, book.callers())?;
-    if !add_puts(alloc, object, front.here.words(), &puts, &mut left)? {
+    if !add_puts(alloc, object, prefix.here.words(), &puts, &mut left)? {
         return Ok(None);
     }
     let before = puts.len() as u64;
-    if !add_calls(book, &front.cut, &mut left)? {
+    if !add_calls(book, &prefix.cut, &mut left)? {
         return Ok(None);
     }
-    if !add_answers(book, &front.cut, before, &mut left)? {
+    if !add_answers(book, &prefix.cut, before, &mut left)? {
         return Ok(None);
     }
     match object.decide(alloc, &left)? {
-        Decision::Order(order) => Ok(Some(places_after(alloc, &front.cut, before, &order)?)),
+        Decision::Order(order) => Ok(Some(places_after(alloc, &prefix.cut, before, &order)?)),
         Decision::NoOrder | Decision::Unsaid => Ok(None),
     }
 }
 
-// The operations of a front's last places that put in the words of its list, the last word first:
+// The operations of a prefix's last places that put in the words of its list, the last word first:
 // each of them alone makes a list of this word alone. There are fewer where a word has none.
 fn puts_of<S: SeqObject>(
     alloc: Global,
     object: &S,
     book: &Book,
-    front: &Front,
+    prefix: &Prefix,
 ) -> Result<Vec<OpWord>, NoMemory> {
     let mut spare = State::with_room(alloc, ROOM)?;
-    let mut wanted = Vec::from_slice(alloc, front.here.words())?;
+    let mut wanted = Vec::from_slice(alloc, prefix.here.words())?;
     let mut puts = Vec::new(alloc);
-    for back in 0..front.places.len() {
+    for back in 0..prefix.places.len() {
         let Some(word) = wanted.last().copied() else {
             return Ok(puts);
         };
-        let place = front.places[front.places.len() - 1 - back];
+        let place = prefix.places[prefix.places.len() - 1 - back];
         if let Some(op) = put_at(object, book, &mut spare, place, word) {
             puts.push(op)?;
             wanted.pop();
@@ -166,7 +166,7 @@ fn add_answers(book: &Book, cut: &Cut, before: u64, left: &mut Book) -> Result<b
     Ok(true)
 }
 
-// What a view counts of the calls after a cut, and so many calls of caller 0 before those.
+// What a view counts of the calls after a cut, and this many calls of caller 0 before those.
 fn view_after(view: &Cut, cut: &Cut, before: u64) -> Cut
     requires { length view.now ≡ length cut.now }
 {

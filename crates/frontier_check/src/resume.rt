@@ -1,15 +1,15 @@
 ghost use Rattle.std.specs.Prelude.{◌≡◌, ℕ, ◌<◌, ◌≤◌, ◌⊎◌, length, slice_index_or, take, IfOk, IfSome, IsTrue, OnOk};
 ghost use Rattle.frontier_check.specs.declared.mark.Mark.{Mark};
-ghost use Rattle.frontier_check.specs.Front.{IsPut};
+ghost use Rattle.frontier_check.specs.Prefix.{IsPut};
 ghost use Rattle.frontier_check.specs.Standing.{IsQuiet, IsAsWide, StillStands, AreMarks};
 
-use crate::front::{Front, leaves_open};
 use crate::mark::Mark;
+use crate::prefix::{Prefix, leaves_open};
 use crate::walk::{ROOM, load};
 use book_base::{Book, Cut, NoMemory, Place, SeqObject, State};
 use std::alloc::Global;
 
-// Whether the calls of a cut that a book has answered were answered already when it had so many records.
+// Whether the calls of a cut that a book has answered were answered already when it had this many records.
 fn is_quiet(book: &Book, cut: &Cut, before: &Cut) -> bool
     requires cut { length cut.now ≡ length book.now }
     requires before { length before.now ≡ length book.now }
@@ -49,8 +49,12 @@ fn last_standing(book: &Book, marks: &[Mark]) -> Option<usize>
     None
 }
 
-// The places of an order up to a mark, as a front, and the other places.
-fn front_at(alloc: Global, order: Vec<Place>, mark: &Mark) -> Result<(Front, Vec<Place>), NoMemory>
+// The places of an order up to a mark, as a prefix, and the other places.
+fn prefix_at(
+    alloc: Global,
+    order: Vec<Place>,
+    mark: &Mark,
+) -> Result<(Prefix, Vec<Place>), NoMemory>
     requires len { mark.now.len ≤ length order.items }
     requires words { length mark.now.words.items ≤ ROOM }
     ensures places { IfOk result (λ r. r.0.places.items ≡ take mark.now.len order.items) }
@@ -63,15 +67,15 @@ fn front_at(alloc: Global, order: Vec<Place>, mark: &Mark) -> Result<(Front, Vec
     let later = Vec::from_slice(alloc, &order[mark.len..])?;
     let mut places = order;
     places.truncate(mark.len);
-    let front = Front {
+    let prefix = Prefix {
         places,
         cut: mark.cut,
         here,
     };
-    Ok((front, later))
+    Ok((prefix, later))
 }
 
-/// The places of an order up to the last mark that still stands, as a front, and the other places. The marks after it
+/// The places of an order up to the last mark that still stands, as a prefix, and the other places. The marks after it
 /// are gone.
 pub fn resume<S: SeqObject>(
     alloc: Global,
@@ -79,7 +83,7 @@ pub fn resume<S: SeqObject>(
     book: &Book,
     order: Vec<Place>,
     marks: &mut Vec<Mark>,
-) -> Result<(Front, Vec<Place>), NoMemory>
+) -> Result<(Prefix, Vec<Place>), NoMemory>
     requires marks { AreMarks (S.init object.now) (S.next object.now) book.now order.items 0 marks.old.items }
     ensures put { IfOk result (λ r. IsPut (S.init object.now) (S.next object.now) book.now r.0) }
     ensures room { IfOk result (λ r. r.0.here.room ≡ ROOM) }
@@ -90,12 +94,12 @@ pub fn resume<S: SeqObject>(
     match last_standing(book, marks) {
         None => {
             marks.clear();
-            Ok((Front::new(alloc, object, book)?, order))
+            Ok((Prefix::new(alloc, object, book)?, order))
         }
         Some(index) => {
             // That a book is valid and small is known by this.
             let _callers = book.callers();
-            let found = front_at(alloc, order, &marks[index])?;
+            let found = prefix_at(alloc, order, &marks[index])?;
             marks.truncate(index + 1);
             Ok(found)
         }

@@ -4,17 +4,17 @@ ghost use Rattle.book_base.specs.declared.call.Place.{Place};
 ghost use Rattle.book_base.specs.declared.call.Record.{Record};
 ghost use Rattle.book_base.specs.Book.{IsCall, IsAnswered, IsValid, record_of};
 ghost use Rattle.book_base.specs.Order.{IsLegalOrder};
-ghost use Rattle.book_base.specs.Foresight.{IsForesight, IsHopeless};
+ghost use Rattle.book_base.specs.Foresight.{IsForesight, IsInfeasible};
 ghost use Rattle.book_base.specs.declared.TheConstants.{MAX_CALLERS, MAX_CALLS};
 ghost use Rattle.book_base.specs.Next.{next_call, raised, list_after, HoldsAnswered, MayComeNext, MayStandNext};
-ghost use Rattle.frontier_check.specs.Front.{IsFront};
+ghost use Rattle.frontier_check.specs.Prefix.{IsPrefix};
 ghost use Rattle.book_base.specs.Pruning.{HasOneOpen, IsLeast, IsDeadEnd, MarksAllNext, ViewsAreWithin, IsReached, StandsAtOnce};
 ghost use Rattle.frontier_check.specs.Search.{places_of, AreToTry, IsOneMore, IsOpen, IsWalk, IsRightOutcome, IsRankIn, Fits, weigh, weight};
 
 use crate::choice::Choice;
-use crate::front::Front;
 use crate::memo::Memo;
 use crate::plan::Plan;
+use crate::prefix::Prefix;
 use crate::twins::choose;
 use crate::walk::{Level, Outcome, ROOM, Walk, load, places, set_count};
 use book_base::{Book, Call, Cut, Foresight, Marks, NoMemory, Place, SeqObject, Sight, State};
@@ -22,7 +22,7 @@ use next_calls::{all_next, cut_of, first_view, least_open};
 use std::alloc::Global;
 use std::mem;
 
-/// A search for a legal order of a book of a sequential object, behind the places of a front.
+/// A search for a legal order of a book of a sequential object, after the places of a prefix.
 pub struct Search<'a, S> {
     pub alloc: Global,
     pub object: &'a S,
@@ -32,7 +32,7 @@ pub struct Search<'a, S> {
     pub one_open: bool,
     pub sight: &'a Option<Sight>,
     pub plan: &'a Plan,
-    pub front: &'a Front,
+    pub prefix: &'a Prefix,
 }
 
 impl<S> Drop for Search<'_, S> {
@@ -46,20 +46,20 @@ impl<S> Drop for Search<'_, S> {
             one_open: _,
             sight: _,
             plan: _,
-            front: _,
+            prefix: _,
         } = self;
     }
 }
 
 impl<S: SeqObject> Search<'_, S> {
-    /// Finds the places that make a legal order after those of the front, if there are any.
+    /// Finds the places that make a legal order after those of the prefix, if there are any.
     pub fn run(&self) -> Result<Option<Vec<Place>>, NoMemory>
         requires foresight { IsForesight (S.init self.now.object.now) (S.next self.now.object.now) self.now.book.now self.now.known.now }
         requires open { IsTrue self.now.one_open → HasOneOpen self.now.book.now }
         requires sight { IfSome self.now.sight.now (λ sight. HasOneOpen self.now.book.now × S.sees self.now.object.now self.now.book.now sight) }
-        requires front { IsFront (S.init self.now.object.now) (S.next self.now.object.now) self.now.book.now self.now.front.now }
-        ensures found { IfOk result (λ found. IfSome found (λ rest. IsLegalOrder (S.init self.now.object.now) (S.next self.now.object.now) self.now.book.now (self.now.front.now.places.items ++ rest.items))) }
-        ensures none { IfOk result (λ found. IfNone found (IsDeadEnd self.now.book.now (S.next self.now.object.now) self.now.front.now.cut self.now.front.now.here.words)) }
+        requires prefix { IsPrefix (S.init self.now.object.now) (S.next self.now.object.now) self.now.book.now self.now.prefix.now }
+        ensures found { IfOk result (λ found. IfSome found (λ rest. IsLegalOrder (S.init self.now.object.now) (S.next self.now.object.now) self.now.book.now (self.now.prefix.now.places.items ++ rest.items))) }
+        ensures none { IfOk result (λ found. IfNone found (IsDeadEnd self.now.book.now (S.next self.now.object.now) self.now.prefix.now.cut self.now.prefix.now.here.words)) }
     {
         let mut spare = State::with_room(self.alloc, ROOM)?;
         match self.begin(&mut spare)? {
@@ -68,14 +68,14 @@ impl<S: SeqObject> Search<'_, S> {
         }
     }
 
-    /// The places that make a legal order after those of the front, if they are found within so many steps.
+    /// The places that make a legal order after those of the prefix, if they are found within this many steps.
     /// `None` says nothing: there may be some, and no clause says that it looks so far.
     pub fn run_few(&self, steps: u64) -> Result<Option<Vec<Place>>, NoMemory>
         requires foresight { IsForesight (S.init self.now.object.now) (S.next self.now.object.now) self.now.book.now self.now.known.now }
         requires open { IsTrue self.now.one_open → HasOneOpen self.now.book.now }
         requires sight { IfSome self.now.sight.now (λ sight. HasOneOpen self.now.book.now × S.sees self.now.object.now self.now.book.now sight) }
-        requires front { IsFront (S.init self.now.object.now) (S.next self.now.object.now) self.now.book.now self.now.front.now }
-        ensures found { IfOk result (λ found. IfSome found (λ rest. IsLegalOrder (S.init self.now.object.now) (S.next self.now.object.now) self.now.book.now (self.now.front.now.places.items ++ rest.items))) }
+        requires prefix { IsPrefix (S.init self.now.object.now) (S.next self.now.object.now) self.now.book.now self.now.prefix.now }
+        ensures found { IfOk result (λ found. IfSome found (λ rest. IsLegalOrder (S.init self.now.object.now) (S.next self.now.object.now) self.now.book.now (self.now.prefix.now.places.items ++ rest.items))) }
     {
         let mut spare = State::with_room(self.alloc, ROOM)?;
         match self.begin(&mut spare)? {
@@ -84,23 +84,23 @@ impl<S: SeqObject> Search<'_, S> {
         }
     }
 
-    // The walk that stands where the front ends; there is none where all answered calls stand.
+    // The walk that stands where the prefix ends; there is none where all answered calls stand.
     fn begin(&self, spare: &mut State) -> Result<Option<Walk>, NoMemory>
         requires foresight { IsForesight (S.init self.now.object.now) (S.next self.now.object.now) self.now.book.now self.now.known.now }
         requires open { IsTrue self.now.one_open → HasOneOpen self.now.book.now }
         requires sight { IfSome self.now.sight.now (λ sight. HasOneOpen self.now.book.now × S.sees self.now.object.now self.now.book.now sight) }
-        requires front { IsFront (S.init self.now.object.now) (S.next self.now.object.now) self.now.book.now self.now.front.now }
+        requires prefix { IsPrefix (S.init self.now.object.now) (S.next self.now.object.now) self.now.book.now self.now.prefix.now }
         requires room { spare.old.room ≡ ROOM }
         ensures room { spare.new.room ≡ ROOM }
-        ensures walk { IfOk result (λ begun. IfSome begun (λ walk. IsWalk self.now.book.now self.now.front.now (S.init self.now.object.now) (S.next self.now.object.now) walk (places_of walk.choices.items))) }
-        ensures none { IfOk result (λ begun. IfNone begun (HoldsAnswered self.now.book.now self.now.front.now.cut)) }
+        ensures walk { IfOk result (λ begun. IfSome begun (λ walk. IsWalk self.now.book.now self.now.prefix.now (S.init self.now.object.now) (S.next self.now.object.now) walk (places_of walk.choices.items))) }
+        ensures none { IfOk result (λ begun. IfNone begun (HoldsAnswered self.now.book.now self.now.prefix.now.cut)) }
     {
-        let counts = counts_of(self.alloc, &self.front.cut)?;
+        let counts = counts_of(self.alloc, &self.prefix.cut)?;
         let Some(first) = least_open(self.book, &counts) else {
             return Ok(None);
         };
         let mut here = State::with_room(self.alloc, ROOM)?;
-        here.copy_from(&self.front.here);
+        here.copy_from(&self.prefix.here);
         let choices = self.choices(&counts, &here, spare, first)?;
         let memo = Memo::new(self.alloc, counts.len());
         Ok(Some(Walk {
@@ -117,10 +117,10 @@ impl<S: SeqObject> Search<'_, S> {
         requires foresight { IsForesight (S.init self.now.object.now) (S.next self.now.object.now) self.now.book.now self.now.known.now }
         requires open { IsTrue self.now.one_open → HasOneOpen self.now.book.now }
         requires sight { IfSome self.now.sight.now (λ sight. HasOneOpen self.now.book.now × S.sees self.now.object.now self.now.book.now sight) }
-        requires walk { IsWalk self.now.book.now self.now.front.now (S.init self.now.object.now) (S.next self.now.object.now) walk.old (places_of walk.old.choices.items) }
+        requires walk { IsWalk self.now.book.now self.now.prefix.now (S.init self.now.object.now) (S.next self.now.object.now) walk.old (places_of walk.old.choices.items) }
         requires room { spare.old.room ≡ ROOM }
-        ensures found { IfOk result (λ found. IfSome found (λ rest. IsLegalOrder (S.init self.now.object.now) (S.next self.now.object.now) self.now.book.now (self.now.front.now.places.items ++ rest.items))) }
-        ensures none { IfOk result (λ found. IfNone found (IsDeadEnd self.now.book.now (S.next self.now.object.now) self.now.front.now.cut self.now.front.now.here.words)) }
+        ensures found { IfOk result (λ found. IfSome found (λ rest. IsLegalOrder (S.init self.now.object.now) (S.next self.now.object.now) self.now.book.now (self.now.prefix.now.places.items ++ rest.items))) }
+        ensures none { IfOk result (λ found. IfNone found (IsDeadEnd self.now.book.now (S.next self.now.object.now) self.now.prefix.now.cut self.now.prefix.now.here.words)) }
     {
         'steps: loop {
             match self.advance(walk, spare)? {
@@ -131,7 +131,7 @@ impl<S: SeqObject> Search<'_, S> {
         }
     }
 
-    // Goes on with a walk for so many steps. `None` says nothing.
+    // Goes on with a walk for this many steps. `None` says nothing.
     fn go_few(
         &self,
         walk: &mut Walk,
@@ -141,9 +141,9 @@ impl<S: SeqObject> Search<'_, S> {
         requires foresight { IsForesight (S.init self.now.object.now) (S.next self.now.object.now) self.now.book.now self.now.known.now }
         requires open { IsTrue self.now.one_open → HasOneOpen self.now.book.now }
         requires sight { IfSome self.now.sight.now (λ sight. HasOneOpen self.now.book.now × S.sees self.now.object.now self.now.book.now sight) }
-        requires walk { IsWalk self.now.book.now self.now.front.now (S.init self.now.object.now) (S.next self.now.object.now) walk.old (places_of walk.old.choices.items) }
+        requires walk { IsWalk self.now.book.now self.now.prefix.now (S.init self.now.object.now) (S.next self.now.object.now) walk.old (places_of walk.old.choices.items) }
         requires room { spare.old.room ≡ ROOM }
-        ensures found { IfOk result (λ found. IfSome found (λ rest. IsLegalOrder (S.init self.now.object.now) (S.next self.now.object.now) self.now.book.now (self.now.front.now.places.items ++ rest.items))) }
+        ensures found { IfOk result (λ found. IfSome found (λ rest. IsLegalOrder (S.init self.now.object.now) (S.next self.now.object.now) self.now.book.now (self.now.prefix.now.places.items ++ rest.items))) }
     {
         for _ in 0..steps {
             match self.advance(walk, spare)? {
@@ -160,10 +160,10 @@ impl<S: SeqObject> Search<'_, S> {
         requires foresight { IsForesight (S.init self.now.object.now) (S.next self.now.object.now) self.now.book.now self.now.known.now }
         requires open { IsTrue self.now.one_open → HasOneOpen self.now.book.now }
         requires sight { IfSome self.now.sight.now (λ sight. HasOneOpen self.now.book.now × S.sees self.now.object.now self.now.book.now sight) }
-        requires walk { IsWalk self.now.book.now self.now.front.now (S.init self.now.object.now) (S.next self.now.object.now) walk.old (places_of walk.old.choices.items) }
+        requires walk { IsWalk self.now.book.now self.now.prefix.now (S.init self.now.object.now) (S.next self.now.object.now) walk.old (places_of walk.old.choices.items) }
         requires room { spare.old.room ≡ ROOM }
         ensures room { spare.new.room ≡ ROOM }
-        ensures outcome { IfOk result (IsRightOutcome self.now.book.now self.now.front.now (S.init self.now.object.now) (S.next self.now.object.now) (weight walk.old) walk.new) }
+        ensures outcome { IfOk result (IsRightOutcome self.now.book.now self.now.prefix.now (S.init self.now.object.now) (S.next self.now.object.now) (weight walk.old) walk.new) }
     {
         match walk.choices.pop() {
             Some(choice) => self.enter(walk, spare, choice.place),
@@ -180,10 +180,10 @@ impl<S: SeqObject> Search<'_, S> {
         requires foresight { IsForesight (S.init self.now.object.now) (S.next self.now.object.now) self.now.book.now self.now.known.now }
         requires open { IsTrue self.now.one_open → HasOneOpen self.now.book.now }
         requires sight { IfSome self.now.sight.now (λ sight. HasOneOpen self.now.book.now × S.sees self.now.object.now self.now.book.now sight) }
-        requires walk { IsWalk self.now.book.now self.now.front.now (S.init self.now.object.now) (S.next self.now.object.now) walk.old (place ∷ places_of walk.old.choices.items) }
+        requires walk { IsWalk self.now.book.now self.now.prefix.now (S.init self.now.object.now) (S.next self.now.object.now) walk.old (place ∷ places_of walk.old.choices.items) }
         requires room { spare.old.room ≡ ROOM }
         ensures room { spare.new.room ≡ ROOM }
-        ensures outcome { IfOk result (IsRightOutcome self.now.book.now self.now.front.now (S.init self.now.object.now) (S.next self.now.object.now)
+        ensures outcome { IfOk result (IsRightOutcome self.now.book.now self.now.prefix.now (S.init self.now.object.now) (S.next self.now.object.now)
             (weigh ROOM walk.old.levels.items (length walk.old.choices.items + 1)) walk.new) }
     {
         self.step(walk, spare, place);
@@ -218,7 +218,7 @@ impl<S: SeqObject> Search<'_, S> {
 
     // Makes the step of a place that may stand next. The list before it is kept in the spare state.
     fn step(&self, walk: &mut Walk, spare: &mut State, place: Place)
-        requires walk { IsWalk self.now.book.now self.now.front.now (S.init self.now.object.now) (S.next self.now.object.now) walk.old (place ∷ places_of walk.old.choices.items) }
+        requires walk { IsWalk self.now.book.now self.now.prefix.now (S.init self.now.object.now) (S.next self.now.object.now) walk.old (place ∷ places_of walk.old.choices.items) }
         requires room { spare.old.room ≡ ROOM }
         ensures spare { spare.new ≡ record spare.old { words = walk.old.here.words } }
         ensures here { walk.new.here ≡ record walk.old.here { words = list_after self.now.book.now (S.next self.now.object.now) walk.old.here.words place } }
@@ -238,8 +238,8 @@ impl<S: SeqObject> Search<'_, S> {
 
     // Leaves a dead end: goes back by one level.
     fn retreat(&self, walk: &mut Walk) -> Outcome
-        requires walk { IsWalk self.now.book.now self.now.front.now (S.init self.now.object.now) (S.next self.now.object.now) walk.old [] }
-        ensures { IsRightOutcome self.now.book.now self.now.front.now (S.init self.now.object.now) (S.next self.now.object.now) (weigh ROOM walk.old.levels.items 0) walk.new result }
+        requires walk { IsWalk self.now.book.now self.now.prefix.now (S.init self.now.object.now) (S.next self.now.object.now) walk.old [] }
+        ensures { IsRightOutcome self.now.book.now self.now.prefix.now (S.init self.now.object.now) (S.next self.now.object.now) (weigh ROOM walk.old.levels.items 0) walk.new result }
     {
         let Some(level) = walk.levels.pop() else {
             return Outcome::NoneLeft;
@@ -256,7 +256,7 @@ impl<S: SeqObject> Search<'_, S> {
     }
 
     // What is to be tried after the calls of a cut, at a list of the object: of the callers that are to be
-    // tried each place that may stand next and isn't known to be hopeless, unless another one serves for it,
+    // tried each place that may stand next and isn't known to be infeasible, unless another one serves for it,
     // the best one last; or one alone that may stand at once. The caller's first call outside the cut has the
     // least view of all such calls, so that a call may come next exactly where this view holds it.
     fn choices(
@@ -288,7 +288,7 @@ impl<S: SeqObject> Search<'_, S> {
         let marks = self.to_try(&cut, &view, here, first);
         let earliest = self.earliest(here);
         for caller in 0..self.book.callers() {
-            if marks.has(caller) && !self.is_hopeless(&cut, here, earliest, caller) {
+            if marks.has(caller) && !self.is_infeasible(&cut, here, earliest, caller) {
                 self.consider(counts, caller, here, spare, &mut choices)?;
             }
         }
@@ -335,7 +335,7 @@ impl<S: SeqObject> Search<'_, S> {
     {
         for caller in 0..self.book.callers() {
             if u64::from(counts[caller as usize]) < view.get(caller) {
-                let place = self.leaving(counts, caller, here, spare);
+                let place = self.read_only(counts, caller, here, spare);
                 if place.is_some() {
                     return place;
                 }
@@ -346,7 +346,13 @@ impl<S: SeqObject> Search<'_, S> {
 
     // The place of a caller's next call, which may come next, where it is answered, leaves every list with
     // its recorded reply, and the object gives this reply. Only an object that says so is asked for a step.
-    fn leaving(&self, counts: &[u16], caller: u32, here: &State, spare: &mut State) -> Option<Place>
+    fn read_only(
+        &self,
+        counts: &[u16],
+        caller: u32,
+        here: &State,
+        spare: &mut State,
+    ) -> Option<Place>
         requires wide { length counts.now ≡ length self.now.book.now }
         requires caller { caller < length counts.now }
         requires may { MayComeNext self.now.book.now counts.now (next_call counts.now caller) }
@@ -397,12 +403,12 @@ impl<S: SeqObject> Search<'_, S> {
     }
 
     // Whether a caller's next call after a cut, at a list with a word of this rank, is known to be
-    // hopeless there.
-    fn is_hopeless(&self, cut: &Cut, here: &State, earliest: Option<u64>, caller: u32) -> bool
+    // infeasible there.
+    fn is_infeasible(&self, cut: &Cut, here: &State, earliest: Option<u64>, caller: u32) -> bool
         requires caller { caller < length cut.now }
         requires earliest { IfSome earliest (IsRankIn self.now.known.now.ranks here.now.words) }
         requires foresight { IsForesight (S.init self.now.object.now) (S.next self.now.object.now) self.now.book.now self.now.known.now }
-        ensures { IsTrue result → IsHopeless (S.init self.now.object.now) (S.next self.now.object.now) self.now.book.now cut.now here.now.words (next_call cut.now caller) }
+        ensures { IsTrue result → IsInfeasible (S.init self.now.object.now) (S.next self.now.object.now) self.now.book.now cut.now here.now.words (next_call cut.now caller) }
     {
         let call = Call {
             caller,
@@ -418,7 +424,7 @@ impl<S: SeqObject> Search<'_, S> {
     }
 
     // Adds the place of a caller's next call, which may come next, if the object gives the recorded reply. In
-    // a book with one open an unanswered call that leaves the list isn't added, nor one that a twin serves
+    // a book with one open an unanswered read-only call isn't added, nor one that a twin serves
     // for.
     fn consider(
         &self,

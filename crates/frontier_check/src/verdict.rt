@@ -2,16 +2,16 @@ ghost use Rattle.std.specs.Prelude.{◌≡◌, ◌++◌, IfOk, IfSome, IfNone, I
 ghost use Rattle.book_base.specs.Foresight.{IsForesight};
 ghost use Rattle.book_base.specs.Order.{IsLegalOrder, HasLegalOrder};
 ghost use Rattle.book_base.specs.Pruning.{HasOneOpen};
-ghost use Rattle.frontier_check.specs.Front.{IsPut, IsFront};
+ghost use Rattle.frontier_check.specs.Prefix.{IsPut, IsPrefix};
 ghost use Rattle.frontier_check.specs.Standing.{AreMarks, IsStandingFor};
 ghost use Rattle.frontier_check.specs.Verdict.{IsRight, IsKept};
 ghost use Rattle.frontier_check.specs.declared.walk.TheConstants.{ROOM};
 
 use crate::fresh::{calls_after, holds_answered, put_fresh};
-use crate::front::{Front, leaves_open, limit_of};
 use crate::guide::Guide;
 use crate::mark::{Mark, Standing};
 use crate::plan::Plan;
+use crate::prefix::{Prefix, leaves_open, limit_of};
 use crate::remaining::decided_after;
 use crate::resume::resume;
 use crate::search::Search;
@@ -126,31 +126,31 @@ fn check_on<S: SeqObject>(
         (HasLegalOrder (S.init object.now) (S.next object.now) book.now → ⊥)) }
 {
     let Standing { order, mut marks } = standing;
-    let (mut front, later) = resume(alloc, object, book, order, &mut marks)?;
-    let limit = limit_of(book, &front.cut, &later);
-    let before = front.places.len();
-    if !front.put_marked(alloc, object, book, &limit, &later, &mut marks)? {
-        return check_anew(alloc, object, book, &front.places);
+    let (mut prefix, later) = resume(alloc, object, book, order, &mut marks)?;
+    let limit = limit_of(book, &prefix.cut, &later);
+    let before = prefix.places.len();
+    if !prefix.put_marked(alloc, object, book, &limit, &later, &mut marks)? {
+        return check_anew(alloc, object, book, &prefix.places);
     }
-    let later = later_of(&later, front.places.len().saturating_sub(before));
-    if !put_fresh(alloc, object, book, later, &mut front, &mut marks)? {
-        return check_anew(alloc, object, book, &front.places);
+    let later = later_of(&later, prefix.places.len().saturating_sub(before));
+    if !put_fresh(alloc, object, book, later, &mut prefix, &mut marks)? {
+        return check_anew(alloc, object, book, &prefix.places);
     }
-    match rest_after(alloc, object, book, later, &front, FIRST_STEPS)? {
+    match rest_after(alloc, object, book, later, &prefix, FIRST_STEPS)? {
         None => {
-            let Front {
+            let Prefix {
                 places,
                 cut: _,
                 here: _,
-            } = front;
+            } = prefix;
             check_before(alloc, object, book, places, marks)
         }
         Some(rest) => {
-            let Front {
+            let Prefix {
                 places,
                 cut: _,
                 here: _,
-            } = front;
+            } = prefix;
             let mut order = places;
             order.extend_from_slice(&rest)?;
             Ok(Some(Standing { order, marks }))
@@ -213,71 +213,71 @@ fn order_after_mark<S: SeqObject>(
         (AreMarks (S.init object.now) (S.next object.now) book.now order.now 0 marks.new.items)) }
 {
     let all = Vec::from_slice(alloc, order)?;
-    let (front, later) = resume(alloc, object, book, all, marks)?;
-    if let Some(places) = decided_after(alloc, object, book, &front)? {
-        let Some(order) = order_by(alloc, object, book, &places, front, marks)? else {
+    let (prefix, later) = resume(alloc, object, book, all, marks)?;
+    if let Some(places) = decided_after(alloc, object, book, &prefix)? {
+        let Some(order) = order_by(alloc, object, book, &places, prefix, marks)? else {
             // Some of them may be marks of the places that are given up.
             marks.clear();
             return Ok(None);
         };
         return Ok(Some(order));
     }
-    let Some(order) = order_on(alloc, object, book, &later, front, marks)? else {
+    let Some(order) = order_on(alloc, object, book, &later, prefix, marks)? else {
         return Ok(None);
     };
     Ok(Some(order))
 }
 
-// A legal order that begins with the places of a front and with those of these that follow them, if
+// A legal order that begins with the places of a prefix and with those of these that follow them, if
 // what is left then is found soon.
 fn order_by<S: SeqObject>(
     alloc: Global,
     object: &S,
     book: &Book,
     places: &[Place],
-    mut front: Front,
+    mut prefix: Prefix,
     marks: &mut Vec<Mark>,
 ) -> Result<Option<Vec<Place>>, NoMemory>
-    requires put { IsPut (S.init object.now) (S.next object.now) book.now front }
-    requires room { front.here.room ≡ ROOM }
-    requires marks { AreMarks (S.init object.now) (S.next object.now) book.now front.places.items 0 marks.old.items }
+    requires put { IsPut (S.init object.now) (S.next object.now) book.now prefix }
+    requires room { prefix.here.room ≡ ROOM }
+    requires marks { AreMarks (S.init object.now) (S.next object.now) book.now prefix.places.items 0 marks.old.items }
     ensures legal { IfOk result (λ found. IfSome found
         (λ order. IsLegalOrder (S.init object.now) (S.next object.now) book.now order.items)) }
     ensures marks { IfOk result (λ found. IfSome found
         (λ order. AreMarks (S.init object.now) (S.next object.now) book.now order.items 0 marks.new.items)) }
 {
-    let limit = limit_of(book, &front.cut, places);
-    if !front.put_marked(alloc, object, book, &limit, places, marks)? {
+    let limit = limit_of(book, &prefix.cut, places);
+    if !prefix.put_marked(alloc, object, book, &limit, places, marks)? {
         return Ok(None);
     }
-    order_on(alloc, object, book, &[], front, marks)
+    order_on(alloc, object, book, &[], prefix, marks)
 }
 
-// A legal order that begins with the places of a front, if one is found soon: the later places are
+// A legal order that begins with the places of a prefix, if one is found soon: the later places are
 // tried first. The marks of those places are marks of it.
 fn order_on<S: SeqObject>(
     alloc: Global,
     object: &S,
     book: &Book,
     later: &[Place],
-    front: Front,
+    prefix: Prefix,
     _marks: &[Mark],
 ) -> Result<Option<Vec<Place>>, NoMemory>
-    requires put { IsPut (S.init object.now) (S.next object.now) book.now front }
-    requires marks { AreMarks (S.init object.now) (S.next object.now) book.now front.places.items 0 _marks.now }
+    requires put { IsPut (S.init object.now) (S.next object.now) book.now prefix }
+    requires marks { AreMarks (S.init object.now) (S.next object.now) book.now prefix.places.items 0 _marks.now }
     ensures legal { IfOk result (λ found. IfSome found
         (λ order. IsLegalOrder (S.init object.now) (S.next object.now) book.now order.items)) }
     ensures marks { IfOk result (λ found. IfSome found
         (λ order. AreMarks (S.init object.now) (S.next object.now) book.now order.items 0 _marks.now)) }
 {
-    let Some(rest) = rest_after(alloc, object, book, later, &front, STEPS)? else {
+    let Some(rest) = rest_after(alloc, object, book, later, &prefix, STEPS)? else {
         return Ok(None);
     };
-    let Front {
+    let Prefix {
         mut places,
         cut: _,
         here: _,
-    } = front;
+    } = prefix;
     places.extend_from_slice(&rest)?;
     Ok(Some(places))
 }
@@ -305,31 +305,31 @@ fn check_anew<S: SeqObject>(
     }
 }
 
-// The places that make a legal order after those of a front, if some are found in so many more
+// The places that make a legal order after those of a prefix, if some are found in this many more
 // steps than calls are left. The later places are tried first.
 fn rest_after<S: SeqObject>(
     alloc: Global,
     object: &S,
     book: &Book,
     later: &[Place],
-    front: &Front,
+    prefix: &Prefix,
     more: u64,
 ) -> Result<Option<Vec<Place>>, NoMemory>
-    requires { IsPut (S.init object.now) (S.next object.now) book.now front.now }
+    requires { IsPut (S.init object.now) (S.next object.now) book.now prefix.now }
     ensures { IfOk result (λ found. IfSome found (λ rest. IsLegalOrder (S.init object.now)
-        (S.next object.now) book.now (front.now.places.items ++ rest.items))) }
+        (S.next object.now) book.now (prefix.now.places.items ++ rest.items))) }
 {
-    if !leaves_open(book, &front.cut) {
+    if !leaves_open(book, &prefix.cut) {
         return Ok(None);
     }
-    if holds_answered(book, &front.cut) {
+    if holds_answered(book, &prefix.cut) {
         return Ok(Some(Vec::new(alloc)));
     }
     let known = Foresight::none(alloc);
-    places_behind(alloc, object, book, &known, later, front, more)
+    places_after(alloc, object, book, &known, later, prefix, more)
 }
 
-// How often a search begins behind fewer of a guide's places: each time it leaves out twice as many as
+// How often a search begins after fewer of a guide's places: each time it leaves out twice as many as
 // before, so that it has left out nearly all after as many times as this.
 const ATTEMPTS: u32 = 9;
 
@@ -340,8 +340,8 @@ const STEPS: u64 = 1000;
 // at a mark.
 const FIRST_STEPS: u64 = 100;
 
-// A legal order that begins as a guide does, if one is found soon: first behind all the places of the
-// guide that still follow one another, and then behind ever fewer of them.
+// A legal order that begins as a guide does, if one is found soon: first after all the places of the
+// guide that still follow one another, and then after ever fewer of them.
 fn order_near<S: SeqObject>(
     alloc: Global,
     object: &S,
@@ -357,40 +357,40 @@ fn order_near<S: SeqObject>(
         if taken == 0 {
             return Ok(None);
         }
-        let Some(front) = Front::following(alloc, object, book, &guide[..taken])? else {
+        let Some(prefix) = Prefix::following(alloc, object, book, &guide[..taken])? else {
             return Ok(None);
         };
-        taken = front.places.len().min(taken).saturating_sub(fewer);
+        taken = prefix.places.len().min(taken).saturating_sub(fewer);
         fewer = fewer.saturating_mul(2);
-        if let Some(order) = order_behind(alloc, object, book, guide, front)? {
+        if let Some(order) = order_after(alloc, object, book, guide, prefix)? {
             return Ok(Some(order));
         }
     }
     Ok(None)
 }
 
-// A legal order that begins with the places of a front, if one is found soon.
-fn order_behind<S: SeqObject>(
+// A legal order that begins with the places of a prefix, if one is found soon.
+fn order_after<S: SeqObject>(
     alloc: Global,
     object: &S,
     book: &Book,
     guide: &[Place],
-    front: Front,
+    prefix: Prefix,
 ) -> Result<Option<Vec<Place>>, NoMemory>
-    requires { IsFront (S.init object.now) (S.next object.now) book.now front }
+    requires { IsPrefix (S.init object.now) (S.next object.now) book.now prefix }
     ensures { IfOk result (λ found. IfSome found
         (λ order. IsLegalOrder (S.init object.now) (S.next object.now) book.now order.items)) }
 {
     let known = Foresight::none(alloc);
-    let later = later_of(guide, front.places.len());
-    let Some(rest) = places_behind(alloc, object, book, &known, later, &front, STEPS)? else {
+    let later = later_of(guide, prefix.places.len());
+    let Some(rest) = places_after(alloc, object, book, &known, later, &prefix, STEPS)? else {
         return Ok(None);
     };
-    let Front {
+    let Prefix {
         mut places,
         cut: _,
         here: _,
-    } = front;
+    } = prefix;
     places.extend_from_slice(&rest)?;
     Ok(Some(places))
 }
@@ -404,23 +404,23 @@ fn later_of(guide: &[Place], taken: usize) -> &[Place] {
     }
 }
 
-// The places that make a legal order after those of a front, if they are found in so many more steps
+// The places that make a legal order after those of a prefix, if they are found in this many more steps
 // than calls are left.
-fn places_behind<S: SeqObject>(
+fn places_after<S: SeqObject>(
     alloc: Global,
     object: &S,
     book: &Book,
     known: &Foresight,
     later: &[Place],
-    front: &Front,
+    prefix: &Prefix,
     more: u64,
 ) -> Result<Option<Vec<Place>>, NoMemory>
     requires foresight { IsForesight (S.init object.now) (S.next object.now) book.now known.now }
-    requires front { IsFront (S.init object.now) (S.next object.now) book.now front.now }
+    requires prefix { IsPrefix (S.init object.now) (S.next object.now) book.now prefix.now }
     ensures { IfOk result (λ found. IfSome found (λ rest. IsLegalOrder (S.init object.now)
-        (S.next object.now) book.now (front.now.places.items ++ rest.items))) }
+        (S.next object.now) book.now (prefix.now.places.items ++ rest.items))) }
 {
-    let plan = Plan::new(alloc, book, later, front)?;
+    let plan = Plan::new(alloc, book, later, prefix)?;
     let sight: Option<Sight> = None;
     let search = Search {
         alloc,
@@ -431,9 +431,9 @@ fn places_behind<S: SeqObject>(
         one_open: has_one_open(book),
         sight: &sight,
         plan: &plan,
-        front,
+        prefix,
     };
-    search.run_few(calls_after(book, &front.cut).saturating_add(more))
+    search.run_few(calls_after(book, &prefix.cut).saturating_add(more))
 }
 
 // A legal order, if there is one: where the object doesn't say, the search looks for it everywhere.
@@ -470,8 +470,8 @@ fn order_searched<S: SeqObject>(
     let one_open = has_one_open(book);
     let sight = sight_of(alloc, object, book, one_open)?;
     let known = object.foresee(alloc, book)?;
-    let front = Front::new(alloc, object, book)?;
-    let plan = Plan::new(alloc, book, guide, &front)?;
+    let prefix = Prefix::new(alloc, object, book)?;
+    let plan = Plan::new(alloc, book, guide, &prefix)?;
     let search = Search {
         alloc,
         object,
@@ -481,7 +481,7 @@ fn order_searched<S: SeqObject>(
         one_open,
         sight: &sight,
         plan: &plan,
-        front: &front,
+        prefix: &prefix,
     };
     search.run()
 }

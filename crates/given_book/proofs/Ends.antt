@@ -1,4 +1,4 @@
--- Where bytes have the end of a line and the line `end` behind it.
+-- Where bytes have the end of a line and the line `end` after it.
 use Rattle.std.proofs.Common.{ℕ, List, ◌++◌, ◌+◌, ◌<◌, ◌≤◌, ◌≡◌, ◌⊎◌, inl, inr, [], length, drop, arith, sym, ap, subst, ◌∙◌, true, false}
 use Rattle.std.specs.Prelude.{codes}
 use Rattle.std.proofs.Math.ListN.{drop_of_length-le}
@@ -13,7 +13,7 @@ none_past bytes i rest past has =
     let e : [] ≡ codes "\nend\n" ++ rest = sym (drop_of_length-le bytes past) ∙ has in
     cc
 
--- what stands behind an end is what is left of the bytes there
+-- what stands after an end is what is left of the bytes there
 pub end_rest : (bytes : List ℕ) (at : ℕ) (rest : List ℕ) → HasEndAt bytes at rest → HasEndAt bytes at (drop (at + 5) bytes)
 end_rest bytes at rest has =
     let left : drop (at + 5) bytes ≡ rest = sym (drop-drop 5 at bytes) ∙ ap (λ xs. drop 5 xs) has in

@@ -7,7 +7,7 @@ use Rattle.book_base.specs.Book.{Page}
 use Rattle.book_text.specs.BookRules.{IsBookText, IsFirstBookFault}
 use Rattle.seq_objects.specs.declared.kind.Kind.{Kind}
 use Rattle.text_fields.specs.declared.version.Version.{Version}
-use Rattle.given_book.specs.Given.{BeginsAsReport, BeginsAsOldBook, IsAfterVerdict, IsBehindEnd, IsWitnessPart, IsBookPart, IsGiven, IsFirstGivenFault}
+use Rattle.given_book.specs.Given.{BeginsAsReport, BeginsAsOldBook, IsAfterVerdict, IsAfterEnd, IsWitnessPart, IsBookPart, IsGiven, IsFirstGivenFault}
 
 -- texts with different first bytes are different
 first_bytes : {A : Type 0} (xs ys : List ℕ) → xs ≡ ys → (get_or xs 0 0 ≡ get_or ys 0 0 → ⊥) → A
@@ -40,7 +40,7 @@ one_after_verdict bytes p q (inr is) (inl also) =
     first_bytes (codes "illegal\n" ++ p) (codes "legal\n" ++ q) (sym is ∙ also) (λ (e : 105 ≡ 108). omega (arith, e))
 
 -- one text stands after the first end
-one_by_order : (bytes p q : List ℕ) (a : IsBehindEnd bytes p) (b : IsBehindEnd bytes q) → (a.at ≡ b.at) ⊎ ((a.at < b.at) ⊎ (b.at < a.at)) → p ≡ q
+one_by_order : (bytes p q : List ℕ) (a : IsAfterEnd bytes p) (b : IsAfterEnd bytes q) → (a.at ≡ b.at) ⊎ ((a.at < b.at) ⊎ (b.at < a.at)) → p ≡ q
 one_by_order bytes p q a b (inl is) = ap (λ xs. drop 5 xs) (sym a.has ∙ (ap (λ n. drop n bytes) is ∙ b.has))
 one_by_order bytes p q a b (inr (inl lt)) = absurd (b.first a.at p lt a.has)
 one_by_order bytes p q a b (inr (inr gt)) = absurd (a.first b.at q gt b.has)

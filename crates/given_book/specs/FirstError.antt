@@ -5,7 +5,7 @@ use Rattle.reports.specs.Findings.{Findings, IsFirstError}
 use Rattle.report_text.specs.ReportRules.{IsReportText}
 use Rattle.given_book.specs.Given.{HasEndAt, HasNoEnd}
 
--- The part is what the bytes have up to the first line `end` behind another line, with that line.
+-- The part is what the bytes have up to the first line `end` after another line, with that line.
 pub record IsUpToEnd (bytes part : List ℕ) : Type 0 where
   pub at : ℕ
   pub rest : List ℕ
@@ -13,7 +13,7 @@ pub record IsUpToEnd (bytes part : List ℕ) : Type 0 where
   pub first : (i : ℕ) (other : List ℕ) → i < at → ¬ (HasEndAt bytes i other)
   pub is : part ≡ take (at + 5) bytes
 
--- The part may be the text of a report: all bytes where no line behind another one is `end`.
+-- The part may be the text of a report: all bytes where no line after another one is `end`.
 abbrev pub IsReportPart : List ℕ → List ℕ → Type 0
 IsReportPart bytes part = IsUpToEnd bytes part ⊎ (HasNoEnd bytes × (part ≡ bytes))
 

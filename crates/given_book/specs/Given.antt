@@ -30,7 +30,7 @@ abbrev pub HasEndAt : List ℕ → ℕ → List ℕ → Type 0
 HasEndAt bytes at rest = drop at bytes ≡ codes "\nend\n" ++ rest
 
 -- The rest is what stands after the first line `end`, which is after another line.
-pub record IsBehindEnd (bytes rest : List ℕ) : Type 0 where
+pub record IsAfterEnd (bytes rest : List ℕ) : Type 0 where
   pub at : ℕ
   pub has : HasEndAt bytes at rest
   pub first : (i : ℕ) (other : List ℕ) → i < at → ¬ (HasEndAt bytes i other)
@@ -42,7 +42,7 @@ HasNoEnd bytes = (i : ℕ) (rest : List ℕ) → ¬ (HasEndAt bytes i rest)
 -- The part is what stands after the report that the bytes begin with: nothing where the report has
 -- no end.
 abbrev pub IsWitnessPart : List ℕ → List ℕ → Type 0
-IsWitnessPart bytes part = IsBehindEnd bytes part ⊎ (HasNoEnd bytes × (part ≡ []))
+IsWitnessPart bytes part = IsAfterEnd bytes part ⊎ (HasNoEnd bytes × (part ≡ []))
 
 -- the first line is neither the title of a report, nor a verdict, nor the title of a book of version 1
 pub record BeginsOtherwise (bytes : List ℕ) : Type 0 where

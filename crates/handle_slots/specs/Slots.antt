@@ -29,7 +29,7 @@ pub record IsSized (name : List ℕ) (callers calls : ℕ) : Type 0 where
   pub some_calls : 1 ≤ calls
   pub few_calls : calls ≤ MAX_CALLS
 
--- The handle is that of a table of this kind for so many callers with so many calls each, which has given none of them.
+-- The handle is that of a table of this kind for this many callers with this many calls each, which has given none of them.
 abbrev pub IsOpened : List ℕ → ℕ → ℕ → Option Handle → Type 0
 IsOpened name callers calls found =
     (t : TableHandle) × (found ≡ Some (Table t)) × (kind_name (kind_in t) ≡ name) × ((rows_in t).callers ≡ callers)

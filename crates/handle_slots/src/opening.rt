@@ -11,7 +11,7 @@ use core::mem::replace_with;
 use seq_objects::Kind;
 use std::alloc::Global;
 
-/// Opens a table for so many callers, 1 to 16, with 1 to 256 calls each, which are judged by the kind of this name, and
+/// Opens a table for this many callers, 1 to 16, with 1 to 256 calls each, which are judged by the kind of this name, and
 /// puts its handle into the slot: whether it does. It doesn't where there is no such table, or the slot has a handle.
 pub fn open(
     alloc: Global,

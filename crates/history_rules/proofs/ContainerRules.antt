@@ -16,7 +16,7 @@ use Rattle.history_rules.proofs.Counting.{how_often, how_often-grows, how_often-
 use Rattle.history_rules.proofs.Runs.{step_of_run, holds_what_was_put}
 use Rattle.history_rules.proofs.Orders.{steps_of, answered_step, putting_step, put_alone, put_at_one_place, call_of_put, call_of_take}
 
--- what is held after a front of a run from empty
+-- what is held after a prefix of a run from empty
 pub held_after : (reading : Reading) (next : List ℕ → ℕ → List ℕ × ℕ) → IsContainer reading next → (v : ℕ) (list : List ℕ) (steps : List (ℕ × ℕ)) → IsRunFrom next list steps → reading.values list ≡ []
     → (n : ℕ) → how_often (put_by reading) v (take n steps) ≡ how_often (taken_by reading) v (take n steps) + times v (reading.values (list_after_run next list (take n steps)))
 held_after reading next is v list steps run empty n =

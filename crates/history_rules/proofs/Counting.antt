@@ -25,7 +25,7 @@ is_once-cases v (Some w) = elim (cases_eq w v) [
 pub is_once-same : (v : ℕ) (o : Option ℕ) → o ≡ Some v → is_once v o ≡ 1
 is_once-same v o e = elim (is_once-cases v o) [ inl here ↦ here.1 | inr other ↦ absurd (other.0 e) ]
 
--- a longer front shows it as often
+-- a longer prefix shows it as often
 pub how_often-grows : {X : Type 0} (f : X → Option ℕ) (v : ℕ) (xs : List X) (m n : ℕ) → m ≤ n → how_often f v (take m xs) ≤ how_often f v (take n xs)
 how_often-grows f v xs zero n le = omega arith
 how_often-grows f v xs (suc m) zero le = absurd (omega arith)

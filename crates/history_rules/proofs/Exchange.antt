@@ -1,4 +1,4 @@
--- An answered call that leaves the list may be moved to the front of what goes on.
+-- An answered read-only call may be moved to the front of what goes on.
 use Rattle.std.proofs.Common.{◌≡◌, ◌≢◌, ℕ, ◌+◌, ◌<◌, ◌≤◌, ◌∙◌, List, [], ◌∷◌, length, get_or, set, Some, sym, ap, subst, inl, inr, length-set, arith}
 use Rattle.std.proofs.lemmas.Bool.{cases_eq}
 use Rattle.std.proofs.lemmas.Option.{same_Some, slice_get_within}
@@ -14,14 +14,14 @@ use Rattle.book_base.specs.Foresight.{Leaves}
 use Rattle.history_rules.specs.Standing.{answered_place, word_of, GoesOnWithIt}
 
 -- What may come next, is answered, and leaves every list with its recorded reply, wherever it stands.
-record Leaving (book : List Page) (next : List ℕ → ℕ → List ℕ × ℕ) (cut : List ℕ) (call : Call) (r : Record) : Type 0 where
+record ReadOnly (book : List Page) (next : List ℕ → ℕ → List ℕ × ℕ) (cut : List ℕ) (call : Call) (r : Record) : Type 0 where
   may_come : MayComeNext book cut call
   known : record_of book call ≡ Some r
   leaves : Leaves next (word_of book call) r.reply
 
 -- where it stands first in what goes on, the rest goes on from the same list
 its_own_turn : (book : List Page) (next : List ℕ → ℕ → List ℕ × ℕ) (cut list : List ℕ) (call : Call) (r : Record) (place : Place) (rest : List Place)
-    → Leaving book next cut call r → call.caller ≡ place.caller → MayStandNext book next cut list place
+    → ReadOnly book next cut call r → call.caller ≡ place.caller → MayStandNext book next cut list place
     → Continues book next (raised cut place.caller) (list_after book next list place) rest → Continues book next (raised cut call.caller) list rest
 its_own_turn book next cut list call r place rest h caller first later =
     let number : call.number ≡ place.number = h.may_come.next ∙ (ap (λ (i : ℕ). get_or cut i 0) caller ∙ sym first.may_come.next) in
@@ -35,7 +35,7 @@ its_own_turn book next cut list call r place rest h caller first later =
 
 -- Where it is taken out of what goes on, the rest goes on after it.
 goes_on_without : (book : List Page) (next : List ℕ → ℕ → List ℕ × ℕ) (cut list : List ℕ) (call : Call) (r : Record) (rest : List Place) → length book ≤ length cut
-    → Leaving book next cut call r → Continues book next cut list rest → (other : List Place) × Continues book next (raised cut call.caller) list other
+    → ReadOnly book next cut call r → Continues book next cut list rest → (other : List Place) × Continues book next (raised cut call.caller) list other
 goes_on_without book next cut list call r [] wide h goes =
     let held : Holds cut call = goes call (slice_get_within _ call.number r h.known) in
     absurd (omega (arith, held, h.may_come.next))
@@ -46,7 +46,7 @@ goes_on_without book next cut list call r (place ∷ rest) wide h goes =
           let inside : place.caller < length cut = within_cut book cut (call_at place) wide goes.0.may_come.is_call in
           let own : call.caller < length cut = within_cut book cut call wide h.may_come.is_call in
           let wider : length book ≤ length (raised cut place.caller) = omega (arith, length-set cut place.caller (get_or cut place.caller 0 + 1)) in
-          let later : Leaving book next (raised cut place.caller) call r
+          let later : ReadOnly book next (raised cut place.caller) call r
           = record { may_come = comes_later book cut place.caller call inside apart h.may_come; known = h.known; leaves = h.leaves } in
           let found = goes_on_without book next (raised cut place.caller) (list_after book next list place) call r rest wider later goes.1 in
           let first : MayStandNext book next (raised cut call.caller) list place = record {

@@ -2,7 +2,7 @@
 use Rattle.std.proofs.Common.{◌≡◌, ℕ, suc, ◌<◌, ◌∙◌, List, [], ◌∷◌, ◌++◌, length, take, get_or, Some, refl, sym, ap, subst, inl, inr, slice_get, arith}
 use Rattle.std.proofs.lemmas.Bool.{cases_lt}
 use Rattle.std.proofs.lemmas.Option.{same_Some, slice_get-get_or, slice_get_within}
-use Rattle.list_laws.proofs.Fronts.{slice_get-append_within}
+use Rattle.list_laws.proofs.Prefixes.{slice_get-append_within}
 use Rattle.list_laws.proofs.Pigeonhole.{pigeonhole}
 use Rattle.book_base.specs.declared.call.Call.{Call}
 use Rattle.book_base.specs.declared.call.Place.{Place}
@@ -10,7 +10,7 @@ use Rattle.book_base.specs.Book.{Page}
 use Rattle.book_base.specs.Order.{call_at, StandsAt, IsLegalOrder}
 use Rattle.history_rules.specs.Container.{Reading, put_by, taken_by, times, IsContainer}
 use Rattle.history_rules.specs.Calls.{PutsIn, TakesOut}
-use Rattle.history_rules.specs.Rules.{ContainerGivesWhatWasPut, AreDifferent, TakenNoMoreThanPut, HopelessUntilThen}
+use Rattle.history_rules.specs.Rules.{ContainerGivesWhatWasPut, AreDifferent, TakenNoMoreThanPut, InfeasibleUntilThen}
 use Rattle.history_rules.proofs.Counting.{how_often, how_often-more, how_often-next, times-shown}
 use Rattle.history_rules.proofs.Runs.{holds_what_was_put}
 use Rattle.history_rules.proofs.Orders.{steps_of, answered_step, call_of_put}
@@ -99,16 +99,16 @@ taken_no_more_than_put reading init next book is none v takers putters different
     (matched_apart reading init next book h.0 h.1 v takers putters different) in
     absurd (omega (arith, few, fewer))
 
--- what stands before a place of an order stands in the front before it
-front_stands : (before after : List Place) (k : ℕ) (call : Call) → k < length before → StandsAt (before ++ after) k call → StandsAt before k call
-front_stands before after k call lt s = (s.0, sym (slice_get-append_within before after k lt) ∙ s.1, s.2)
+-- what stands before a place of an order stands in the prefix before it
+prefix_stands : (before after : List Place) (k : ℕ) (call : Call) → k < length before → StandsAt (before ++ after) k call → StandsAt before k call
+prefix_stands before after k call lt s = (s.0, sym (slice_get-append_within before after k lt) ∙ s.1, s.2)
 
 place_after : (before : List Place) (place : Place) (rest : List Place) → slice_get (before ++ place ∷ rest) (length before) ≡ Some place
 place_after [] place rest = refl
 place_after (first ∷ before) place rest = place_after before place rest
 
-pub hopeless_until_then : HopelessUntilThen
-hopeless_until_then init next book a b first cut list lacks before rest reply reaches legal =
+pub infeasible_until_then : InfeasibleUntilThen
+infeasible_until_then init next book a b first cut list lacks before rest reply reaches legal =
     let place : Place = record { caller = b.caller; number = b.number; reply = reply } in
     let found = first (before ++ place ∷ rest) legal (length before) (place, place_after before place rest, refl) in
-    lacks (reaches.holds found.0 a (front_stands before (place ∷ rest) found.0 a found.1 found.2))
+    lacks (reaches.holds found.0 a (prefix_stands before (place ∷ rest) found.0 a found.1 found.2))

@@ -3,7 +3,7 @@ use Rattle.std.proofs.Common.{◌≡◌, ℕ, ◌<◌, ◌≤◌, ◌∙◌, Lis
 use Rattle.std.specs.List.{cons_option}
 use Rattle.std.proofs.lemmas.Bool.{cases_lt}
 use Rattle.std.proofs.lemmas.Option.{slice_get_within}
-use Rattle.list_laws.proofs.Fronts.{slice_get-append_within}
+use Rattle.list_laws.proofs.Prefixes.{slice_get-append_within}
 use Rattle.book_base.specs.Sequential.{IsRunFrom}
 use Rattle.book_base.specs.Foresight.{list_after_run}
 use Rattle.history_rules.specs.Container.{Deed, Puts, Takes, Neither, Reading, value_put, value_taken, put_by, taken_by, times, GivesOne, GivesFirst, IsContainer, IsQueue, IsStack}

@@ -12,7 +12,7 @@ rank f xs zero = 0
 rank f [] (suc k) = 0
 rank f (x ∷ xs) (suc k) = present (f x) + rank f xs k
 
--- behind an option that is put in front of a list, the list follows
+-- after an option that is put before a list, the list follows
 cons_option-past : (o : Option ℕ) (vs : List ℕ) (i : ℕ) → slice_get (cons_option o vs) (present o + i) ≡ slice_get vs i
 cons_option-past None vs i = let same : 0 + i ≡ i = omega arith in ap (slice_get vs) same
 cons_option-past (Some v) vs i = let same : 1 + i ≡ suc i = omega arith in ap (slice_get (v ∷ vs)) same
@@ -26,15 +26,15 @@ shown_at_rank f (y ∷ ys) zero x v e is =
 shown_at_rank f (y ∷ ys) (suc k) x v e is = cons_option-past (f y) (filter_map f ys) (rank f ys k) ∙ shown_at_rank f ys k x v e is
 
 -- and what stands among all that is shown is shown by an item of that rank
-found_in_front : {X : Type 0} (f : X → Option ℕ) (y : X) (ys : List X) (i v : ℕ) (o : Option ℕ) → f y ≡ o → slice_get (cons_option o (filter_map f ys)) i ≡ Some v
+found_in_prefix : {X : Type 0} (f : X → Option ℕ) (y : X) (ys : List X) (i v : ℕ) (o : Option ℕ) → f y ≡ o → slice_get (cons_option o (filter_map f ys)) i ≡ Some v
     → ((i : ℕ) → slice_get (filter_map f ys) i ≡ Some v → (k : ℕ) × (x : X) × (slice_get ys k ≡ Some x) × (f x ≡ Some v) × (rank f ys k ≡ i))
     → (k : ℕ) × (x : X) × (slice_get (y ∷ ys) k ≡ Some x) × (f x ≡ Some v) × (rank f (y ∷ ys) k ≡ i)
-found_in_front f y ys i v None e at rest =
+found_in_prefix f y ys i v None e at rest =
     let found = rest i at in
     let none : present (f y) ≡ 0 = ap present e in
     (suc found.0, found.1, found.2, found.3, omega (arith, none, found.4))
-found_in_front f y ys zero v (Some w) e at rest = (0, y, refl, e ∙ ap (λ (n : ℕ). Some n) (same_Some w v at), refl)
-found_in_front f y ys (suc i) v (Some w) e at rest =
+found_in_prefix f y ys zero v (Some w) e at rest = (0, y, refl, e ∙ ap (λ (n : ℕ). Some n) (same_Some w v at), refl)
+found_in_prefix f y ys (suc i) v (Some w) e at rest =
     let found = rest i at in
     let one : present (f y) ≡ 1 = ap present e in
     (suc found.0, found.1, found.2, found.3, omega (arith, one, found.4))
@@ -42,7 +42,7 @@ found_in_front f y ys (suc i) v (Some w) e at rest =
 pub found_at_rank : {X : Type 0} (f : X → Option ℕ) (xs : List X) (i v : ℕ) → slice_get (filter_map f xs) i ≡ Some v
     → (k : ℕ) × (x : X) × (slice_get xs k ≡ Some x) × (f x ≡ Some v) × (rank f xs k ≡ i)
 found_at_rank f [] i v e = absurd (none-some v e)
-found_at_rank f (y ∷ ys) i v e = found_in_front f y ys i v (f y) refl e (λ j there. found_at_rank f ys j v there)
+found_at_rank f (y ∷ ys) i v e = found_in_prefix f y ys i v (f y) refl e (λ j there. found_at_rank f ys j v there)
 
 -- ranks grow
 pub rank-grows : {X : Type 0} (f : X → Option ℕ) (xs : List X) (j k : ℕ) → j ≤ k → rank f xs j ≤ rank f xs k

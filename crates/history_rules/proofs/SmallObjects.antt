@@ -6,12 +6,12 @@ use Rattle.std.proofs.lemmas.Option.{same_Some, none-some}
 use Rattle.book_base.specs.Book.{operation_of, Precedes}
 use Rattle.history_rules.specs.Container.{Deed, Puts, Takes, Neither, value_put, times, GivesOne, GivesFirst, IsQueue, IsStack, IsPriorityQueue}
 use Rattle.history_rules.specs.Calls.{PutsInAlone, TakesOut}
-use Rattle.book_base.specs.Foresight.{IsHopeless, MustComeFirst}
+use Rattle.book_base.specs.Foresight.{IsInfeasible, MustComeFirst}
 use Rattle.history_rules.specs.Register.{Access, Writes, Reads, Other, IsRegister}
 use Rattle.history_rules.specs.SmallObjects.{sample, sample_deed, sample_shown, queue_next, stack_next, least_next, placed, is_rising, register_access, first_or_zero, register, register_next, call_of, six_first}
 use Rattle.history_rules.proofs.Counting.{times-apart}
 use Rattle.history_rules.proofs.QueueRules.{puts_in_order}
-use Rattle.history_rules.proofs.MoreTaken.{hopeless_until_then}
+use Rattle.history_rules.proofs.MoreTaken.{infeasible_until_then}
 
 -- what a deed is, by the value that it puts in
 same_put : (v w : ℕ) → Puts v ≡ Puts w → v ≡ w
@@ -214,5 +214,5 @@ six_precedes = inl (omega arith)
 pub six_before_five : MustComeFirst [] queue_next six_first (call_of 1 0) (call_of 0 0)
 six_before_five = puts_in_order sample [] queue_next six_first sample_queue refl 6 5 (call_of 1 1) (call_of 0 1) (call_of 1 0) (call_of 0 0) takes_six takes_five six_precedes six_alone five_alone
 
-pub five_is_hopeless : IsHopeless [] queue_next six_first (0 ∷ 0 ∷ []) [] (call_of 0 0)
-five_is_hopeless = hopeless_until_then [] queue_next six_first (call_of 1 0) (call_of 0 0) six_before_five (0 ∷ 0 ∷ []) [] (λ held. absurd (omega (arith, held)))
+pub five_is_infeasible : IsInfeasible [] queue_next six_first (0 ∷ 0 ∷ []) [] (call_of 0 0)
+five_is_infeasible = infeasible_until_then [] queue_next six_first (call_of 1 0) (call_of 0 0) six_before_five (0 ∷ 0 ∷ []) [] (λ held. absurd (omega (arith, held)))

@@ -11,7 +11,7 @@ use Rattle.book_base.specs.Sequential.{IsRunFrom}
 use Rattle.book_base.specs.Order.{step_at, StandsAt, IsLegalOrder}
 use Rattle.history_rules.specs.Container.{Deed, Puts, Takes, Neither, Reading, value_taken, taken_by, times, GivesFirst, IsStack}
 use Rattle.history_rules.specs.Calls.{PutsIn, PutsInAlone, TakesOut}
-use Rattle.book_base.specs.Foresight.{list_after_run, IsHopeless}
+use Rattle.book_base.specs.Foresight.{list_after_run, IsInfeasible}
 use Rattle.history_rules.specs.Rules.{PutIsCovered, KeptCoversNone}
 use Rattle.history_rules.proofs.Counting.{how_often-more, times-append, times-stands, times-first}
 use Rattle.history_rules.proofs.Runs.{step_of_run}
@@ -108,7 +108,7 @@ covers_none reading init next book order is none legal x v take_x put_x put_v ta
       ]
     ]
 
--- the place after a front of an order, and that front
+-- the place after a prefix of an order, and that prefix
 stands_after : (before : List Place) (place : Place) (rest : List Place) → slice_get (before ++ place ∷ rest) (length before) ≡ Some place
 stands_after [] place rest = refl
 stands_after (first ∷ before) place rest = stands_after before place rest
@@ -120,13 +120,13 @@ steps_before book before place rest = take-map (step_at book) (length before) (b
 contained : (x : ℕ) (xs : List ℕ) → Contains xs x → 1 ≤ times x xs
 contained x xs h = times-stands x xs h.0 (slice_get-get_or xs h.0 x h.1 ∙ ap (λ (n : ℕ). Some n) h.2)
 
--- The put of v is hopeless at a list that has x, where in each legal order no step up to the take of x takes v out.
-pub hopeless_where_covered : (reading : Reading) (init : List ℕ) (next : List ℕ → ℕ → List ℕ × ℕ) (book : List Page) → IsStack reading next → reading.values init ≡ []
+-- The put of v is infeasible at a list that has x, where in each legal order no step up to the take of x takes v out.
+pub infeasible_where_covered : (reading : Reading) (init : List ℕ) (next : List ℕ → ℕ → List ℕ × ℕ) (book : List Page) → IsStack reading next → reading.values init ≡ []
     → (x v : ℕ) (take_x put_x put_v : Call) → TakesOut reading book take_x x → PutsInAlone reading book put_x x → PutsIn reading book put_v v
     → ((order : List Place) → IsLegalOrder init next book order
     → (a k : ℕ) (step : ℕ × ℕ) → StandsAt order a take_x → k ≤ a → slice_get (steps_of book order) k ≡ Some step → taken_by reading step ≡ Some v → ⊥)
-    → (cut list : List ℕ) → Contains (reading.values list) x → IsHopeless init next book cut list put_v
-hopeless_where_covered reading init next book is none x v take_x put_x put_v takes_x alone_x puts_v never cut list has before rest reply reaches legal =
+    → (cut list : List ℕ) → Contains (reading.values list) x → IsInfeasible init next book cut list put_v
+infeasible_where_covered reading init next book is none x v take_x put_x put_v takes_x alone_x puts_v never cut list has before rest reply reaches legal =
     let place : Place = record { caller = put_v.caller; number = put_v.number; reply = reply } in
     let order : List Place = before ++ place ∷ rest in
     let now : list_after_run next init (take (length before) (steps_of book order)) ≡ list = ap (list_after_run next init) (steps_before book before place rest) ∙ reaches.reached in
@@ -136,12 +136,12 @@ hopeless_where_covered reading init next book is none x v take_x put_x put_v tak
 
 pub put_is_covered : PutIsCovered
 put_is_covered reading init next book is none x v take_x take_v put_x put_v takes_x takes_v precedes alone_x alone_v =
-    hopeless_where_covered reading init next book is none x v take_x put_x put_v takes_x alone_x alone_v.0 (λ order legal a k step stands le at takes.
+    infeasible_where_covered reading init next book is none x v take_x put_x put_v takes_x alone_x alone_v.0 (λ order legal a k step stands le at takes.
     let b = answered_step reading init next book order legal take_v (Some v) takes_v in
     let lt : a < b.0 = legal.precedence a b.0 take_x take_v stands b.2 precedes in
     taken_at_one_place reading init next book order (stack_is_container reading next is) none legal v put_v alone_v k b.0 step b.1 at takes b.3 (takes_by reading b.1 v b.4 b.5) (omega arith))
 
 pub kept_covers_none : KeptCoversNone
 kept_covers_none reading init next book is none all x v take_x put_x put_v takes_x alone_x puts_v never =
-    hopeless_where_covered reading init next book is none x v take_x put_x put_v takes_x alone_x puts_v (λ order legal a k step stands le at takes.
+    infeasible_where_covered reading init next book is none x v take_x put_x put_v takes_x alone_x puts_v (λ order legal a k step stands le at takes.
     let taker = call_of_take reading init next book order legal all k v step at takes in never taker.0 taker.1)

@@ -8,7 +8,7 @@ use Rattle.book_base.specs.Sequential.{IsLegalRun}
 use Rattle.book_base.specs.Order.{HasLegalOrder}
 use Rattle.history_rules.specs.Container.{Reading, put_by, taken_by, times, IsContainer, IsQueue, IsStack, IsPriorityQueue}
 use Rattle.history_rules.specs.Calls.{PutsIn, PutsInAlone, TakesOut, FindsNothing, AllTakesAnswered, IsNeverTaken}
-use Rattle.book_base.specs.Foresight.{list_after_run, IsHopeless, MustComeFirst}
+use Rattle.book_base.specs.Foresight.{list_after_run, IsInfeasible, MustComeFirst}
 
 -- What a queue gives out in a legal run from empty is the first of what was put in, in that order: all that was put in is what was
 -- given out, followed by what the queue still holds.
@@ -35,12 +35,12 @@ PutsInOrder = (reading : Reading) (init : List ℕ) (next : List ℕ → ℕ →
     → (x v : ℕ) (take_x take_v put_x put_v : Call) → TakesOut reading book take_x x → TakesOut reading book take_v v → Precedes book take_x take_v
     → PutsInAlone reading book put_x x → PutsInAlone reading book put_v v → MustComeFirst init next book put_x put_v
 
--- A stack: where the take of x precedes the take of v, the put of v is hopeless at a list that holds x.
+-- A stack: where the take of x precedes the take of v, the put of v is infeasible at a list that holds x.
 abbrev pub PutIsCovered : Type 0
 PutIsCovered = (reading : Reading) (init : List ℕ) (next : List ℕ → ℕ → List ℕ × ℕ) (book : List Page) → IsStack reading next → reading.values init ≡ []
     → (x v : ℕ) (take_x take_v put_x put_v : Call) → TakesOut reading book take_x x → TakesOut reading book take_v v → Precedes book take_x take_v
     → PutsInAlone reading book put_x x → PutsInAlone reading book put_v v
-    → (cut list : List ℕ) → Contains (reading.values list) x → IsHopeless init next book cut list put_v
+    → (cut list : List ℕ) → Contains (reading.values list) x → IsInfeasible init next book cut list put_v
 
 -- Where each take is answered, a value that none takes out stays for good. Any container: a take that found nothing stands before
 -- its put.
@@ -55,12 +55,12 @@ TakenBeforeKept = (reading : Reading) (init : List ℕ) (next : List ℕ → ℕ
     → AllTakesAnswered reading book → (x v : ℕ) (take_x put_x put_v : Call) → TakesOut reading book take_x x → PutsInAlone reading book put_x x
     → PutsIn reading book put_v v → IsNeverTaken reading book v → MustComeFirst init next book put_x put_v
 
--- A stack: its put is hopeless at a list that holds a value that is taken out.
+-- A stack: its put is infeasible at a list that holds a value that is taken out.
 abbrev pub KeptCoversNone : Type 0
 KeptCoversNone = (reading : Reading) (init : List ℕ) (next : List ℕ → ℕ → List ℕ × ℕ) (book : List Page) → IsStack reading next → reading.values init ≡ []
     → AllTakesAnswered reading book → (x v : ℕ) (take_x put_x put_v : Call) → TakesOut reading book take_x x → PutsInAlone reading book put_x x
     → PutsIn reading book put_v v → IsNeverTaken reading book v
-    → (cut list : List ℕ) → Contains (reading.values list) x → IsHopeless init next book cut list put_v
+    → (cut list : List ℕ) → Contains (reading.values list) x → IsInfeasible init next book cut list put_v
 
 -- Any container: a book where a value is taken out that no call puts in has no legal order.
 abbrev pub TakenIsPut : Type 0
@@ -92,7 +92,7 @@ GreaterBeforePut = (reading : Reading) (init : List ℕ) (next : List ℕ → �
     → (v w : ℕ) (take_v take_w put_w : Call) → w < v → TakesOut reading book take_v v → TakesOut reading book take_w w → Precedes book take_v take_w
     → PutsInAlone reading book put_w w → MustComeFirst init next book take_v put_w
 
--- What must come first makes a call hopeless next, where the cut lacks it.
-abbrev pub HopelessUntilThen : Type 0
-HopelessUntilThen = (init : List ℕ) (next : List ℕ → ℕ → List ℕ × ℕ) (book : List Page) (a b : Call) → MustComeFirst init next book a b
-    → (cut list : List ℕ) → ¬ Holds cut a → IsHopeless init next book cut list b
+-- What must come first makes a call infeasible next, where the cut lacks it.
+abbrev pub InfeasibleUntilThen : Type 0
+InfeasibleUntilThen = (init : List ℕ) (next : List ℕ → ℕ → List ℕ × ℕ) (book : List Page) (a b : Call) → MustComeFirst init next book a b
+    → (cut list : List ℕ) → ¬ Holds cut a → IsInfeasible init next book cut list b

@@ -1,7 +1,7 @@
 //! The rules, each the contract of a function with nothing in it. They hold for every object that can be
 //! read as the rule says, and where the values concerned are put in once.
 
-ghost use Rattle.history_rules.specs.Rules.{QueueGivesInOrder, ContainerGivesWhatWasPut, EmptyBeforePut, PutsInOrder, PutIsCovered, EmptyBeforeKept, TakenBeforeKept, KeptCoversNone, TakenIsPut, TakenOnce, TakenNoMoreThanPut, GreaterBeforePut, HopelessUntilThen};
+ghost use Rattle.history_rules.specs.Rules.{QueueGivesInOrder, ContainerGivesWhatWasPut, EmptyBeforePut, PutsInOrder, PutIsCovered, EmptyBeforeKept, TakenBeforeKept, KeptCoversNone, TakenIsPut, TakenOnce, TakenNoMoreThanPut, GreaterBeforePut, InfeasibleUntilThen};
 ghost use Rattle.history_rules.specs.Register.{ReadBeforeWrites, WritesInOrder};
 ghost use Rattle.history_rules.specs.Standing.{GoesOnWithIt};
 
@@ -71,11 +71,11 @@ pub fn reads_put_writes_in_order()
 
 /// An answered call that may come next, gives its recorded reply and leaves every list with it may stand
 /// at once, whatever the object.
-pub fn leaving_calls_stand_at_once()
+pub fn read_only_calls_stand_at_once()
     ensures { GoesOnWithIt }
 {}
 
-/// A call is hopeless next while a call that must come first doesn't stand.
-pub fn hopeless_until_the_first_stands()
-    ensures { HopelessUntilThen }
+/// A call is infeasible next while a call that must come first doesn't stand.
+pub fn infeasible_until_the_first_stands()
+    ensures { InfeasibleUntilThen }
 {}

@@ -2,7 +2,7 @@
 
 ghost use Rattle.std.specs.Prelude.{[], ◌∷◌};
 ghost use Rattle.history_rules.specs.Container.{IsQueue, IsStack, IsPriorityQueue};
-ghost use Rattle.book_base.specs.Foresight.{IsHopeless, MustComeFirst};
+ghost use Rattle.book_base.specs.Foresight.{IsInfeasible, MustComeFirst};
 ghost use Rattle.history_rules.specs.Register.{IsRegister};
 ghost use Rattle.history_rules.specs.SmallObjects.{sample, queue_next, stack_next, least_next, is_rising, register, register_next, call_of, six_first};
 
@@ -19,10 +19,10 @@ pub fn small_objects_are_read_so()
 {}
 
 /// Both values were put in at once, and 6 was taken first: in every legal order 6 is put in first, so that
-/// the put of 5 is hopeless at the start.
+/// the put of 5 is infeasible at the start.
 pub fn six_is_put_first()
     // The put of 6 stands before the put of 5 in each legal order.
     ensures order { MustComeFirst [] queue_next six_first (call_of 1 0) (call_of 0 0) }
     // The put of 5 is infeasible at the start.
-    ensures hopeless { IsHopeless [] queue_next six_first (0 ∷ 0 ∷ []) [] (call_of 0 0) }
+    ensures infeasible { IsInfeasible [] queue_next six_first (0 ∷ 0 ∷ []) [] (call_of 0 0) }
 {}

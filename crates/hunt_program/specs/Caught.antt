@@ -38,7 +38,7 @@ abbrev pub IsSmallerPicture : Kind → List Page → List ℕ → Type 0
 IsSmallerPicture kind book text =
     (part : List Page) × IsSmallerWitness kind book part × ShowsEachCall kind part Unasked text × SaysFirst (first_lines false Unasked None) text
 
--- The text is that of a catch's report, and behind it that of its witness.
+-- The text is that of a catch's report, and after it that of its witness.
 abbrev pub IsReportShown : Kind → Catch → List ℕ → Type 0
 IsReportShown kind catch text =
     (report : List ℕ) × (witness : List ℕ) × reports.IsWrittenText report catch.report

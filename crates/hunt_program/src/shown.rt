@@ -3,7 +3,7 @@
 pub enum Shown {
     /// The text of its witness made small.
     Smaller,
-    /// The text of its report, and behind it that of its witness.
+    /// The text of its report, and after it that of its witness.
     Report,
     /// The picture of its witness made small.
     Picture,

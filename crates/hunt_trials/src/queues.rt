@@ -1,4 +1,4 @@
-//! A queue behind a lock, or two of them in place of one.
+//! A queue behind a lock, or two of them instead of one.
 
 use book_base::{BAD, NoMemory, OpWord};
 use client_scripts::Script;

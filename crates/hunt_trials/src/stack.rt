@@ -38,7 +38,7 @@ impl Stack {
         self.places.get(number.wrapping_sub(1) as usize)
     }
 
-    // Puts another number at the top, in place of the one that was seen there. Whether that is
+    // Puts another number at the top, instead of the one that was seen there. Whether that is
     // done.
     fn changes(&self, seen: u32, other: u32) -> bool {
         self.noise.pause();

@@ -50,7 +50,7 @@ module _ {T : Type 0} (made : T → ℕ) (told : T → Option (List (ℕ × ℕ)
   abbrev pub AreQuietBefore : Settings → ℕ → Type 0
   AreQuietBefore settings number = (k : ℕ) → k < number → IsQuiet settings.workload (seed_at settings k)
 
-  -- What is caught is of the last of so many runs, and those before it were quiet.
+  -- What is caught is of the last of this many runs, and those before it were quiet.
   pub record IsCaughtLast (settings : Settings) (runs : ℕ) (catch : Catch) : Type 0 where
     pub number : ℕ
     pub last : runs ≡ number + 1

@@ -43,7 +43,7 @@ module _ (next : List ℕ → ℕ → List ℕ × ℕ) (list : List ℕ) (log : 
       let same = ap length at in
       omega (arith, length-take i log)
 
--- a replay goes on behind the entries that it has seen
+-- a replay goes on after the entries that it has seen
 module _ (next : List ℕ → ℕ → List ℕ × ℕ) (init : List ℕ) (log : List Entry) (known : ℕ) (words : List ℕ) (seen : words ≡ list_after next init (take known log)) where
   pub list_beyond : list_after next words (drop known log) ≡ list_after next init log
   list_beyond =

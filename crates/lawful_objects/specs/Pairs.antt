@@ -5,14 +5,14 @@ use Rattle.shared_log.specs.Entries.{calls_by}
 
 -- Of each entry of caller i after some prefix, in order, its operation and the answer to the log up
 -- to it.
-abbrev pub pairs_behind : (List Entry → ℕ) → ℕ → List Entry → List Entry → List (ℕ × ℕ)
-pairs_behind answer i front [] = []
-pairs_behind answer i front (e ∷ rest) =
-    if e.caller == i then (e.op, answer (front ++ e ∷ [])) ∷ pairs_behind answer i (front ++ e ∷ []) rest else pairs_behind answer i (front ++ e ∷ []) rest
+abbrev pub pairs_after : (List Entry → ℕ) → ℕ → List Entry → List Entry → List (ℕ × ℕ)
+pairs_after answer i prefix [] = []
+pairs_after answer i prefix (e ∷ rest) =
+    if e.caller == i then (e.op, answer (prefix ++ e ∷ [])) ∷ pairs_after answer i (prefix ++ e ∷ []) rest else pairs_after answer i (prefix ++ e ∷ []) rest
 
 -- Of each entry of caller i in a log, in order, its operation and the answer to the log up to it.
 abbrev pub pairs_of : (List Entry → ℕ) → List Entry → ℕ → List (ℕ × ℕ)
-pairs_of answer log i = pairs_behind answer i [] log
+pairs_of answer log i = pairs_after answer i [] log
 
 -- The operations of a caller's pairs are those of its entries in the log.
 abbrev pub PairsHaveTheCalls : Type 0

@@ -34,7 +34,7 @@ pairs_in p = p.tools.pairs.items
 abbrev pub log_in : LogPass → List Entry
 log_in p = log_of p.seat
 
--- The pass has made no call, and may make so many.
+-- The pass has made no call, and may make this many.
 pub record IsFresh (calls : ℕ) (p : LogPass) : Type 0 where
   pub made : made_with p ≡ 0
   pub cap : cap_of_pass p ≡ calls

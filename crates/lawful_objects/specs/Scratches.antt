@@ -13,7 +13,7 @@ pub record IsClear (n cap : ℕ) (s : Scratch) : Type 0 where
   pub other : s.other ≡ empty_state (n * cap + 1)
   pub waiting : s.waiting.items ≡ replicate n None
 
--- The states have room for more than so many words.
+-- The states have room for more than this many words.
 pub record HasRoom (count : ℕ) (s : Scratch) : Type 0 where
   pub state : count < s.state.room
   pub other : count < s.other.room

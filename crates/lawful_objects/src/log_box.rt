@@ -127,7 +127,7 @@ impl<M: Machine + Drop> LogBox<M> {
         // Each entry of the log is a call of one of the box's callers.
         ensures callers { All (λ e. e.caller < callers_in self) result.items }
         // The log that each pass saw is a prefix of the answered one.
-        ensures fronts { All (λ p. BeginsWith result.items (log_in p)) passes.items }
+        ensures prefixes { All (λ p. BeginsWith result.items (log_in p)) passes.items }
         // Each pass has the calls of its caller in the log, each with the machine's reply to the
         // log up to it.
         ensures told { All (λ p. pairs_in p ≡ pairs_of (M.reply_to (machine_in self)) result.items (caller_of_pass p)) passes.items }

@@ -16,9 +16,9 @@ with_second own = (delivered 5 fifty (1 ∷ 0 ∷ []) ∷ []) ∷ own ∷ []
 abbrev pub with_first : List Line → List (List Line)
 with_first own = own ∷ (delivered 6 sixty (1 ∷ 1 ∷ []) ∷ []) ∷ []
 
--- The first caller went on behind an error.
-abbrev pub behind_an_error : List (List Line)
-behind_an_error = (failed 5 fifty (1 ∷ 0 ∷ []) ∷ pending 7 ∷ []) ∷ (failed 6 sixty (1 ∷ 1 ∷ []) ∷ []) ∷ []
+-- The first caller went on after an error.
+abbrev pub after_an_error : List (List Line)
+after_an_error = (failed 5 fifty (1 ∷ 0 ∷ []) ∷ pending 7 ∷ []) ∷ (failed 6 sixty (1 ∷ 1 ∷ []) ∷ []) ∷ []
 
 -- These lines are no lawful report, whatever the callers, their operations and their allotments.
 abbrev pub AreNoReport : (init : List ℕ) → (next : List ℕ → ℕ → List ℕ × ℕ) → List (List Line) → Type 0

@@ -12,7 +12,7 @@ ghost use Rattle.call_lines.specs.Lines.{calls_of, any_error, AreLinesOf};
 ghost use Rattle.call_lines.specs.Lawful.{IsLawful};
 ghost use Rattle.report_laws.specs.Cases.{five_and_six, fifty, sixty, both_delivered, both_failed, first_failed, nothing};
 ghost use Rattle.lawful_reports.specs.Errors.{NoLinearizableRunHasTheseCalls, NoLinearizableRunHasTheseLines};
-ghost use Rattle.lawful_reports.specs.Cases.{with_second, with_first, behind_an_error, AreNoReport, StandInOrder, first_place};
+ghost use Rattle.lawful_reports.specs.Cases.{with_second, with_first, after_an_error, AreNoReport, StandInOrder, first_place};
 
 /// The delivered lines of the run stand in the order of their calls, and in none that leaves one
 /// out or has another reply. Lines of which none is delivered stand in the empty order.
@@ -97,13 +97,13 @@ pub fn wrong_reports_are_refused()
     // A report with a line beyond the operations isn't lawful.
     ensures beyond_operations { ¬ IsLawful [] tenfold pair five_and_six (6 ∷ 5 ∷ [])
         (with_first (delivered 5 fifty (1 ∷ 0 ∷ []) ∷ pending 0 ∷ [])) }
-    // A call is judged that its caller's stop leaves unjudged; a caller goes on behind an error.
+    // A call is judged that its caller's stop leaves unjudged; a caller goes on after an error.
     ensures beyond_stop { ¬ IsLawful [] tenfold pair five_and_six (4 ∷ 5 ∷ []) both_delivered }
     // A report with an error beyond a stop isn't lawful.
     ensures error_beyond_stop { ¬ IsLawful [] silent pair five_and_six (4 ∷ 5 ∷ []) both_failed }
     // A report with a line after an error isn't lawful.
-    ensures behind_error { ¬ IsLawful [] silent pair ((5 ∷ 7 ∷ []) ∷ (6 ∷ []) ∷ []) (10 ∷ 5 ∷ [])
-        behind_an_error }
+    ensures after_error { ¬ IsLawful [] silent pair ((5 ∷ 7 ∷ []) ∷ (6 ∷ []) ∷ []) (10 ∷ 5 ∷ [])
+        after_an_error }
     // A view doesn't hold its own call.
     ensures view_without_call { AreNoReport [] tenfold
         (with_first (delivered 5 (answer 50 (0 ∷ 1 ∷ [])) (1 ∷ 0 ∷ []) ∷ [])) }

@@ -1,4 +1,4 @@
--- A byte that a word lacks ends the word: what stands before and behind it is known.
+-- A byte that a word lacks ends the word: what stands before and after it is known.
 use Rattle.std.proofs.Common.{◌≡◌, ◌≢◌, ℕ, ◌^◌, ◌<◌, false, eqb, List, [], ◌∷◌, ◌++◌, get_or, decimal, sym, refl, ne_eqb}
 use Rattle.std.specs.Int.{IsInRange}
 use Rattle.std.proofs.lemmas.Bool.{both_ways, eq-eqb}
@@ -12,23 +12,23 @@ not-first : (mark : ℕ) (x : ℕ) (word : List ℕ) → Lacks mark (x ∷ word)
 not-first mark x word lacks same =
     both_ways (eqb x mark) (All-head (λ b. eqb b mark ≡ false) x word lacks) (eq-eqb x mark (sym same))
 
--- what stands before the first such byte, and behind it, is one way only
-pub first_mark-once : (mark : ℕ) (before other behind rest : List ℕ) → Lacks mark before → Lacks mark other
-    → before ++ mark ∷ behind ≡ other ++ mark ∷ rest → (before ≡ other) × (behind ≡ rest)
-first_mark-once mark [] [] behind rest lacks other_lacks same = (refl, cc)
-first_mark-once mark [] (y ∷ other) behind rest lacks other_lacks same =
+-- what stands before the first such byte, and after it, is one way only
+pub first_mark-once : (mark : ℕ) (before other suffix rest : List ℕ) → Lacks mark before → Lacks mark other
+    → before ++ mark ∷ suffix ≡ other ++ mark ∷ rest → (before ≡ other) × (suffix ≡ rest)
+first_mark-once mark [] [] suffix rest lacks other_lacks same = (refl, cc)
+first_mark-once mark [] (y ∷ other) suffix rest lacks other_lacks same =
     absurd (not-first mark y other other_lacks cc)
-first_mark-once mark (x ∷ before) [] behind rest lacks other_lacks same =
+first_mark-once mark (x ∷ before) [] suffix rest lacks other_lacks same =
     absurd (not-first mark x before lacks cc)
-first_mark-once mark (x ∷ before) (y ∷ other) behind rest lacks other_lacks same =
-    let tails = first_mark-once mark before other behind rest (All-tail (λ b. eqb b mark ≡ false) x before lacks) (All-tail (λ b. eqb b mark ≡ false) y other other_lacks) cc in
+first_mark-once mark (x ∷ before) (y ∷ other) suffix rest lacks other_lacks same =
+    let tails = first_mark-once mark before other suffix rest (All-tail (λ b. eqb b mark ≡ false) x before lacks) (All-tail (λ b. eqb b mark ≡ false) y other other_lacks) cc in
     (cc, tails.1)
 
 -- a word with such a byte in it doesn't lack it
-pub not-Lacks-marked : (mark : ℕ) (before behind : List ℕ) → Lacks mark (before ++ mark ∷ behind) → ⊥
-not-Lacks-marked mark [] behind lacks = not-first mark mark behind lacks refl
-not-Lacks-marked mark (x ∷ before) behind lacks =
-    not-Lacks-marked mark before behind (All-tail (λ b. eqb b mark ≡ false) x (before ++ mark ∷ behind) lacks)
+pub not-Lacks-marked : (mark : ℕ) (before suffix : List ℕ) → Lacks mark (before ++ mark ∷ suffix) → ⊥
+not-Lacks-marked mark [] suffix lacks = not-first mark mark suffix lacks refl
+not-Lacks-marked mark (x ∷ before) suffix lacks =
+    not-Lacks-marked mark before suffix (All-tail (λ b. eqb b mark ≡ false) x (before ++ mark ∷ suffix) lacks)
 
 -- the text of a number lacks what is no digit
 pub decimal-Lacks : (mark n : ℕ) → n < 2 ^ 64 → (IsInRange 48 57 mark → ⊥) → Lacks mark (decimal n)

@@ -52,7 +52,7 @@ same_first before x y xs ys (suc j) zero a b apart at bt = sym (same_Some y x bt
 same_first before x y xs ys (suc j) (suc k) a b apart at bt =
     absurd (apart x y (0, refl) (suc j, at) (a 0 (suc j) x y refl at (omega arith)) (b 0 (suc k) y x refl bt (omega arith)))
 
--- what stands behind the first element of an ordered list stands behind the first of the other
+-- what stands after the first element of an ordered list stands after the first of the other
 same_rest : {X : Type 0} (before : X → X → Type 0) (x y : X) (xs ys : List X) (z : X) (j k : ℕ) → IsOrderedBy before (x ∷ xs)
     → IsAsymmetricIn before (x ∷ xs) → x ≡ y → slice_get xs j ≡ Some z → slice_get (y ∷ ys) k ≡ Some z → Stands ys z
 same_rest before x y xs ys z j zero a apart same at bt =

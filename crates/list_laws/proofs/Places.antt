@@ -1,4 +1,4 @@
--- What stands at a place of a list, and in a front of it.
+-- What stands at a place of a list, and in a prefix of it.
 use Rattle.std.proofs.Common.{◌≡◌, ℕ, zero, suc, ◌⊎◌, List, [], ◌∷◌, ◌++◌, length, take, get_or, replicate, Some, refl, ap, inl, inr, slice_get}
 
 -- what stands in a list stands there still when it gets one more item at its end
@@ -23,7 +23,7 @@ slice_get-push_cases (x ∷ xs) y (suc k) z e =
       | inr new ↦ inr (ap suc new.0, new.1)
     ]
 
--- what stands in a front of a list stands in the list
+-- what stands in a prefix of a list stands in the list
 pub slice_get-take : {X : Type 0} (n : ℕ) (xs : List X) (k : ℕ) (z : X) → slice_get (take n xs) k ≡ Some z → slice_get xs k ≡ Some z
 slice_get-take zero xs k z e = absurd cc
 slice_get-take (suc n) [] k z e = absurd cc
@@ -36,7 +36,7 @@ get_or-replicate_default zero i d = refl
 get_or-replicate_default (suc n) zero d = refl
 get_or-replicate_default (suc n) (suc i) d = get_or-replicate_default n i d
 
--- of two fronts of one list one is a front of the other
+-- of two prefixes of one list one is a prefix of the other
 pub append_cases : {X : Type 0} (xs ys us vs : List X) → xs ++ us ≡ ys ++ vs → ((zs : List X) × (ys ≡ xs ++ zs)) ⊎ ((zs : List X) × (xs ≡ ys ++ zs))
 append_cases [] ys us vs h = inl (ys, refl)
 append_cases (x ∷ xs) [] us vs h = inr (x ∷ xs, refl)

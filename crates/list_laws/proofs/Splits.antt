@@ -5,12 +5,12 @@ use Rattle.std.proofs.lemmas.Bool.{and_parts, cond-true, cond-false, eq-eqb}
 use Rattle.std.proofs.lemmas.List.Elements.{All-head, All-tail}
 use Rattle.std.proofs.lemmas.List.Splits.{slice_split_at, slice_split_none}
 
--- where the front passes and what follows it doesn't, the front is the longest that passes
-pub prefix_len-front : {X : Type 0} (q : X → Bool) (xs : List X) (y : X) (ys : List X) → list_all q xs ≡ true → q y ≡ false → prefix_len q (xs ++ y ∷ ys) ≡ length xs
-prefix_len-front q [] y ys a stops = cond-false (q y) (1 + prefix_len q ys) 0 stops
-prefix_len-front q (x ∷ xs) y ys a stops =
+-- where the prefix passes and what follows it doesn't, the prefix is the longest that passes
+pub prefix_len-prefix : {X : Type 0} (q : X → Bool) (xs : List X) (y : X) (ys : List X) → list_all q xs ≡ true → q y ≡ false → prefix_len q (xs ++ y ∷ ys) ≡ length xs
+prefix_len-prefix q [] y ys a stops = cond-false (q y) (1 + prefix_len q ys) 0 stops
+prefix_len-prefix q (x ∷ xs) y ys a stops =
     let parts = and_parts (q x) (list_all q xs) a in
-    cond-true (q x) (1 + prefix_len q (xs ++ y ∷ ys)) 0 parts.0 ∙ ap (λ (n : ℕ). 1 + n) (prefix_len-front q xs y ys parts.1 stops) ∙ omega arith
+    cond-true (q x) (1 + prefix_len q (xs ++ y ∷ ys)) 0 parts.0 ∙ ap (λ (n : ℕ). 1 + n) (prefix_len-prefix q xs y ys parts.1 stops) ∙ omega arith
 
 -- a word lacks a byte
 abbrev pub Lacks : ℕ → List ℕ → Type 0

@@ -112,7 +112,7 @@ refused_as_stored =
     ∷ gets 0 1 0
     ∷ []
 
--- Once caller 1 has placed its ticket: its own ticket in place of that one.
+-- Once caller 1 has placed its ticket: its own ticket instead of that one.
 abbrev pub refused_as_placed_one : List Step
 refused_as_placed_one = steps_at 0 4 2 1 ∷ steps_at 0 5 0 1 ∷ []
 

@@ -1,11 +1,11 @@
--- The operation and the reply of each answered call of a caller that has made so many phases.
+-- The operation and the reply of each answered call of a caller that has made this many phases.
 use Rattle.std.proofs.Common.{◌≡◌, ℕ, zero, suc, ◌%◌, ◌<◌, ◌≤◌, ◌⊎◌, Bool, true, false, cond, ◌==◌, nat_lt, List, [], ◌∷◌, ◌++◌, length, map, take, replicate, Some, slice_get, slice_index, slice_index_or, refl, sym, ap, ◌∙◌, inl, inr, arith}
 use Rattle.std.specs.Option.{option_map}
 use Rattle.std.proofs.lemmas.Bool.{cases_lt, lt-ltb, le-ltb, ltb-true, ne_eqb}
 use Rattle.std.proofs.lemmas.List.{length-replicate, get_or-replicate}
 use Rattle.std.proofs.lemmas.List.FromFn.{length-map-range_with_len}
 use Rattle.std.proofs.lemmas.Option.{same_Some, none-some, slice_get_within, slice_get-get_or, slice_get-map}
-use Rattle.list_laws.proofs.Fronts.{slice_get-append_within}
+use Rattle.list_laws.proofs.Prefixes.{slice_get-append_within}
 use Rattle.list_laws.proofs.Places.{slice_get-push_last}
 use Rattle.book_base.specs.declared.call.Record.{Record}
 use Rattle.world_core.specs.Local.{Local}
@@ -56,7 +56,7 @@ announced_by true recorded r cut none = absurd cc
 announced_by false true r cut none = absurd cc
 announced_by false false r cut none = refl
 
--- ---- the marks after so many phases, by place
+-- ---- the marks after this many phases, by place
 
 replicate_at : (n k : ℕ) (m : Mark) → k < n → slice_get (replicate n m) k ≡ Some m
 replicate_at n k m low =
@@ -100,10 +100,10 @@ unanswered_mark : (p k : ℕ) → answered p ≤ k → k < begun p → slice_get
 unanswered_mark p k past low =
     last_mark p k Announced (omega (arith, past, low)) (announced_under_way (p % 5) (omega (arith, past, low)) (omega (arith, past, low)))
 
--- ---- a caller that has made so many phases
+-- ---- a caller that has made this many phases
 
 module _ (operations : List ℕ) (p : ℕ) (l : Local) (made : HasMade operations p l) where
-  -- it has announced so many operations
+  -- it has announced this many operations
   pub has_begun : length l.operations ≡ begun p
   has_begun = ap (λ (ops : List ℕ). length ops) (sym (operations_with l)) ∙ as_many_calls operations p (progress_of l) made
 

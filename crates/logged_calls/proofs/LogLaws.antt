@@ -5,13 +5,13 @@ use Rattle.std.proofs.lemmas.Bool.{cases_Bool, cond-true, cond-false, eqb-true}
 use Rattle.std.proofs.lemmas.List.Elements.{All-head}
 use Rattle.std.proofs.lemmas.Option.{same_Some, none-some}
 use Rattle.list_laws.proofs.Places.{slice_get-take}
-use Rattle.list_laws.proofs.Fronts.{slice_get-take_below}
+use Rattle.list_laws.proofs.Prefixes.{slice_get-take_below}
 use Rattle.shared_log.specs.declared.entry.Entry.{Entry}
 use Rattle.shared_log.specs.Entries.{calls_by, entry}
-use Rattle.shared_log.proofs.Logs.{calls_by-append, All-behind}
+use Rattle.shared_log.proofs.Logs.{calls_by-append, All-suffix}
 use Rattle.call_lines.specs.Phases.{asked, answered, operations_of}
-use Rattle.lawful_objects.specs.Pairs.{pairs_of, pairs_behind}
-use Rattle.lawful_objects.proofs.Pairing.{behind_own}
+use Rattle.lawful_objects.specs.Pairs.{pairs_of, pairs_after}
+use Rattle.lawful_objects.proofs.Pairing.{after_own}
 use Rattle.logged_calls.specs.LogLaws.{AnswersComeFromTheLog, EntriesAreOfCalls}
 
 -- ---- a pair of a log stands there
@@ -30,37 +30,37 @@ calls_with_other i e log other =
     ap (λ (l : List Entry). map (λ (d : Entry). d.op) l) (cond-false (e.caller == i) (e ∷ filter (λ (d : Entry). d.caller == i) log) (filter (λ (d : Entry). d.caller == i) log) other)
 
 module _ (answer : List Entry → ℕ) (i : ℕ) where
-  -- Call k of the caller stands in the rest of a log behind some front, and its reply is the answer to the log up to it.
+  -- Call k of the caller stands in the rest of a log after some prefix, and its reply is the answer to the log up to it.
   abbrev Stands : List Entry → List Entry → ℕ → ℕ → ℕ → Type 0
-  Stands front rest k op reply =
-      (before behind : List Entry) × (rest ≡ before ++ entry i op ∷ behind) × (length (calls_by i before) ≡ k) × (reply ≡ answer (front ++ (before ++ entry i op ∷ [])))
+  Stands prefix rest k op reply =
+      (before suffix : List Entry) × (rest ≡ before ++ entry i op ∷ suffix) × (length (calls_by i before) ≡ k) × (reply ≡ answer (prefix ++ (before ++ entry i op ∷ [])))
 
   -- with one entry more in front it still stands there
-  later : (front rest : List Entry) (e : Entry) (j k op reply : ℕ) (s : Stands (front ++ e ∷ []) rest k op reply) → length (calls_by i (e ∷ s.0)) ≡ j → Stands front (e ∷ rest) j op reply
-  later front rest e j k op reply s count =
-      (e ∷ s.0, s.1, ap (λ (log : List Entry). e ∷ log) s.2, count, s.4 ∙ ap answer (append_assoc front (e ∷ []) (s.0 ++ entry i op ∷ [])))
+  later : (prefix rest : List Entry) (e : Entry) (j k op reply : ℕ) (s : Stands (prefix ++ e ∷ []) rest k op reply) → length (calls_by i (e ∷ s.0)) ≡ j → Stands prefix (e ∷ rest) j op reply
+  later prefix rest e j k op reply s count =
+      (e ∷ s.0, s.1, ap (λ (log : List Entry). e ∷ log) s.2, count, s.4 ∙ ap answer (append_assoc prefix (e ∷ []) (s.0 ++ entry i op ∷ [])))
 
   -- the first pair is that of the entry in front, where that is the caller's
-  first_or_later : (front rest : List Entry) (e : Entry) (op reply : ℕ) → (e.caller == i) ≡ true
-      → ((k : ℕ) → slice_get (pairs_behind answer i (front ++ e ∷ []) rest) k ≡ Some (op, reply) → Stands (front ++ e ∷ []) rest k op reply)
-      → (k : ℕ) → slice_get ((e.op, answer (front ++ e ∷ [])) ∷ pairs_behind answer i (front ++ e ∷ []) rest) k ≡ Some (op, reply) → Stands front (e ∷ rest) k op reply
-  first_or_later front rest e op reply own others zero there =
-      let same : ◌≡◌ {A = ℕ × ℕ} (e.op, answer (front ++ e ∷ [])) (op, reply) = same_Some (e.op, answer (front ++ e ∷ [])) (op, reply) there in
+  first_or_later : (prefix rest : List Entry) (e : Entry) (op reply : ℕ) → (e.caller == i) ≡ true
+      → ((k : ℕ) → slice_get (pairs_after answer i (prefix ++ e ∷ []) rest) k ≡ Some (op, reply) → Stands (prefix ++ e ∷ []) rest k op reply)
+      → (k : ℕ) → slice_get ((e.op, answer (prefix ++ e ∷ [])) ∷ pairs_after answer i (prefix ++ e ∷ []) rest) k ≡ Some (op, reply) → Stands prefix (e ∷ rest) k op reply
+  first_or_later prefix rest e op reply own others zero there =
+      let same : ◌≡◌ {A = ℕ × ℕ} (e.op, answer (prefix ++ e ∷ [])) (op, reply) = same_Some (e.op, answer (prefix ++ e ∷ [])) (op, reply) there in
       let is : e ≡ entry i op = entry_is i e own ∙ ap (λ (pair : ℕ × ℕ). entry i pair.0) same in
-      ([], rest, ap (λ (d : Entry). d ∷ rest) is, refl, sym (ap (λ (pair : ℕ × ℕ). pair.1) same) ∙ ap (λ (d : Entry). answer (front ++ d ∷ [])) is)
-  first_or_later front rest e op reply own others (suc k) there =
+      ([], rest, ap (λ (d : Entry). d ∷ rest) is, refl, sym (ap (λ (pair : ℕ × ℕ). pair.1) same) ∙ ap (λ (d : Entry). answer (prefix ++ d ∷ [])) is)
+  first_or_later prefix rest e op reply own others (suc k) there =
       let s = others k there in
-      later front rest e (suc k) k op reply s (ap (λ (l : List ℕ). length l) (calls_with_own i e s.0 own) ∙ ap suc s.3)
+      later prefix rest e (suc k) k op reply s (ap (λ (l : List ℕ). length l) (calls_with_own i e s.0 own) ∙ ap suc s.3)
 
-  pair_stands : (front rest : List Entry) (k op reply : ℕ) → slice_get (pairs_behind answer i front rest) k ≡ Some (op, reply) → Stands front rest k op reply
-  pair_stands front [] k op reply there = absurd (none-some (op, reply) there)
-  pair_stands front (e ∷ rest) k op reply there = elim (cases_Bool (e.caller == i)) [
+  pair_stands : (prefix rest : List Entry) (k op reply : ℕ) → slice_get (pairs_after answer i prefix rest) k ≡ Some (op, reply) → Stands prefix rest k op reply
+  pair_stands prefix [] k op reply there = absurd (none-some (op, reply) there)
+  pair_stands prefix (e ∷ rest) k op reply there = elim (cases_Bool (e.caller == i)) [
     | inl own ↦
-        first_or_later front rest e op reply own (λ j at. pair_stands (front ++ e ∷ []) rest j op reply at) k
-        (sym (ap (λ (pairs : List (ℕ × ℕ)). slice_get pairs k) (behind_own answer i front rest e own)) ∙ there)
+        first_or_later prefix rest e op reply own (λ j at. pair_stands (prefix ++ e ∷ []) rest j op reply at) k
+        (sym (ap (λ (pairs : List (ℕ × ℕ)). slice_get pairs k) (after_own answer i prefix rest e own)) ∙ there)
     | inr other ↦
-        let s = pair_stands (front ++ e ∷ []) rest k op reply (sym (ap (λ (pairs : List (ℕ × ℕ)). slice_get pairs k) (cond-false (e.caller == i) _ _ other)) ∙ there) in
-        later front rest e k k op reply s (ap (λ (l : List ℕ). length l) (calls_with_other i e s.0 other) ∙ s.3)
+        let s = pair_stands (prefix ++ e ∷ []) rest k op reply (sym (ap (λ (pairs : List (ℕ × ℕ)). slice_get pairs k) (cond-false (e.caller == i) _ _ other)) ∙ there) in
+        later prefix rest e k k op reply s (ap (λ (l : List ℕ). length l) (calls_with_other i e s.0 other) ∙ s.3)
   ]
 
 -- each answered call stands in the log, and was answered from the log up to it
@@ -70,7 +70,7 @@ answers_come_from_the_log answer n phases calls logged i k op reply low there =
     let s =
     pair_stands answer i [] logged.log k op reply
     (slice_get-take (answered (phases i)) pairs k (op, reply) (ap (λ (list : List (ℕ × ℕ)). slice_get list k) (logged.replies i low) ∙ there)) in
-    record { before = s.0; behind = s.1; at = s.2; number = s.3; replied = s.4 }
+    record { before = s.0; suffix = s.1; at = s.2; number = s.3; replied = s.4 }
 
 -- ---- an entry of a log is of a call
 
@@ -80,21 +80,21 @@ slice_get-middle [] y ys = refl
 slice_get-middle (x ∷ xs) y ys = slice_get-middle xs y ys
 
 -- the call of an entry is the next one of its caller
-next_call : (before behind : List Entry) (e : Entry) → slice_get (calls_by e.caller (before ++ e ∷ behind)) (length (calls_by e.caller before)) ≡ Some e.op
-next_call before behind e =
+next_call : (before suffix : List Entry) (e : Entry) → slice_get (calls_by e.caller (before ++ e ∷ suffix)) (length (calls_by e.caller before)) ≡ Some e.op
+next_call before suffix e =
     ap (λ (ops : List ℕ). slice_get ops (length (calls_by e.caller before)))
-    (calls_by-append e.caller before (e ∷ behind) ∙ ap (λ (ops : List ℕ). calls_by e.caller before ++ ops) (calls_with_own e.caller e behind (eq-eqb e.caller e.caller refl)))
-    ∙ slice_get-middle (calls_by e.caller before) e.op (calls_by e.caller behind)
+    (calls_by-append e.caller before (e ∷ suffix) ∙ ap (λ (ops : List ℕ). calls_by e.caller before ++ ops) (calls_with_own e.caller e suffix (eq-eqb e.caller e.caller refl)))
+    ∙ slice_get-middle (calls_by e.caller before) e.op (calls_by e.caller suffix)
 
 -- each entry of the log is of a call that its caller asked for
 pub entries_are_of_calls : EntriesAreOfCalls
-entries_are_of_calls answer n phases calls logged before behind e at =
+entries_are_of_calls answer n phases calls logged before suffix e at =
     let caller : e.caller < n =
-    All-head (λ (d : Entry). d.caller < n) e behind
-    (All-behind (λ (d : Entry). d.caller < n) before (e ∷ behind) (subst (λ (l : List Entry). All (λ (d : Entry). d.caller < n) l) at logged.callers)) in
+    All-head (λ (d : Entry). d.caller < n) e suffix
+    (All-suffix (λ (d : Entry). d.caller < n) before (e ∷ suffix) (subst (λ (l : List Entry). All (λ (d : Entry). d.caller < n) l) at logged.callers)) in
     let many : ℕ = asked (phases e.caller) in
     let there : slice_get (take many (operations_of (calls e.caller))) (length (calls_by e.caller before)) ≡ Some e.op =
-    ap (λ (ops : List ℕ). slice_get ops (length (calls_by e.caller before))) (sym (logged.entries e.caller caller) ∙ ap (calls_by e.caller) at) ∙ next_call before behind e in
+    ap (λ (ops : List ℕ). slice_get ops (length (calls_by e.caller before))) (sym (logged.entries e.caller caller) ∙ ap (calls_by e.caller) at) ∙ next_call before suffix e in
     record {
       caller = caller;
       asked_for = slice_get-take_below many (operations_of (calls e.caller)) (length (calls_by e.caller before)) e.op there;

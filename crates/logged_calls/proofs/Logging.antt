@@ -10,7 +10,7 @@ use Rattle.book_base.specs.Sequential.{IsRunFrom}
 use Rattle.book_base.specs.Book.{Page, IsCall, operation_of}
 use Rattle.shared_log.specs.declared.entry.Entry.{Entry}
 use Rattle.shared_log.specs.Entries.{calls_by, entry}
-use Rattle.lawful_objects.specs.Pairs.{pairs_behind, pairs_of}
+use Rattle.lawful_objects.specs.Pairs.{pairs_after, pairs_of}
 use Rattle.lawful_objects.specs.Replays.{list_after, last_reply}
 use Rattle.lawful_objects.proofs.Replaying.{list_after-append, last_reply_is_next}
 use Rattle.world_core.specs.Shape.{Shape}
@@ -46,22 +46,22 @@ calls_of_order i (d ∷ order) =
     ]
 
 -- in a legal order the answers to the log are the replies
-pairs_of_order : (init : List ℕ) (next : List ℕ → ℕ → List ℕ × ℕ) (i : ℕ) (front : List Entry) (order : List Done) → IsRunFrom next (list_after next init front) (map step_of order)
-    → pairs_behind (last_reply next init) i front (map entry_of order) ≡ map step_of (own_in i order)
-pairs_of_order init next i front [] run = refl
-pairs_of_order init next i front (d ∷ order) run =
-    let more : List Entry = front ++ entry_of d ∷ [] in
+pairs_of_order : (init : List ℕ) (next : List ℕ → ℕ → List ℕ × ℕ) (i : ℕ) (prefix : List Entry) (order : List Done) → IsRunFrom next (list_after next init prefix) (map step_of order)
+    → pairs_after (last_reply next init) i prefix (map entry_of order) ≡ map step_of (own_in i order)
+pairs_of_order init next i prefix [] run = refl
+pairs_of_order init next i prefix (d ∷ order) run =
+    let more : List Entry = prefix ++ entry_of d ∷ [] in
     let answer : ℕ = last_reply next init more in
-    let told : answer ≡ d.reply = last_reply_is_next next init front (entry_of d) ∙ run.0 in
-    let pairs : List (ℕ × ℕ) = pairs_behind (last_reply next init) i more (map entry_of order) in
+    let told : answer ≡ d.reply = last_reply_is_next next init prefix (entry_of d) ∙ run.0 in
+    let pairs : List (ℕ × ℕ) = pairs_after (last_reply next init) i more (map entry_of order) in
     let rest : pairs ≡ map step_of (own_in i order) =
-    pairs_of_order init next i more order (subst (λ (list : List ℕ). IsRunFrom next list (map step_of order)) (sym (list_after-append next init front (entry_of d ∷ []))) run.1) in
+    pairs_of_order init next i more order (subst (λ (list : List ℕ). IsRunFrom next list (map step_of order)) (sym (list_after-append next init prefix (entry_of d ∷ []))) run.1) in
     elim (d.call.caller == i) as (λ b. cond b ((d.operation, answer) ∷ pairs) pairs ≡ map step_of (cond b (d ∷ own_in i order) (own_in i order))) [
       | true ↦ (λ k. (d.operation, told k) ∷ rest k)
       | false ↦ rest
     ]
 
--- Of the call under way of caller i, which has made so many phases: it has taken no effect where it wasn't asked yet, and has taken
+-- Of the call under way of caller i, which has made this many phases: it has taken no effect where it wasn't asked yet, and has taken
 -- effect where it was.
 pub record TakesEffectAsAsked (e : Effects) (w : World) (i p : ℕ) : Type 0 where
   pub unasked : p % 5 ≡ 1 → e.reply w (call_of i (judged p)) ≡ None
@@ -118,7 +118,7 @@ module _ (init : List ℕ) (next : List ℕ → ℕ → List ℕ × ℕ) (s : Sh
       (All-weaker (λ (d : Done). Contains told (Invoked d.call d.operation)) (λ (d : Done). d.call.caller < s.callers)
       (λ d h. (invoked_is_announced s (start s) steps d.call d.operation (start_kept s) run h).0) order lin.invoked)
 
-  -- A caller that has made so many phases.
+  -- A caller that has made this many phases.
   module _ (i : ℕ) (operations : List ℕ) (p : ℕ) (made : HasMade operations p (local_of last i)) where
     abbrev l : Local
     l = local_of last i

@@ -9,7 +9,7 @@ use Rattle.std.proofs.lemmas.List.Elements.{All-contains, All-filter, All-contai
 use Rattle.std.proofs.lemmas.List.FromFn.{length-range_with_len, get_or-range_with_len}
 use Rattle.std.proofs.lemmas.List.Kept.{AllPairs-filter}
 use Rattle.std.proofs.lemmas.Option.{same_Some, none-some, slice_get_past, slice_get_within, slice_get-get_or, slice_get-map, get_or_from_slice_get}
-use Rattle.list_laws.proofs.Fronts.{slice_get-take_within, same_from_places}
+use Rattle.list_laws.proofs.Prefixes.{slice_get-take_within, same_from_places}
 use Rattle.list_laws.proofs.Options.{map_some}
 use Rattle.list_laws.proofs.Ordered.{Stands, IsOrderedBy, IsOrderedBy-same}
 use Rattle.world_core.specs.History.{Done, call_of}

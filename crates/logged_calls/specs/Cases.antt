@@ -18,7 +18,7 @@ abbrev pub one_answered : ℕ → ℕ → List Made
 one_answered reply zero = answered_with 5 reply ∷ []
 one_answered reply (suc i) = record { operation = 6; reached = Is_announced } ∷ []
 
--- Caller 0 has made three phases of its call, and each other caller so many.
+-- Caller 0 has made three phases of its call, and each other caller this many.
 abbrev pub others_made : ℕ → ℕ → ℕ
 others_made phases zero = 3
 others_made phases (suc i) = phases

@@ -12,7 +12,7 @@ use Rattle.lawful_objects.specs.Replays.{last_reply}
 use Rattle.lawful_objects.specs.Forms.{IsTallyReply, IsCellReply}
 use Rattle.logged_calls.specs.Logged.{IsLoggedBy, AreFormed}
 
--- These are the locals of one reachable world, and each caller has made exactly so many phases of its operations.
+-- These are the locals of one reachable world, and each caller has made exactly this many phases of its operations.
 pub record HaveMadePhases (s : Shape) (operations : ℕ → List ℕ) (phases : ℕ → ℕ) (locals : List Local) : Type 0 where
   pub together : AreTogether s locals
   pub made : (i : ℕ) → i < s.callers → HasMade (operations i) (phases i) (local_at locals i)

@@ -43,7 +43,7 @@ module _ (init : List ℕ) (next : List ℕ → ℕ → List ℕ × ℕ) (n : �
     pub legal : AreLegal l before
     pub illegal : IsIllegalAt l w
 
-  -- The rounds of a monitor that makes at most so many: all are legal, and there are as many; or the last one is illegal, with the
+  -- The rounds of a monitor that makes at most this many: all are legal, and there are as many; or the last one is illegal, with the
   -- own witness, and there are no more than that.
   abbrev pub AreRounds : ℕ → Local → List Given → Option Witness → Type 0
   AreRounds most l rounds None = (length rounds ≡ most) × AreLegal l rounds

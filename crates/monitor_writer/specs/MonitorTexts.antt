@@ -11,7 +11,7 @@ use Rattle.monitor.specs.Worlds.{published_book, IsWitnessOf}
 use Rattle.byte_streams.specs.declared.status.Status.{Status}
 use Rattle.byte_streams.specs.declared.status.Status.TheVariants.{Fine, Found}
 
--- the text of an answer: that there is no witness, or that there is one, and behind it the text of its book
+-- the text of an answer: that there is no witness, or that there is one, and after it the text of its book
 abbrev pub IsAnswerText : Kind → Option Witness → List ℕ → Type 0
 IsAnswerText kind None text = text ≡ codes "legal\n"
 IsAnswerText kind (Some w) text = (shown : List ℕ) × IsWrittenText Second shown kind w.book × (text ≡ codes "illegal\n" ++ shown)
@@ -30,7 +30,7 @@ abbrev pub IsLegalRun : Kind → List Local → Type 0
 IsLegalRun kind locals = HasLegalOrder (kind_init kind) (kind_next kind) (published_book locals)
 
 -- What is written of these callers' calls, with a status: that the book of all published records has a legal order; or that it has none,
--- and behind it the text of the book of a witness.
+-- and after it the text of the book of a witness.
 abbrev pub IsMonitorText : Kind → List Local → Status → List ℕ → Type 0
 IsMonitorText kind locals Fine text = IsLegalRun kind locals × (text ≡ codes "legal\n")
 IsMonitorText kind locals Found text =

@@ -39,7 +39,7 @@ use Rattle.bench_clients.specs.Starts.{run_allotments, course_of, IsUnused, MayB
 use Rattle.bench_clients.specs.Returns.{IsCountOf, AreBack, IsBackOn}
 use Rattle.std.proofs.lemmas.Slice.Zip.{AllZip-long}
 use Rattle.run_report.proofs.Workers.{the_local, lines_here}
-use Rattle.run_report.proofs.Reports.{at_most, none_behind}
+use Rattle.run_report.proofs.Reports.{at_most, none_after}
 use Rattle.monitor.specs.declared.witness.Witness.{Witness}
 use Rattle.monitor.specs.Rounds.{HasMadeRounds}
 use Rattle.monitor.specs.Worlds.{published_of}
@@ -232,7 +232,7 @@ module _ {P T : Type 0} (meaning : P → ℕ → ℕ → Meaning) (r : Rows P) (
               let before : i < n + 2 = omega (arith, within, length-append (lines ++ [] ∷ []) ([] ∷ []), length-append lines ([] ∷ []), long) in
               let h = unused i (record { after = after; before = before }) in
               let none : calls_in (local_at locals i) ≡ [] = ap (λ (l : Local). calls_in l) (local_is i h.local h.here) ∙ ap (λ (p : Progress). p.calls) h.none in
-              subst (λ (own : List Line). HavePage own (local_at locals i)) (sym (none_behind lines i (omega (arith, after, long)))) (ap page_with (sym none))
+              subst (λ (own : List Line). HavePage own (local_at locals i)) (sym (none_after lines i (omega (arith, after, long)))) (ap page_with (sym none))
         ]);
   }
 
@@ -246,7 +246,7 @@ module _ {P T : Type 0} (meaning : P → ℕ → ℕ → Meaning) (r : Rows P) (
             let h = back.back i low in
             let no_more = no_more_lines silent r.callers (operations_at plan.operations i) (slice_index (run_allotments plan) i) h.on.local h.own (h.left refl).left.lines (deferred i low).made in
             omega (arith, ap (λ (own : List Line). length own) (two_more lines i ∙ own_is i low), no_more, begins.starts.rows_for.cap i, r.few.3)
-        | inr after ↦ omega (arith, ap (λ (own : List Line). length own) (two_more lines i ∙ none_behind lines i (omega (arith, after, long))))
+        | inr after ↦ omega (arith, ap (λ (own : List Line). length own) (two_more lines i ∙ none_after lines i (omega (arith, after, long))))
       ]
 
   pub of_a_book : AreOfABook (with_monitors lines)
@@ -263,7 +263,7 @@ module _ {P T : Type 0} (meaning : P → ℕ → ℕ → Meaning) (r : Rows P) (
               all_but_last silent r.callers (operations_at plan.operations call.caller) (slice_index (run_allotments plan) call.caller) h.on.local h.own (h.left refl).left.lines (deferred call.caller within).made
               call.number line (ap (λ (own : List Line). slice_get own call.number) (sym (own_is call.caller within)) ∙ own_there)
               (omega (arith, own_low, ap (λ (own : List Line). length own) (own_is call.caller within)))
-          | inr after ↦ absurd (omega (arith, own_low, ap (λ (own : List Line). length own) (none_behind lines call.caller (omega (arith, after, long)))))
+          | inr after ↦ absurd (omega (arith, own_low, ap (λ (own : List Line). length own) (none_after lines call.caller (omega (arith, after, long)))))
         ];
     valid = subst IsValid (sym is_the_book) (books_are_valid (shape_of meaning r) locals together);
   }

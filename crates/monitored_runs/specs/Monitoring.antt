@@ -24,7 +24,7 @@ most_rounds plan = sum_by length plan.operations + 1
 abbrev pub published_for : Plan → List ℕ
 published_for plan = map published_by (run_allotments plan) ++ 0 ∷ 0 ∷ []
 
--- The lines of a plan's callers, with those of the two monitors behind them, who have none.
+-- The lines of a plan's callers, with those of the two monitors after them, who have none.
 abbrev pub with_monitors : List (List Line) → List (List Line)
 with_monitors lines = (lines ++ [] ∷ []) ++ [] ∷ []
 
@@ -57,7 +57,7 @@ module _ (init : List ℕ) (next : List ℕ → ℕ → List ℕ × ℕ) where
       (rounds : List Given) × ((local_at locals i).cuts ≡ before.cuts ++ rounds) × AreJudgedRounds init next (book_in locals) (most_rounds plan) rounds
 
 module _ {P : Type 0} where
-  -- Each of a plan's callers whose allotment ends between two calls, or behind all of them, stands on the bench free for its next call.
+  -- Each of a plan's callers whose allotment ends between two calls, or after all of them, stands on the bench free for its next call.
   abbrev pub AreFreeAgain : Plan → Bench P → Type 0
   AreFreeAgain plan b =
       (i : ℕ) → i < length plan.operations → slice_index (run_allotments plan) i % 5 ≡ 0 → stance_on b i ≡ Some fresh_stance

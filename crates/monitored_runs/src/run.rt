@@ -43,7 +43,7 @@ fn found_by(one: Left, other: Left) -> Option<Witness>
     }
 }
 
-// Puts an empty list of lines for each of the two monitors behind those of the other callers.
+// Puts an empty list of lines for each of the two monitors after those of the other callers.
 fn add_monitors(alloc: Global, lines: &mut Vec<Own>) -> Result<(), NoMemory>
     ensures { OnOk result (lines_in lines.new.items ≡ with_monitors (lines_in lines.old.items)) }
 {

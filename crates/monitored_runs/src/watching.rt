@@ -73,7 +73,7 @@ fn watch_in<
 }
 
 /// Lets each caller make the phases that a script gives it, each in a thread of its own where one can be
-/// had, while two callers more make rounds, each until one is illegal, and at most so many. All callers
+/// had, while two callers more make rounds, each until one is illegal, and at most this many. All callers
 /// come back to their bench, and all passes to their list, in order, whatever the answer.
 ///
 /// The answer is the lines of each of the script's callers, in order, and what the two others found. Want

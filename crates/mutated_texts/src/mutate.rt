@@ -42,7 +42,7 @@ fn change<R: Rng>(alloc: Global, rng: &mut R, mut bytes: Vec<u8>) -> Result<Vec<
     Ok(bytes)
 }
 
-// A digit is another: the first behind a random place, where there is one.
+// A digit is another: the first after a random place, where there is one.
 fn change_digit<R: Rng>(rng: &mut R, bytes: &mut [u8])
     requires { 0 < length bytes.old }
 {
@@ -103,7 +103,7 @@ fn change_pieces<R: Rng>(
     join(alloc, &pieces)
 }
 
-// A piece loses what stands between a random byte of it and its separator: a space, where there is one behind that byte.
+// A piece loses what stands between a random byte of it and its separator: a space, where there is one after that byte.
 fn cut_short<R: Rng>(rng: &mut R, piece: &mut Vec<u8>) -> Result<(), AllocError> {
     if piece.is_empty() {
         return Ok(());

@@ -27,7 +27,7 @@ pub record AreOwnPasses {T : Type 0} (is_own : T → Type 0) (caller : T → ℕ
 abbrev pub AreTold : {T : Type 0} → (T → Option (List (ℕ × ℕ))) → (ℕ → ℕ) → (ℕ → List Made) → List T → Type 0
 AreTold told phases calls passes = AreInOrder (λ i pass. IfSome (told pass) (IsTold (phases i) (calls i))) passes
 
--- The object of a behaviour, for scripts of a kind, answered the calls of n callers, each of which made so many phases: a log object
+-- The object of a behaviour, for scripts of a kind, answered the calls of n callers, each of which made this many phases: a log object
 -- answers from its log, by the object of the kind; of the others the replies have the form that each gives for an operation.
 abbrev pub IsOfBehaviour : Behaviour → Kind → ℕ → (ℕ → ℕ) → (ℕ → List Made) → Type 0
 IsOfBehaviour Lawful kind n phases calls = IsLoggedBy (last_reply (kind_next kind) (kind_init kind)) n phases calls

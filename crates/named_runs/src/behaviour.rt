@@ -66,7 +66,7 @@ fn run_outside<R: Threads + Sync, K: Sink>(
 ///
 /// The object of `lawful`, for every kind, that of `tally` for a counter's script and that of `cell` for a register's are inside the
 /// world: such a run has no error line. Every other object is outside it. The table of rows and the object are opened for the
-/// script's callers with the greatest cap, and closed behind the run.
+/// script's callers with the greatest cap, and closed after the run.
 pub fn run_behaviour<R: Threads + Sync, K: Sink>(
     rt: &R,
     alloc: Global,
@@ -99,7 +99,7 @@ pub fn run_behaviour<R: Threads + Sync, K: Sink>(
 /// Lets all callers of a script take its turns over the object of a behaviour, in one thread, and writes what the form shows of
 /// their report, which is lawful whatever the object does.
 ///
-/// The table of rows and the object are opened for the script's callers with the greatest cap, and closed behind the replay.
+/// The table of rows and the object are opened for the script's callers with the greatest cap, and closed after the replay.
 pub fn replay_behaviour<K: Sink>(
     alloc: Global,
     behaviour: Behaviour,
@@ -124,7 +124,7 @@ pub fn replay_behaviour<K: Sink>(
 /// call, and two monitors watch them. It writes `legal`, or `illegal` and the text of a witness, by the book of all records that
 /// the callers published.
 ///
-/// The table of rows and the object are opened for two callers more than the script has, with the greatest cap, and closed behind
+/// The table of rows and the object are opened for two callers more than the script has, with the greatest cap, and closed after
 /// the run, the object with the passes of all of them.
 pub fn monitor_behaviour<R: Threads + Sync, K: Sink>(
     rt: &R,

@@ -23,7 +23,7 @@ use std::thread::Threads;
 use world_core::Outside;
 
 /// Runs all callers of a script over an object, each in a thread of its own where one can be had, and writes what the form shows
-/// of their report, which is lawful. The table of rows is opened for the run, with the greatest cap, and closed behind it.
+/// of their report, which is lawful. The table of rows is opened for the run, with the greatest cap, and closed after it.
 ///
 /// Each caller has its pass of the object, unused. Afterwards the passes are in their order, whatever the answer.
 pub fn run_fresh<R: Threads + Sync, B: BlackBox + Sync, K: Sink>(
@@ -67,7 +67,7 @@ where
 }
 
 /// Lets all callers of a script take its turns over an object, in one thread, and writes what the form shows of their report, which
-/// is lawful. The table of rows is opened for the replay, with the greatest cap, and closed behind it.
+/// is lawful. The table of rows is opened for the replay, with the greatest cap, and closed after it.
 ///
 /// Each caller has its pass of the object, unused. Afterwards the passes are in their order, whatever the answer.
 pub fn replay_fresh<B: BlackBox, K: Sink>(
@@ -107,7 +107,7 @@ pub fn replay_fresh<B: BlackBox, K: Sink>(
 
 /// Runs all callers of a script over an object, each in a thread of its own where one can be had, while two
 /// monitors watch them, and writes what is right of the records that they published. The table of rows is opened
-/// for the run, with two callers more and the greatest cap, and closed behind it.
+/// for the run, with two callers more and the greatest cap, and closed after it.
 ///
 /// Each of the script's callers has its pass of the object, unused. Afterwards the passes are in their order,
 /// whatever the answer.

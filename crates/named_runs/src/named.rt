@@ -1,5 +1,5 @@
 //! Runs, replays and monitored runs over an object outside the world that has a name. The object is opened for the run, and closed
-//! behind it.
+//! after it.
 
 ghost use Rattle.std.specs.Prelude.{◌≡◌, ◌≤◌, ◌+◌, ◌++◌, ℕ, List, [], ◌∷◌, Some, length, vec_len, vec_capacity};
 ghost use Rattle.book_base.specs.declared.TheConstants.{MAX_CALLERS};
@@ -84,7 +84,7 @@ fn set_aside<T>(passes: &mut Vec<T>) -> (T, T)
     (first, second)
 }
 
-// Puts the passes of the monitors behind those of the other callers.
+// Puts the passes of the monitors after those of the other callers.
 fn put_back<T>(passes: &mut Vec<T>, first: T, second: T)
     requires { vec_len passes.old + 2 ≤ vec_capacity passes.old }
     ensures { passes.new.items ≡ (passes.old.items ++ first ∷ []) ++ second ∷ [] }

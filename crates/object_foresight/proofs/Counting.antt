@@ -92,7 +92,7 @@ counted_put deal i n v used put is = record {
   different = is.different;
 }
 
--- a list with a call in front of it that it doesn't have
+-- a list with a call before it that it doesn't have
 different_more : (c : Call) (calls : List Call) → AreDifferent calls → ((k : ℕ) → slice_get calls k ≡ Some c → ⊥) → AreDifferent (c ∷ calls)
 different_more c calls is none zero zero call a b = refl
 different_more c calls is none zero (suc k) call a b = absurd (none k (b ∙ sym a))

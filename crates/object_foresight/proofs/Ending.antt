@@ -5,7 +5,7 @@ use Rattle.std.proofs.lemmas.Option.{same_Some, slice_get-get_or, slice_get_with
 use Rattle.std.proofs.lemmas.List.{take_more, take-append-drop, length-set, length-replicate}
 use Rattle.list_laws.proofs.Options.{some_from_is_some_and}
 use Rattle.list_laws.proofs.Places.{slice_get-take}
-use Rattle.list_laws.proofs.Fronts.{slice_get-take_within, slice_get-take_below}
+use Rattle.list_laws.proofs.Prefixes.{slice_get-take_within, slice_get-take_below}
 use Rattle.book_base.specs.declared.call.Call.{Call}
 use Rattle.book_base.specs.declared.call.Place.{Place}
 use Rattle.book_base.specs.declared.call.Record.{Record}
@@ -20,16 +20,16 @@ use Rattle.book_base.specs.Next.{next_call}
 use Rattle.object_foresight.specs.Stuck.{IsBlocked}
 use Rattle.object_foresight.proofs.Counting.{call_of}
 
--- what a front of an order reaches
-pub record IsReached (init : List ℕ) (next : List ℕ → ℕ → List ℕ × ℕ) (book : List Page) (front : List Place) : Type 0 where
+-- what a prefix of an order reaches
+pub record IsReached (init : List ℕ) (next : List ℕ → ℕ → List ℕ × ℕ) (book : List Page) (prefix : List Place) : Type 0 where
   pub cut : List ℕ
   pub list : List ℕ
   pub wide : length cut ≡ length book
-  pub reaches : Reaches init next book front cut list
+  pub reaches : Reaches init next book prefix cut list
 
--- a call of a front stands in the order, at the same place
-stands_in_front : (order : List Place) (n k : ℕ) (call : Call) → StandsAt (take n order) k call → (k < n) × StandsAt order k call
-stands_in_front order n k call s = (slice_get-take_below n order k s.0 s.1, (s.0, slice_get-take n order k s.0 s.1, s.2))
+-- a call of a prefix stands in the order, at the same place
+stands_in_prefix : (order : List Place) (n k : ℕ) (call : Call) → StandsAt (take n order) k call → (k < n) × StandsAt order k call
+stands_in_prefix order n k call s = (slice_get-take_below n order k s.0 s.1, (s.0, slice_get-take n order k s.0 s.1, s.2))
 
 stands_so_early : (order : List Place) (n k : ℕ) (call : Call) → k < n → StandsAt order k call → StandsAt (take n order) k call
 stands_so_early order n k call lt s = (s.0, slice_get-take_within n order k lt ∙ s.1, s.2)
@@ -43,7 +43,7 @@ next_number init next book order legal n place at cut list reaches =
     let no_more : get_or cut place.caller 0 ≤ place.number = elim (cases_lt place.number (get_or cut place.caller 0)) [
       | inl held ↦
           let there = reaches.held call held in
-          let early = stands_in_front order n there.0 call there.1 in
+          let early = stands_in_prefix order n there.0 call there.1 in
           absurd (omega (arith, early.0, legal.once there.0 n call early.1 here))
       | inr le ↦ le
     ] in
@@ -55,16 +55,16 @@ next_number init next book order legal n place at cut list reaches =
       | inr le ↦ omega arith
     ]
 
--- each front of a legal order reaches some cut
-pub front_reaches : (init : List ℕ) (next : List ℕ → ℕ → List ℕ × ℕ) (book : List Page) (order : List Place) → IsLegalOrder init next book order → (n : ℕ) → n ≤ length order → IsReached init next book (take n order)
-front_reaches init next book order legal zero within = record {
+-- each prefix of a legal order reaches some cut
+pub prefix_reaches : (init : List ℕ) (next : List ℕ → ℕ → List ℕ × ℕ) (book : List Page) (order : List Place) → IsLegalOrder init next book order → (n : ℕ) → n ≤ length order → IsReached init next book (take n order)
+prefix_reaches init next book order legal zero within = record {
   cut = replicate (length book) 0;
   list = init;
   wide = length-replicate (length book) 0;
   reaches = no_places_reach_the_start init next book (length book);
 }
-front_reaches init next book order legal (suc n) within =
-    let before = front_reaches init next book order legal n (omega arith) in
+prefix_reaches init next book order legal (suc n) within =
+    let before = prefix_reaches init next book order legal n (omega arith) in
     let inside : n < length order = omega arith in
     let place : Place = get_or order n (record { caller = 0; number = 0; reply = 0 }) in
     let at : slice_get order n ≡ Some place = slice_get-get_or order n (record { caller = 0; number = 0; reply = 0 }) inside in
@@ -77,7 +77,7 @@ front_reaches init next book order legal (suc n) within =
       cut = set before.cut place.caller (place.number + 1);
       list = (next before.list (step_at book place).0).0;
       wide = length-set before.cut place.caller (place.number + 1) ∙ before.wide;
-      reaches = subst (λ (front : List Place). Reaches init next book front (set before.cut place.caller (place.number + 1)) (next before.list (step_at book place).0).0) more on;
+      reaches = subst (λ (prefix : List Place). Reaches init next book prefix (set before.cut place.caller (place.number + 1)) (next before.list (step_at book place).0).0) more on;
     }
 
 -- an order is its front, a place, and what follows
@@ -109,16 +109,16 @@ none_outside init next book known cut order right ends legal p place at before o
     let blocked : IsBlocked book known cut call = subst (λ (c : Call). IsBlocked book known cut c) (sym is_next) (ends place.caller (subst (IsCall book) is_next (legal.calls p call here))) in
     elim blocked [
       | inl below ↦
-          let front = front_reaches init next book order legal p (omega (arith, slice_get_within order p place at)) in
-          let less : (j : ℕ) → get_or front.cut j 0 ≤ get_or cut j 0 = λ j. elim (cases_lt (get_or cut j 0) (get_or front.cut j 0)) [
+          let prefix = prefix_reaches init next book order legal p (omega (arith, slice_get_within order p place at)) in
+          let less : (j : ℕ) → get_or prefix.cut j 0 ≤ get_or cut j 0 = λ j. elim (cases_lt (get_or cut j 0) (get_or prefix.cut j 0)) [
             | inl more ↦
                 let last : Call = call_of j (get_or cut j 0) in
-                let stands = front.reaches.held last more in
-                let early = stands_in_front order p stands.0 last stands.1 in
+                let stands = prefix.reaches.held last more in
+                let early = stands_in_prefix order p stands.0 last stands.1 in
                 absurd (omega (arith, before stands.0 last early.0 early.1))
             | inr le ↦ le
           ] in
-          right front.cut front.list call (inl (below.0, omega (arith, below.1, less below.0))) (take p order) (drop (suc p) order) place.reply front.reaches
+          right prefix.cut prefix.list call (inl (below.0, omega (arith, below.1, less below.0))) (take p order) (drop (suc p) order) place.reply prefix.reaches
           (subst (λ (o : List Place). IsLegalOrder init next book o) (split_at order p place at) legal)
       | inr unmet ↦ elim unmet.1 [
         | inl seen ↦

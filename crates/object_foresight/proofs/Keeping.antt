@@ -5,7 +5,7 @@ use Rattle.std.proofs.lemmas.Bool.{cases_lt}
 use Rattle.std.proofs.lemmas.Option.{same_Some, none-some}
 use Rattle.list_laws.proofs.Options.{cases_Option}
 use Rattle.list_laws.proofs.Places.{slice_get-take}
-use Rattle.list_laws.proofs.Fronts.{slice_get-take_within, slice_get-take_below}
+use Rattle.list_laws.proofs.Prefixes.{slice_get-take_within, slice_get-take_below}
 use Rattle.book_base.specs.declared.call.Call.{Call}
 use Rattle.book_base.specs.declared.call.Place.{Place}
 use Rattle.book_base.specs.Book.{Page, operation_of, record_of, Precedes}

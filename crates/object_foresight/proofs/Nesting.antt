@@ -9,7 +9,7 @@ use Rattle.book_base.specs.declared.call.Call.{Call}
 use Rattle.book_base.specs.declared.call.Place.{Place}
 use Rattle.book_base.specs.Book.{Page, Precedes}
 use Rattle.book_base.specs.Order.{call_at, StandsAt, step_at, IsLegalOrder}
-use Rattle.book_base.specs.Foresight.{list_after_run, IsHopeless, MustComeFirst}
+use Rattle.book_base.specs.Foresight.{list_after_run, IsInfeasible, MustComeFirst}
 use Rattle.book_base.proofs.ReachingLemmas.{preceding_comes_first}
 use Rattle.history_rules.specs.Container.{Puts, Reading, put_by, taken_by, times, IsStack}
 use Rattle.history_rules.specs.Calls.{PutsIn, PutsInAlone, TakesOut}
@@ -25,7 +25,7 @@ use Rattle.object_foresight.specs.Uses.{AreCounted}
 use Rattle.object_foresight.specs.Links.{link_at, IsLink, AreLinks}
 use Rattle.object_foresight.specs.Nests.{Outlasts, AreNested}
 use Rattle.object_foresight.proofs.Counting.{early_by_count}
-use Rattle.object_foresight.proofs.Ending.{front_reaches, split_at}
+use Rattle.object_foresight.proofs.Ending.{prefix_reaches, split_at}
 use Rattle.object_foresight.proofs.StackKeeping.{open_covers_none}
 
 -- a value that is put in before some place and taken after it is held there
@@ -53,12 +53,12 @@ held_between reading init next book order is none legal w take_w put_w takes alo
     let value : get_or here at.0 w ≡ w = same_Some (get_or here at.0 w) w (sym (slice_get-get_or here at.0 w inside) ∙ at.1) in
     subst (λ (n : ℕ). Contains here n) value (Contains-get_or here at.0 w inside)
 
--- Where a put is hopeless while w is held, and precedes the take of w, it stands before the put of w.
+-- Where a put is infeasible while w is held, and precedes the take of w, it stands before the put of w.
 before_what_it_covers : (reading : Reading) (init : List ℕ) (next : List ℕ → ℕ → List ℕ × ℕ) (book : List Page) → IsStack reading next → reading.values init ≡ []
     → (w : ℕ) (first take_w put_w : Call) → TakesOut reading book take_w w → PutsInAlone reading book put_w w → Precedes book first take_w
-    → ((cut list : List ℕ) → Contains (reading.values list) w → IsHopeless init next book cut list first)
+    → ((cut list : List ℕ) → Contains (reading.values list) w → IsInfeasible init next book cut list first)
     → ((order : List Place) → IsLegalOrder init next book order → first ≡ put_w → ⊥) → MustComeFirst init next book first put_w
-before_what_it_covers reading init next book is none w first take_w put_w takes alone precedes hopeless apart order legal q stands =
+before_what_it_covers reading init next book is none w first take_w put_w takes alone precedes infeasible apart order legal q stands =
     let b = answered_step reading init next book order legal take_w (Some w) takes in
     let found = preceding_comes_first init next book first take_w precedes order legal b.0 b.2 in
     let p : ℕ = found.0 in
@@ -67,12 +67,12 @@ before_what_it_covers reading init next book is none w first take_w put_w takes 
       | inl before ↦ (p, before, found.2)
       | inr le ↦ elim (cases_lt q p) [
         | inl after ↦
-            let front = front_reaches init next book order legal p (omega (arith, slice_get_within order p place found.2.1)) in
-            let reached : list_after_run next init (take p (steps_of book order)) ≡ front.list = ap (list_after_run next init) (take-map (step_at book) p order) ∙ front.reaches.reached in
+            let prefix = prefix_reaches init next book order legal p (omega (arith, slice_get_within order p place found.2.1)) in
+            let reached : list_after_run next init (take p (steps_of book order)) ≡ prefix.list = ap (list_after_run next init) (take-map (step_at book) p order) ∙ prefix.reaches.reached in
             let held = subst (λ (list : List ℕ). Contains (reading.values list) w) reached
             (held_between reading init next book order is none legal w take_w put_w takes alone q p b.0 stands b.2 after found.1) in
-            let here = subst (λ (c : Call). IsHopeless init next book front.cut front.list c) (sym found.2.2) (hopeless front.cut front.list held) in
-            absurd (here (take p order) (drop (suc p) order) place.reply front.reaches (subst (λ (o : List Place). IsLegalOrder init next book o) (split_at order p place found.2.1) legal))
+            let here = subst (λ (c : Call). IsInfeasible init next book prefix.cut prefix.list c) (sym found.2.2) (infeasible prefix.cut prefix.list held) in
+            absurd (here (take p order) (drop (suc p) order) place.reply prefix.reaches (subst (λ (o : List Place). IsLegalOrder init next book o) (split_at order p place found.2.1) legal))
         | inr ge ↦
             let same : p ≡ q = omega arith in
             let one : place ≡ stands.0 = same_Some place stands.0 (sym found.2.1 ∙ (ap (slice_get order) same ∙ stands.1)) in

@@ -4,7 +4,7 @@ use Rattle.book_base.specs.declared.call.Call.{Call}
 use Rattle.book_base.specs.declared.call.Record.{Record}
 use Rattle.book_base.specs.Book.{Page, IsCall, record_of, Precedes}
 use Rattle.book_base.specs.Order.{HasLegalOrder}
-use Rattle.book_base.specs.Foresight.{HasEarly, IsHopeless, MustComeFirst}
+use Rattle.book_base.specs.Foresight.{HasEarly, IsInfeasible, MustComeFirst}
 use Rattle.history_rules.specs.Container.{Reading, IsContainer}
 use Rattle.history_rules.specs.Calls.{PutsIn, PutsInAlone, TakesOut, FindsNothing, IsNeverTaken}
 use Rattle.object_foresight.specs.declared.deal.Deal.{Deal}
@@ -95,7 +95,7 @@ pub record AreLinks (reading : Reading) (book : List Page) (discipline : Discipl
   pub each : (call : Call) → IsLink reading book discipline call (link_at links call)
   pub refused : links.is_refused ≡ true → HasNoneOfAny reading book
 
--- the same, with the rows of so many callers
+-- the same, with the rows of this many callers
 abbrev pub AreLinksTo : Reading → List Page → Discipline → ℕ → Links → Type 0
 AreLinksTo reading book discipline callers links = (length links.rows.items ≡ callers) × AreLinks reading book discipline links
 
@@ -109,7 +109,7 @@ AreLinksOf book links = (call other : Call) → ((link_at links call).before ≡
 pub record AreFollowed (init : List ℕ) (next : List ℕ → ℕ → List ℕ × ℕ) (book : List Page) (links : Links) (ranks : List (ℕ × ℕ)) : Type 0 where
   pub order : (a b first put : Call) → Precedes book a b → (link_at links a).before ≡ Some first → (link_at links b).after ≡ Some put → MustComeFirst init next book first put
   pub covers : (a b put : Call) → Precedes book a b → (link_at links b).after ≡ Some put
-      → (cut list : List ℕ) → HasEarly ranks list (link_at links a).reach → IsHopeless init next book cut list put
+      → (cut list : List ℕ) → HasEarly ranks list (link_at links a).reach → IsInfeasible init next book cut list put
 
 -- What links say of puts of what no answered call takes holds of an object: what leads from a call
 -- that precedes each unanswered take stands before them, and they are infeasible at a list with a
@@ -117,4 +117,4 @@ pub record AreFollowed (init : List ℕ) (next : List ℕ → ℕ → List ℕ �
 pub record AreKept (init : List ℕ) (next : List ℕ → ℕ → List ℕ × ℕ) (book : List Page) (links : Links) (open_from : List ℕ) (ranks : List (ℕ × ℕ)) : Type 0 where
   pub order : (a first put : Call) → IsEarly book open_from a → (link_at links a).before ≡ Some first → (link_at links put).is_kept ≡ true → MustComeFirst init next book first put
   pub covers : (a put : Call) → IsEarly book open_from a → (link_at links put).is_kept ≡ true
-      → (cut list : List ℕ) → HasEarly ranks list (link_at links a).reach → IsHopeless init next book cut list put
+      → (cut list : List ℕ) → HasEarly ranks list (link_at links a).reach → IsInfeasible init next book cut list put

@@ -27,7 +27,7 @@ no_use = record { puts = 0; put = record { caller = 0; number = 0 }; takes = 0 }
 abbrev pub use_of : List (ℕ × Use) → ℕ → Use
 use_of uses v = unwrap_or (lookup (is_at (nat_cmp v)) uses) no_use
 
--- Of the calls that were read, so many put a value in and so many take it out, as listed.
+-- Of the calls that were read, this many put a value in and this many take it out, as listed.
 pub record IsCounted (deal : Call → Deal) (read : Call → Type 0) (v : ℕ) (used : Use) : Type 0 where
   -- the calls that put it in
   pub putters : List Call

@@ -3,7 +3,7 @@ ghost use Rattle.book_base.specs.declared.call.Call.{Call};
 ghost use Rattle.book_base.specs.declared.TheConstants.{MAX_CALLS};
 ghost use Rattle.book_base.specs.Book.{Page, IsCall, IsSmall, IsValid};
 ghost use Rattle.book_base.specs.Order.{HasLegalOrder};
-ghost use Rattle.book_base.specs.Foresight.{HasBar, HasEarly, IsForesight, IsHopeless, MustComeFirst};
+ghost use Rattle.book_base.specs.Foresight.{HasBar, HasEarly, IsForesight, IsInfeasible, MustComeFirst};
 ghost use Rattle.object_foresight.specs.Links.{AreLinksOf, AreFollowed, AreKept};
 ghost use Rattle.object_foresight.specs.Uses.{IsEarly};
 ghost use Rattle.object_foresight.specs.Pasts.{last_held, IsPast};
@@ -65,7 +65,7 @@ fn follow_caller(book: &Book, links: &Links, known: &mut Foresight, caller: u32)
         let call = Call { caller, number };
         past.pass_preceding(book, links, call);
         if let Some(put) = links.at(call).after {
-            hold_behind(known, put, &past);
+            hold_after(known, put, &past);
         }
     }
 }
@@ -106,7 +106,7 @@ fn keep_caller(
     for number in 0..book.calls(caller) {
         let put = Call { caller, number };
         if links.at(put).is_kept {
-            hold_behind(known, put, past);
+            hold_after(known, put, past);
         }
     }
 }
@@ -134,14 +134,14 @@ fn refuse_caller(book: &Book, known: &mut Foresight, caller: u32)
 }
 
 // Holds back a put by a floor, and below a limit.
-fn hold_behind(known: &mut Foresight, put: Call, past: &Past)
+fn hold_after(known: &mut Foresight, put: Call, past: &Past)
     requires bar { HasBar known.old put }
     requires few { (i : ℕ) → slice_index past.now.floor i ≤ MAX_CALLS }
     ensures bars { (c : Call) → HasBar known.old c → HasBar known.new c }
     ensures ranks { known.new.ranks ≡ known.old.ranks }
     ensures right { (init : List ℕ) (next : List ℕ → ℕ → List ℕ × ℕ) (book : List Page) → IsForesight init next book known.old
         → ((i : ℕ) → 0 < slice_index past.now.floor i → MustComeFirst init next book (last_held past.now.floor i) put)
-        → ((cut list : List ℕ) → HasEarly known.old.ranks list past.now.limit → IsHopeless init next book cut list put)
+        → ((cut list : List ℕ) → HasEarly known.old.ranks list past.now.limit → IsInfeasible init next book cut list put)
         → IsForesight init next book known.new }
 {
     for caller in 0..past.floor.n() {

@@ -40,16 +40,16 @@ length-cons_option : (o : Option ℕ) (xs : List ℕ) → length (cons_option o 
 length-cons_option None xs = omega arith
 length-cons_option (Some v) xs = omega arith
 
--- Above a value there are so many values before the steps, and so many after them; it isn't given out.
+-- Above a value there are this many values before the steps, and this many after them; it isn't given out.
 record Covers (k n : ℕ) (steps : List (ℕ × ℕ)) : Type 0 where
   pub all : k + puts steps ≡ takes steps + n
-  pub first : (front rest : List (ℕ × ℕ)) → steps ≡ front ++ rest → takes front ≤ k + puts front
+  pub first : (prefix rest : List (ℕ × ℕ)) → steps ≡ prefix ++ rest → takes prefix ≤ k + puts prefix
 
 covers_none : (k : ℕ) → Covers k k []
 covers_none k = record { all = omega arith; first = first } where
-  first : (front rest : List (ℕ × ℕ)) → [] ≡ front ++ rest → takes front ≤ k + puts front
+  first : (prefix rest : List (ℕ × ℕ)) → [] ≡ prefix ++ rest → takes prefix ≤ k + puts prefix
   first [] rest e = omega arith
-  first (step ∷ front) rest e = absurd cc
+  first (step ∷ prefix) rest e = absurd cc
 
 same_head : (a b : ℕ × ℕ) (xs ys : List (ℕ × ℕ)) → a ∷ xs ≡ b ∷ ys → (a ≡ b) × (xs ≡ ys)
 same_head a b xs ys e = (cc, cc)
@@ -59,13 +59,13 @@ covers_step k m n step steps e h = record {
   all = omega (arith, h.all, length-cons_option (put_by stack_reading step) (put_in stack_reading steps), length-cons_option (taken_by stack_reading step) (given_out stack_reading steps));
   first = first;
 } where
-  first : (front rest : List (ℕ × ℕ)) → step ∷ steps ≡ front ++ rest → takes front ≤ k + puts front
+  first : (prefix rest : List (ℕ × ℕ)) → step ∷ steps ≡ prefix ++ rest → takes prefix ≤ k + puts prefix
   first [] rest e = omega arith
-  first (other ∷ front) rest same =
-      let parts = same_head step other steps (front ++ rest) same in
+  first (other ∷ prefix) rest same =
+      let parts = same_head step other steps (prefix ++ rest) same in
       let put = ap (λ (s : ℕ × ℕ). present (put_by stack_reading s)) parts.0 in
       let taken = ap (λ (s : ℕ × ℕ). present (taken_by stack_reading s)) parts.0 in
-      omega (arith, put, taken, h.first front rest parts.1, length-cons_option (put_by stack_reading other) (put_in stack_reading front), length-cons_option (taken_by stack_reading other) (given_out stack_reading front))
+      omega (arith, put, taken, h.first prefix rest parts.1, length-cons_option (put_by stack_reading other) (put_in stack_reading prefix), length-cons_option (taken_by stack_reading other) (given_out stack_reading prefix))
 
 -- what a step of a run does to the values
 data Does (list : List ℕ) (step : ℕ × ℕ) : Type 0 where
@@ -97,7 +97,7 @@ covers_all list (step ∷ steps) run =
       | DoesNothing put taken is ↦ covers_step (length (values list)) (length (values after)) n step steps (omega (arith, ap present put, ap present taken, ap length is)) rest
     ]
 
--- a value is put in among the steps, and so many values come to be above it
+-- a value is put in among the steps, and this many values come to be above it
 record IsPut (steps : List (ℕ × ℕ)) (v n : ℕ) : Type 0 where
   pub before : List (ℕ × ℕ)
   pub push : ℕ × ℕ
@@ -146,7 +146,7 @@ found list (step ∷ steps) run above v below e = elim (found (next list step.0)
       inr (top, sym is ∙ at, covers_step (length top) (length top) (length above) step steps (omega (arith, ap present put, ap present taken)) covers)
 
 even : (steps : List (ℕ × ℕ)) → Covers 0 0 steps → AreEven steps
-even steps h = record { all = omega (arith, h.all); first = λ front rest e. omega (arith, h.first front rest e) }
+even steps h = record { all = omega (arith, h.all); first = λ prefix rest e. omega (arith, h.first prefix rest e) }
 
 pub after_push : (list : List ℕ) (word : ℕ) → is_operation_of word words.push ≡ true → next list word ≡ (list ++ argument_of word ∷ [], reply_done)
 after_push list word is = ap (stack_after list) (cond-true (is_operation_of word words.push) _ _ is)

@@ -7,7 +7,7 @@ use Rattle.seq_objects.specs.Words.{Entry, is_operation_of, has_arguments, code_
 use Rattle.seq_objects.specs.Replies.{reply_value, is_value}
 use Rattle.seq_objects.specs.Readings.{value_of, shown_value}
 
--- a step is replied what the object gives behind the steps before it
+-- a step is replied what the object gives after the steps before it
 pub replied : (next : List ℕ → ℕ → List ℕ × ℕ) (list : List ℕ) (before rest : List (ℕ × ℕ)) (step : ℕ × ℕ) → IsRunFrom next list (before ++ step ∷ rest)
     → (next (list_after_run next list before) step.0).1 ≡ step.1
 replied next list [] rest step run = run.0

@@ -36,7 +36,7 @@ DequeuesGiveTheOldest = (before rest : List (ℕ × ℕ)) (step : ℕ × ℕ) �
 -- The steps give out just what they put in, of the values of a stack: as many values, and in no first part of them more.
 pub record AreEven (steps : List (ℕ × ℕ)) : Type 0 where
   pub all : length (given_out stack_reading steps) ≡ length (put_in stack_reading steps)
-  pub first : (front rest : List (ℕ × ℕ)) → steps ≡ front ++ rest → length (given_out stack_reading front) ≤ length (put_in stack_reading front)
+  pub first : (prefix rest : List (ℕ × ℕ)) → steps ≡ prefix ++ rest → length (given_out stack_reading prefix) ≤ length (put_in stack_reading prefix)
 
 -- The last value put in that isn't out: what was put in after it is out.
 pub record IsNewest (steps : List (ℕ × ℕ)) (value : ℕ) : Type 0 where

@@ -107,7 +107,7 @@ pub fn runs_of_a_pqueue()
     ensures twice { ¬ IsRunOf kinds.Pqueue ((operation words.insert 2, reply_done)
         ∷ (operation words.min 0, reply_value 2) ∷ (operation words.min 0, reply_value 2) ∷ []) }
     // A value that was put in twice isn't gone after it came out once.
-    ensures left_behind { ¬ IsRunOf kinds.Pqueue ((operation words.insert 2, reply_done)
+    ensures left_after { ¬ IsRunOf kinds.Pqueue ((operation words.insert 2, reply_done)
         ∷ (operation words.insert 2, reply_done) ∷ (operation words.min 0, reply_value 2)
         ∷ (operation words.min 0, reply_none) ∷ []) }
 {}

@@ -39,7 +39,7 @@ asked s w i kept low asking =
       replies = omega (arith, replies);
     }
 
--- What an object step has that may happen.
+-- What an object step has that is enabled.
 pub record IsObjectStep (s : Shape) (w : World) (who : ℕ) (step : Object_step) : Type 0 where
   pub caller : who < s.callers
   pub call : IsAsked s (local_of w who)
@@ -63,7 +63,7 @@ object_step s w who step kept may =
       found = eqb-true step.old (object_word s w step.place) p.loaded;
     }
 
--- What a return has that may happen.
+-- What a return has that is enabled.
 pub record IsReturn (s : Shape) (w : World) (i reply : ℕ) : Type 0 where
   pub caller : i < s.callers
   pub call : IsAsked s (local_of w i)

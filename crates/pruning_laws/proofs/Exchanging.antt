@@ -16,7 +16,7 @@ use Rattle.book_laws.proofs.LegalOrder.{raised_same, raised_other, raised_more, 
 use Rattle.pruning_laws.specs.Twins.{DoesTheSame, IsTwin, TwinServes}
 use Rattle.pruning_laws.proofs.Opening.{unanswered-precedes, unanswered-last, held_without}
 
--- What is known of a call a that stands in place of a call b: both may come next, with one operation; where a is answered, the reply is
+-- What is known of a call a that stands instead of a call b: both may come next, with one operation; where a is answered, the reply is
 -- its own and b's. What b precedes, a precedes too, or all answered calls do, and it is of b's caller.
 record Exchanged (book : List Page) (cut : List ℕ) (a b : Call) : Type 0 where
   apart : a.caller ≢ b.caller

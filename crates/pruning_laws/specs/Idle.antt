@@ -6,7 +6,7 @@ use Rattle.book_base.specs.Order.{call_at}
 use Rattle.book_base.specs.Next.{list_after, Continues}
 use Rattle.book_base.specs.Pruning.{HasOneOpen}
 
--- In a book with one open, where an order goes on with an unanswered call that leaves the list, one goes on without it that is no longer
+-- In a book with one open, where an order goes on with an unanswered read-only call, one goes on without it that is no longer
 -- than what follows it.
 abbrev pub IdleMayBeLeftOut : Type 0
 IdleMayBeLeftOut = (book : List Page) (next : List ℕ → ℕ → List ℕ × ℕ) (cut list : List ℕ) (place : Place) (rest : List Place)

@@ -133,7 +133,7 @@ find_earliest book (call ∷ calls) =
           ]
     ]
 
--- the calls behind the first keep precedence, and views hold them
+-- the calls after the first keep precedence, and views hold them
 keep-rest : (book : List Page) (call : Call) (calls : List Call) → KeepPrecedence book (call ∷ calls) → KeepPrecedence book calls
 keep-rest book call calls keep j k a b at bt before = let less : suc j < suc k = keep (suc j) (suc k) a b at bt before in omega arith
 

@@ -15,7 +15,7 @@ use Rattle.queue_pairs.specs.declared.table.Deal.{Deal}
 use Rattle.queue_pairs.specs.declared.table.Deal.TheVariants as did
 use Rattle.queue_pairs.specs.declared.table.TimedCall.{TimedCall}
 use Rattle.queue_pairs.specs.Tables.{known_deal, is_find, IsTimed, IsRowTo, AreRowsTo, AreFindsTo}
-use Rattle.queue_pairs.specs.Fronts.{IsLeastOf}
+use Rattle.queue_pairs.specs.NextEntries.{IsLeastOf}
 
 -- ---- rows
 

@@ -4,4 +4,4 @@ pub mod PairLaws
 pub mod Serving
 pub mod Spans
 pub mod Tables
-pub mod Fronts
+pub mod NextEntries

@@ -1,4 +1,4 @@
--- Pairs: what a queue's book has in place of an order. The k-th put and the k-th take of an order are a pair, since the first value that
+-- Pairs: what a queue's book has instead of an order. The k-th put and the k-th take of an order are a pair, since the first value that
 -- is put in is the first that is taken out.
 use Rattle.std.specs.Prelude.{◌≡◌, ℕ, ◌+◌, ◌<◌, ◌≤◌, ◌⊎◌, List, [], ◌∷◌, length, replicate, Some, slice_index, slice_set}
 use Rattle.book_base.specs.declared.call.Call.{Call}
@@ -96,7 +96,7 @@ abbrev pub AreSteps : Reading → List Page → Paired → List Step → Type 0
 AreSteps reading book s [] = IsWhole reading book s
 AreSteps reading book s (step ∷ steps) = MayStep reading book s step × AreSteps reading book (after s step) steps
 
--- Nothing stands, of so many callers.
+-- Nothing stands, of this many callers.
 abbrev pub none_paired : ℕ → Paired
 none_paired callers = record {
   puts = replicate callers 0;

@@ -2,8 +2,8 @@
 //! after another, with no list and no order.
 #![tactic(auto)]
 
-mod front;
 pub mod laws;
+mod next_entries;
 mod order;
 mod search;
 mod spans;
@@ -13,7 +13,7 @@ mod table;
 mod walk;
 
 use book_base::{MAX_CALLERS, MAX_CALLS};
-pub use front::{Front, TimedPair};
+pub use next_entries::{NextEntries, TimedPair};
 pub use order::{calls_in_order, places_of};
 pub use search::{Found, PairSearch};
 pub use standing::Standing;

@@ -1,5 +1,5 @@
 use crate::NEVER;
-use crate::front::{Front, TimedPair};
+use crate::next_entries::{NextEntries, TimedPair};
 use crate::standing::Standing;
 use crate::surplus::Surplus;
 use crate::table::{Deal, Table, TimedCall};
@@ -50,11 +50,11 @@ impl PairSearch<'_> {
     pub fn run(&self) -> Result<Found, NoMemory> {
         let mut walk = Walk::new(self.alloc);
         let _is_new = walk.entered.insert(walk.here)?;
-        let front = Front::of(self.table, &walk.here);
-        if front.is_whole(&walk.here) {
+        let next_entries = NextEntries::of(self.table, &walk.here);
+        if next_entries.is_whole(&walk.here) {
             return Ok(Found::Pairs(walk));
         }
-        walk.choices = self.choices(&walk, &walk.here, &front)?;
+        walk.choices = self.choices(&walk, &walk.here, &next_entries)?;
         for _ in 0..self.steps {
             match walk.choices.pop() {
                 Some(choice) => {
@@ -84,10 +84,10 @@ impl PairSearch<'_> {
         {
             walk.spent.push(value)?;
         }
-        let front = Front::of(self.table, &choice.to);
-        let choices = self.choices(walk, &choice.to, &front)?;
+        let next_entries = NextEntries::of(self.table, &choice.to);
+        let choices = self.choices(walk, &choice.to, &next_entries)?;
         walk.enter(choice, choices)?;
-        Ok(front.is_whole(&choice.to))
+        Ok(next_entries.is_whole(&choice.to))
     }
 
     // What may be tried where these stand, with the best choice last: the one whose take is due first.
@@ -95,10 +95,10 @@ impl PairSearch<'_> {
         &self,
         walk: &Walk,
         standing: &Standing,
-        front: &Front,
+        next_entries: &NextEntries,
     ) -> Result<Vec<Choice>, NoMemory> {
         let mut choices = Vec::new(self.alloc);
-        if let Some(choice) = finds_next(standing, front) {
+        if let Some(choice) = finds_next(standing, next_entries) {
             choices.push(choice)?;
             if choice.to.take_moment <= standing.take_moment {
                 return Ok(choices);
@@ -106,18 +106,18 @@ impl PairSearch<'_> {
         }
         let mut open: Option<TimedCall> = None;
         for caller in 0..MAX_CALLERS {
-            if let Some(take) = front.takes[caller]
+            if let Some(take) = next_entries.takes[caller]
                 && take.is_held()
             {
                 if take.is_answered() {
-                    self.add_pairs(walk, standing, front, take, &mut choices)?;
+                    self.add_pairs(walk, standing, next_entries, take, &mut choices)?;
                 } else {
                     open = earlier_of(open, take);
                 }
             }
         }
         if let Some(take) = open {
-            self.add_pairs(walk, standing, front, take, &mut choices)?;
+            self.add_pairs(walk, standing, next_entries, take, &mut choices)?;
         }
         choices.sort_by_key(|choice| Reverse(choice.turn))?;
         Ok(choices)
@@ -128,15 +128,15 @@ impl PairSearch<'_> {
         &self,
         walk: &Walk,
         standing: &Standing,
-        front: &Front,
+        next_entries: &NextEntries,
         take: TimedCall,
         choices: &mut Vec<Choice>,
     ) -> Result<(), NoMemory> {
         for caller in 0..MAX_CALLERS {
-            if let Some(put) = front.puts[caller]
+            if let Some(put) = next_entries.puts[caller]
                 && put.is_held()
                 && self.may_pair(walk, put, take)
-                && let Some(choice) = pair_next(standing, front, put, take)
+                && let Some(choice) = pair_next(standing, next_entries, put, take)
                 && !choices.iter().any(|other| serves(other, &choice))
             {
                 choices.push(choice)?;
@@ -162,16 +162,16 @@ impl PairSearch<'_> {
 }
 
 // The takes that find nothing and may stand next, at the earliest moment.
-fn finds_next(standing: &Standing, front: &Front) -> Option<Choice> {
-    if front.find_first == NEVER {
+fn finds_next(standing: &Standing, next_entries: &NextEntries) -> Option<Choice> {
+    if next_entries.find_first == NEVER {
         return None;
     }
-    let moment = standing.take_moment.max(front.find_first);
-    if front.is_past(moment, moment) {
+    let moment = standing.take_moment.max(next_entries.find_first);
+    if next_entries.is_past(moment, moment) {
         return None;
     }
     Some(Choice {
-        turn: front.find_limit,
+        turn: next_entries.find_limit,
         step: Step::Finds(standing.found, moment),
         to: standing.with_finds(moment),
     })
@@ -180,12 +180,12 @@ fn finds_next(standing: &Standing, front: &Front) -> Option<Choice> {
 // The choice of a pair, at the earliest moments that it may have.
 fn pair_next(
     standing: &Standing,
-    front: &Front,
+    next_entries: &NextEntries,
     put: TimedCall,
     take: TimedCall,
 ) -> Option<Choice> {
     let pair = TimedPair::earliest(standing, put, take);
-    if front.is_past(pair.put_moment, pair.take_moment) {
+    if next_entries.is_past(pair.put_moment, pair.take_moment) {
         return None;
     }
     Some(Choice {

@@ -1,9 +1,9 @@
 ghost use Rattle.std.specs.Prelude.{◌≡◌, ◌<◌, IsTrue, ◌+◌, slice_set};
 ghost use Rattle.book_base.specs.declared.TheConstants.{MAX_CALLERS, MAX_CALLS};
-ghost use Rattle.queue_pairs.specs.Fronts.{paired, pair_of};
+ghost use Rattle.queue_pairs.specs.NextEntries.{paired, pair_of};
 ghost use Rattle.queue_pairs.specs.Pairs.{Pairs, FindNothing, after, none_paired};
 
-use crate::front::TimedPair;
+use crate::next_entries::TimedPair;
 use book_base::{Call, MAX_CALLERS, MAX_CALLS};
 
 /// What stands of a queue's book: of each caller the puts and the takes below a number, and the takes that find

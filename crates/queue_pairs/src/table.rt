@@ -3,7 +3,7 @@ ghost use Rattle.book_base.specs.declared.TheConstants.{MAX_CALLERS};
 ghost use Rattle.book_base.specs.Book.{IsCall, calls_of};
 ghost use Rattle.object_foresight.specs.Deals.{deal_of, take_of};
 ghost use Rattle.queue_pairs.specs.Tables.{known_deal, is_find, is_put, is_take, put_at, rows_of, take_at, timed_at, IsTimed, IsRowTo, AreFindsTo, IsTable, IsFirstFrom};
-ghost use Rattle.queue_pairs.specs.Fronts.{first_after, last_after, IsLeastOf};
+ghost use Rattle.queue_pairs.specs.NextEntries.{first_after, last_after, IsLeastOf};
 
 use crate::NEVER;
 use crate::spans::span_of;

@@ -1,4 +1,4 @@
-use crate::front::TimedPair;
+use crate::next_entries::TimedPair;
 use crate::standing::Standing;
 use book_base::NoMemory;
 use indexmap::IndexSet;

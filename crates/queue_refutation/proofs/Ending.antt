@@ -13,8 +13,8 @@ use Rattle.book_base.proofs.GrowthLemmas.{below_calls}
 use Rattle.history_rules.specs.Container.{Reading}
 use Rattle.object_foresight.specs.Deals.{deal_of}
 use Rattle.queue_pairs.specs.declared.TheConstants.{NEVER}
-use Rattle.queue_pairs.specs.declared.front.Front.{Front}
-use Rattle.queue_pairs.specs.declared.front.TimedPair.{TimedPair}
+use Rattle.queue_pairs.specs.declared.next_entries.NextEntries.{NextEntries}
+use Rattle.queue_pairs.specs.declared.next_entries.TimedPair.{TimedPair}
 use Rattle.queue_pairs.specs.declared.standing.Standing.{Standing}
 use Rattle.queue_pairs.specs.declared.table.Deal.TheVariants as did
 use Rattle.queue_pairs.specs.declared.table.Table.{Table}
@@ -23,7 +23,7 @@ use Rattle.queue_pairs.specs.Moments.{moment_of}
 use Rattle.queue_pairs.specs.Pairs.{Paired, Pair, MayPair, IsWhole, none_paired}
 use Rattle.queue_pairs.specs.Serving.{IsDueNoLater}
 use Rattle.queue_pairs.specs.Tables.{known_deal, put_at, take_at, timed_at, IsTimed, IsTable}
-use Rattle.queue_pairs.specs.Fronts.{paired, pair_of, IsFront, IsNextEntry, IsNextPair, IsPast, Serves}
+use Rattle.queue_pairs.specs.NextEntries.{paired, pair_of, AreNextEntries, IsNextEntry, IsNextPair, IsPast, Serves}
 use Rattle.queue_pairs.proofs.Serving.{held_later}
 use Rattle.queue_refutation.specs.Closed.{IsOneOf, ServesFor, AreClosed, IsClosedAt}
 use Rattle.queue_refutation.specs.DeadEnds.{listed, HasNoOrder, Lead, IsOf, IsAny, FindsLeadOn, StandAtOnce, ClosedAt, IsServed}
@@ -124,16 +124,16 @@ lead-served table standings s mine own served reading book pair is of may =
     )
 
 -- a pair with which some call is overdue
-pub lead-past : (table : Table) (standings : List Paired) (s : Standing) (front : Front)
-    (mine : TimedPair) → IsFront table s front → IsNextPair table s mine
+pub lead-past : (table : Table) (standings : List Paired) (s : Standing) (next_entries : NextEntries)
+    (mine : TimedPair) → AreNextEntries table s next_entries → IsNextPair table s mine
     → mine.put_moment ≤ NEVER → mine.take_moment ≤ NEVER
-    → IsPast front mine.put_moment mine.take_moment
+    → IsPast next_entries mine.put_moment mine.take_moment
     → Lead (IsOf mine.put.call mine.take.call) table standings s
-lead-past table standings s front mine h own few_put few_take past reading book pair is of may =
+lead-past table standings s next_entries mine h own few_put few_take past reading book pair is of may =
     inl (
       pair_of mine,
       serves-for reading book table s mine mine pair is own own (serves-itself mine) of may,
-      inr (is-overdue reading book table s front mine.put_moment mine.take_moment is h few_put few_take past),
+      inr (is-overdue reading book table s next_entries mine.put_moment mine.take_moment is h few_put few_take past),
     )
 
 -- a pair of which neither call is answered

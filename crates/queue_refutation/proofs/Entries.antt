@@ -21,7 +21,7 @@ use Rattle.queue_pairs.specs.declared.table.TimedCall.{TimedCall}
 use Rattle.queue_pairs.specs.Moments.{moment_of, IsHeldBy}
 use Rattle.queue_pairs.specs.Pairs.{Pair, IsPut, IsTake, IsNext, MayPair}
 use Rattle.queue_pairs.specs.Tables.{known_deal, is_put, is_take, only_by, rows_of, timed_at, put_at, take_at, IsTimed, IsTable, IsFirstFrom}
-use Rattle.queue_pairs.specs.Fronts.{paired, IsNextEntry}
+use Rattle.queue_pairs.specs.NextEntries.{paired, IsNextEntry}
 use Rattle.queue_pairs.proofs.Serving.{next-same}
 
 -- ---- the entry of a call

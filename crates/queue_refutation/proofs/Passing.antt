@@ -1,4 +1,4 @@
--- What the latest moments of a front say of the calls that don't stand.
+-- What the latest moments of the next entries say of the calls that don't stand.
 use Rattle.std.proofs.Common.{◌≡◌, ℕ, ◌<◌, ◌≤◌, ◌⊎◌, ◌∙◌, cond, List, length, get_or, max, Option, Some, None, refl, sym, ap, subst, inl, inr, slice_get, arith}
 use Rattle.std.specs.Prelude.{nat_lt}
 use Rattle.std.proofs.lemmas.Bool.{cases_lt}
@@ -16,14 +16,14 @@ use Rattle.object_foresight.specs.declared.deal.Deal.TheVariants as deals
 use Rattle.object_foresight.specs.Deals.{deal_of}
 use Rattle.object_foresight.proofs.Dealing.{call_by_deal}
 use Rattle.queue_pairs.specs.declared.TheConstants.{NEVER}
-use Rattle.queue_pairs.specs.declared.front.Front.{Front}
+use Rattle.queue_pairs.specs.declared.next_entries.NextEntries.{NextEntries}
 use Rattle.queue_pairs.specs.declared.standing.Standing.{Standing}
 use Rattle.queue_pairs.specs.declared.table.Table.{Table}
 use Rattle.queue_pairs.specs.declared.table.TimedCall.{TimedCall}
 use Rattle.queue_pairs.specs.Moments.{moment_of, IsHeldBy}
 use Rattle.queue_pairs.specs.Pairs.{Paired, FindNothing, IsPut, MayFind, IsWhole, after}
 use Rattle.queue_pairs.specs.Tables.{is_put, put_at, take_at, IsTimed, IsTable, IsFirstFrom}
-use Rattle.queue_pairs.specs.Fronts.{paired, last_of, first_after, last_after, IsLeastOf, IsFront, IsPast}
+use Rattle.queue_pairs.specs.NextEntries.{paired, last_of, first_after, last_after, IsLeastOf, AreNextEntries, IsPast}
 use Rattle.queue_pairs.proofs.Serving.{held_later, next-least}
 use Rattle.queue_pairs.proofs.Spanning.{moments-grow}
 use Rattle.queue_pairs.proofs.Walking.{open_is_unanswered}
@@ -75,11 +75,11 @@ due-there found (Some t) m is few = elim (first-cases found t.span.first t.span.
 
 -- some put is due before a moment that is past the latest one of puts
 pub put-past : (reading : Reading) (book : List Page) (table : Table) (s : Standing)
-    (front : Front) (m : ℕ) → IsTable reading book table → IsFront table s front
-    → front.put_limit < m → m ≤ NEVER → HasPutBefore reading book (paired s) m
-put-past reading book table s front m is h past few =
-    let there = least-there _ MAX_CALLERS front.put_limit h.put_limit (omega arith) in
-    let entry = last-there (get_or front.puts there.0 None) front.put_limit there.2 (omega arith) in
+    (next_entries : NextEntries) (m : ℕ) → IsTable reading book table → AreNextEntries table s next_entries
+    → next_entries.put_limit < m → m ≤ NEVER → HasPutBefore reading book (paired s) m
+put-past reading book table s next_entries m is h past few =
+    let there = least-there _ MAX_CALLERS next_entries.put_limit h.put_limit (omega arith) in
+    let entry = last-there (get_or next_entries.puts there.0 None) next_entries.put_limit there.2 (omega arith) in
     let next = next-put reading book table s.puts there.0 entry.0 is
     (subst (IsFirstFrom (λ n. put_at table there.0 n) (get_or s.puts there.0 0)) entry.1 (h.puts there.0 there.1)) in
     let answered = answered-last reading book entry.0 next.timed (omega (arith, entry.2)) in
@@ -87,11 +87,11 @@ put-past reading book table s front m is h past few =
 
 -- some take is
 pub take-past : (reading : Reading) (book : List Page) (table : Table) (s : Standing)
-    (front : Front) (m : ℕ) → IsTable reading book table → IsFront table s front
-    → front.take_limit < m → m ≤ NEVER → HasTakeBefore reading book (paired s) m
-take-past reading book table s front m is h past few =
-    let there = least-there _ MAX_CALLERS front.take_limit h.take_limit (omega arith) in
-    let entry = last-there (get_or front.takes there.0 None) front.take_limit there.2 (omega arith) in
+    (next_entries : NextEntries) (m : ℕ) → IsTable reading book table → AreNextEntries table s next_entries
+    → next_entries.take_limit < m → m ≤ NEVER → HasTakeBefore reading book (paired s) m
+take-past reading book table s next_entries m is h past few =
+    let there = least-there _ MAX_CALLERS next_entries.take_limit h.take_limit (omega arith) in
+    let entry = last-there (get_or next_entries.takes there.0 None) next_entries.take_limit there.2 (omega arith) in
     let next = next-take reading book table s.takes there.0 entry.0 is
     (subst (IsFirstFrom (λ n. take_at table there.0 n) (get_or s.takes there.0 0)) entry.1 (h.takes there.0 there.1)) in
     let answered = answered-last reading book entry.0 next.timed (omega (arith, entry.2)) in
@@ -119,12 +119,12 @@ out-later reading book t found timed later held =
 
 -- some take that finds nothing is
 pub find-past : (reading : Reading) (book : List Page) (table : Table) (s : Standing)
-    (front : Front) (m : ℕ) → IsTable reading book table → IsFront table s front
-    → front.find_limit < m → m ≤ NEVER → HasFindBefore reading book (paired s) m
-find-past reading book table s front m is h past few =
+    (next_entries : NextEntries) (m : ℕ) → IsTable reading book table → AreNextEntries table s next_entries
+    → next_entries.find_limit < m → m ≤ NEVER → HasFindBefore reading book (paired s) m
+find-past reading book table s next_entries m is h past few =
     let finds : List TimedCall = table.finds.items in
-    let there = least-there _ (length finds) front.find_limit h.find_limit (omega arith) in
-    let entry = due-there s.found (slice_get finds there.0) front.find_limit there.2 (omega arith) in
+    let there = least-there _ (length finds) next_entries.find_limit h.find_limit (omega arith) in
+    let entry = due-there s.found (slice_get finds there.0) next_entries.find_limit there.2 (omega arith) in
     let right = is.finds.right there.0 entry.0 entry.1 in
     let answered = answered-last reading book entry.0 right.0 (omega (arith, entry.3)) in (
       entry.0.call,
@@ -136,21 +136,21 @@ find-past reading book table s front m is h past few =
     )
 
 pub is-overdue : (reading : Reading) (book : List Page) (table : Table) (s : Standing)
-    (front : Front) (m n : ℕ) → IsTable reading book table → IsFront table s front
-    → m ≤ NEVER → n ≤ NEVER → IsPast front m n → IsOverdue reading book (paired s) m n
-is-overdue reading book table s front m n is h few_m few_n past = elim past [
-  | inl put ↦ inl (put-past reading book table s front m is h put few_m)
+    (next_entries : NextEntries) (m n : ℕ) → IsTable reading book table → AreNextEntries table s next_entries
+    → m ≤ NEVER → n ≤ NEVER → IsPast next_entries m n → IsOverdue reading book (paired s) m n
+is-overdue reading book table s next_entries m n is h few_m few_n past = elim past [
+  | inl put ↦ inl (put-past reading book table s next_entries m is h put few_m)
   | inr others ↦ inr (elim others [
-    | inl take ↦ inl (take-past reading book table s front n is h take few_n)
-    | inr find ↦ inr (find-past reading book table s front n is h find few_n)
+    | inl take ↦ inl (take-past reading book table s next_entries n is h take few_n)
+    | inr find ↦ inr (find-past reading book table s next_entries n is h find few_n)
   ])
 ]
 
 -- no put is due before the latest moment of puts
 pub puts-in-time : (reading : Reading) (book : List Page) (table : Table) (s : Standing)
-    (front : Front) (m : ℕ) → IsTable reading book table → IsFront table s front
-    → m ≤ front.put_limit → HasPutBefore reading book (paired s) m → ⊥
-puts-in-time reading book table s front m is h low due =
+    (next_entries : NextEntries) (m : ℕ) → IsTable reading book table → AreNextEntries table s next_entries
+    → m ≤ next_entries.put_limit → HasPutBefore reading book (paired s) m → ⊥
+puts-in-time reading book table s next_entries m is h low due =
     let p : Call = due.0 in
     let r : Record = due.1 in
     let put = due.2 in
@@ -159,7 +159,7 @@ puts-in-time reading book table s front m is h low due =
     let early : moment_of r < m = due.5 in
     let call : IsCall book p = (puts-read reading book).call p put in
     let inside : p.caller < MAX_CALLERS = few-callers reading book table p is call in
-    let o : Option TimedCall = get_or front.puts p.caller None in
+    let o : Option TimedCall = get_or next_entries.puts p.caller None in
     elim (cases_Option o) [
       | inl none ↦
           none-is reading book table is_put (IsPut reading book) p.caller (get_or s.puts p.caller 0) p is (puts-read reading book)
@@ -169,7 +169,7 @@ puts-in-time reading book table s front m is h low due =
           let next = next-put reading book table s.puts p.caller t is
           (subst (IsFirstFrom (λ n. put_at table p.caller n) (get_or s.puts p.caller 0)) some.1 (h.puts p.caller inside)) in
           let before : t.call.number ≤ p.number = next-least (IsPut reading book) s.puts t.call p next.next put (sym next.caller) out in
-          let limit : front.put_limit ≤ last_of o = h.put_limit.least p.caller inside in
+          let limit : next_entries.put_limit ≤ last_of o = h.put_limit.least p.caller inside in
           let last : last_of o ≡ t.span.last = ap last_of some.1 in
           elim (cases_lt t.span.last NEVER) [
             | inl few ↦
@@ -189,26 +189,26 @@ puts-in-time reading book table s front m is h low due =
 -- ---- standings that aren't finished
 
 pub not-whole : (reading : Reading) (book : List Page) (table : Table) (s : Standing)
-    (front : Front) → IsTable reading book table → IsFront table s front → s.put_moment ≤ NEVER
-    → ((NEVER ≤ front.find_first) × (NEVER ≤ front.take_limit) × (s.put_moment ≤ front.put_limit) → ⊥)
+    (next_entries : NextEntries) → IsTable reading book table → AreNextEntries table s next_entries → s.put_moment ≤ NEVER
+    → ((NEVER ≤ next_entries.find_first) × (NEVER ≤ next_entries.take_limit) × (s.put_moment ≤ next_entries.put_limit) → ⊥)
     → IsWhole reading book (paired s) → ⊥
-not-whole reading book table s front is h few not whole =
-    elim (cases_lt front.find_first NEVER) [
+not-whole reading book table s next_entries is h few not whole =
+    elim (cases_lt next_entries.find_first NEVER) [
       | inl find ↦
           let finds : List TimedCall = table.finds.items in
-          let there = least-there _ (length finds) front.find_first h.find_first find in
-          let entry = first-there s.found (slice_get finds there.0) front.find_first there.2 find in
+          let there = least-there _ (length finds) next_entries.find_first h.find_first find in
+          let entry = first-there s.found (slice_get finds there.0) next_entries.find_first there.2 find in
           let right = is.finds.right there.0 entry.0 entry.1 in
           out-later reading book entry.0 s.found right.0 entry.2 (whole.found entry.0.call right.1)
       | inr no_find ↦
-          elim (cases_lt front.take_limit NEVER) [
+          elim (cases_lt next_entries.take_limit NEVER) [
             | inl take ↦
-                let due = take-past reading book table s front NEVER is h take (omega arith) in
+                let due = take-past reading book table s next_entries NEVER is h take (omega arith) in
                 omega (arith, whole.taken due.0 due.1 due.3, due.5)
             | inr no_take ↦
-                elim (cases_lt front.put_limit s.put_moment) [
+                elim (cases_lt next_entries.put_limit s.put_moment) [
                   | inl put ↦
-                      let due = put-past reading book table s front s.put_moment is h put few in
+                      let due = put-past reading book table s next_entries s.put_moment is h put few in
                       omega (arith, whole.kept due.0 due.1 due.2 due.3 due.4, due.5)
                   | inr in_time ↦ not (no_find, no_take, in_time)
                 ]
@@ -218,11 +218,11 @@ not-whole reading book table s front is h few not whole =
 -- ---- takes that find nothing
 
 -- all that find nothing at a moment stand, or the first moment of those that don't is no later
-finds-cases : (reading : Reading) (book : List Page) (table : Table) (s : Standing) (front : Front)
-    (e : Call) (m : ℕ) → IsTable reading book table → IsFront table s front
+finds-cases : (reading : Reading) (book : List Page) (table : Table) (s : Standing) (next_entries : NextEntries)
+    (e : Call) (m : ℕ) → IsTable reading book table → AreNextEntries table s next_entries
     → deal_of reading book e ≡ deals.FoundNothing → IsHeldBy book e m
-    → IsHeldBy book e s.found ⊎ ((front.find_first ≤ m) × (front.find_first < NEVER))
-finds-cases reading book table s front e m is h nothing held =
+    → IsHeldBy book e s.found ⊎ ((next_entries.find_first ≤ m) × (next_entries.find_first < NEVER))
+finds-cases reading book table s next_entries e m is h nothing held =
     let call : IsCall book e = call_by_deal reading book e (λ other. let wrong : deals.FoundNothing ≡ deals.Other = sym nothing ∙ other in cc) in
     let entry = is.finds.all e (inl (caller_from_call book e.caller e.number call)) nothing in
     let t : TimedCall = entry.1 in
@@ -231,7 +231,7 @@ finds-cases reading book table s front e m is h nothing held =
     elim (first-cases s.found t.span.first t.span.first) [
       | inl out ↦
           let inside : entry.0 < length table.finds.items = slice_get_within _ entry.0 t entry.2 in
-          let low : front.find_first ≤ first_after s.found (slice_get table.finds.items entry.0) = h.find_first.least entry.0 inside in
+          let low : next_entries.find_first ≤ first_after s.found (slice_get table.finds.items entry.0) = h.find_first.least entry.0 inside in
           let value : first_after s.found (slice_get table.finds.items entry.0) ≡ t.span.first
           = ap (first_after s.found) entry.2 ∙ out.1 in
           inr (omega (arith, low, value, first.0), omega (arith, low, value, first.1))
@@ -242,36 +242,36 @@ finds-cases reading book table s front e m is h nothing held =
 
 -- where none is left, none finds nothing anew
 pub finds-none : (reading : Reading) (book : List Page) (table : Table) (s : Standing)
-    (front : Front) (standings : List Paired) (m : ℕ) → IsTable reading book table
-    → IsFront table s front → NEVER ≤ front.find_first
+    (next_entries : NextEntries) (standings : List Paired) (m : ℕ) → IsTable reading book table
+    → AreNextEntries table s next_entries → NEVER ≤ next_entries.find_first
     → FindsLead reading book standings (paired s) m
-finds-none reading book table s front standings m is h none =
-    inl (λ e nothing held. elim (finds-cases reading book table s front e m is h nothing held) [
+finds-none reading book table s next_entries standings m is h none =
+    inl (λ e nothing held. elim (finds-cases reading book table s next_entries e m is h nothing held) [
       | inl stands ↦ stands
       | inr first ↦ absurd (omega (arith, first.1, none))
     ])
 
 -- the first moment of those that are left is later than that of those that stand
-first-later : (table : Table) (s : Standing) (front : Front) → IsFront table s front
-    → front.find_first < NEVER → s.found < front.find_first
-first-later table s front h few =
+first-later : (table : Table) (s : Standing) (next_entries : NextEntries) → AreNextEntries table s next_entries
+    → next_entries.find_first < NEVER → s.found < next_entries.find_first
+first-later table s next_entries h few =
     let finds : List TimedCall = table.finds.items in
-    let there = least-there _ (length finds) front.find_first h.find_first few in
-    let entry = first-there s.found (slice_get finds there.0) front.find_first there.2 few in
+    let there = least-there _ (length finds) next_entries.find_first h.find_first few in
+    let entry = first-there s.found (slice_get finds there.0) next_entries.find_first there.2 few in
     omega (arith, entry.2, entry.3)
 
 -- those that find nothing lead on where the earliest moment of them does
 pub finds-some : (reading : Reading) (book : List Page) (table : Table) (s : Standing)
-    (front : Front) (standings : List Paired) (g m : ℕ) → IsTable reading book table
-    → IsFront table s front → front.find_first < NEVER → g ≡ max s.take_moment front.find_first
+    (next_entries : NextEntries) (standings : List Paired) (g m : ℕ) → IsTable reading book table
+    → AreNextEntries table s next_entries → next_entries.find_first < NEVER → g ≡ max s.take_moment next_entries.find_first
     → MayFind reading book (paired s) m
     → IsOneOf standings (after (paired s) (FindNothing g)) ⊎ IsOverdue reading book (paired s) g g
     → FindsLead reading book standings (paired s) m
-finds-some reading book table s front standings g m is h few g_is may leads =
-    let later : s.found < front.find_first = first-later table s front h few in
-    elim (cases_lt m front.find_first) [
+finds-some reading book table s next_entries standings g m is h few g_is may leads =
+    let later : s.found < next_entries.find_first = first-later table s next_entries h few in
+    elim (cases_lt m next_entries.find_first) [
       | inl early ↦
-          inl (λ e nothing held. elim (finds-cases reading book table s front e m is h nothing held) [
+          inl (λ e nothing held. elim (finds-cases reading book table s next_entries e m is h nothing held) [
             | inl stands ↦ stands
             | inr first ↦ absurd (omega (arith, first.0, early))
           ])
@@ -280,12 +280,12 @@ finds-some reading book table s front standings g m is h few g_is may leads =
 
 -- they stand at once
 pub finds-at-once : (reading : Reading) (book : List Page) (table : Table) (s : Standing)
-    (front : Front) (standings : List Paired) → IsTable reading book table → IsFront table s front
-    → s.take_moment < NEVER → front.find_first ≤ s.take_moment → s.take_moment ≤ front.put_limit
+    (next_entries : NextEntries) (standings : List Paired) → IsTable reading book table → AreNextEntries table s next_entries
+    → s.take_moment < NEVER → next_entries.find_first ≤ s.take_moment → s.take_moment ≤ next_entries.put_limit
     → IsOneOf standings (after (paired s) (FindNothing s.take_moment))
     → FindsStandAtOnce reading book standings (paired s)
-finds-at-once reading book table s front standings is h few first in_time leads = record {
-  more = omega (arith, first-later table s front h (omega arith), first);
-  in_time = puts-in-time reading book table s front s.take_moment is h in_time;
+finds-at-once reading book table s next_entries standings is h few first in_time leads = record {
+  more = omega (arith, first-later table s next_entries h (omega arith), first);
+  in_time = puts-in-time reading book table s next_entries s.take_moment is h in_time;
   leads = leads;
 }

@@ -5,12 +5,12 @@ use Rattle.book_base.specs.declared.call.Call.{Call}
 use Rattle.book_base.specs.Book.{Page}
 use Rattle.book_base.specs.Order.{HasLegalOrder}
 use Rattle.history_rules.specs.Container.{Reading, IsQueue}
-use Rattle.queue_pairs.specs.declared.front.TimedPair.{TimedPair}
+use Rattle.queue_pairs.specs.declared.next_entries.TimedPair.{TimedPair}
 use Rattle.queue_pairs.specs.declared.standing.Standing.{Standing}
 use Rattle.queue_pairs.specs.declared.table.Table.{Table}
 use Rattle.queue_pairs.specs.Pairs.{Paired, Pair, Pairs, MayPair, MayFind, after}
 use Rattle.queue_pairs.specs.Tables.{IsTable}
-use Rattle.queue_pairs.specs.Fronts.{paired, pair_of, IsNextPair, Serves}
+use Rattle.queue_pairs.specs.NextEntries.{paired, pair_of, IsNextPair, Serves}
 use Rattle.queue_refutation.specs.Closed.{IsOneOf, PairLeads, FindsLead, FindsStandAtOnce, IsClosedAt}
 
 -- the standings, as they are in memory

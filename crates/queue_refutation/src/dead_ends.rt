@@ -6,14 +6,14 @@ ghost use Rattle.queue_pairs.specs.declared.TheConstants.{NEVER};
 ghost use Rattle.queue_pairs.specs.declared.standing.Standing.{Standing};
 ghost use Rattle.queue_pairs.specs.Pairs.{Pairs, after};
 ghost use Rattle.queue_pairs.specs.Tables.{put_at, take_at, IsTable};
-ghost use Rattle.queue_pairs.specs.Fronts.{paired, pair_of, IsFront, IsNextEntry, IsNextPair};
+ghost use Rattle.queue_pairs.specs.NextEntries.{paired, pair_of, AreNextEntries, IsNextEntry, IsNextPair};
 ghost use Rattle.queue_refutation.specs.Closed.{IsOneOf, AreClosed};
 ghost use Rattle.queue_refutation.specs.DeadEnds.{listed, HasNoOrder, Lead, IsOf, IsOfTaker, IsOfPut, IsOfPutter, IsAny, FindsLeadOn, StandAtOnce, ClosedAt, IsServed};
 
 use crate::one_open::has_one_open;
 use book_base::{Book, Call, MAX_CALLERS, MAX_CALLS};
 use indexmap::IndexSet;
-use queue_pairs::{Deal, Front, NEVER, Standing, Table, TimedCall, TimedPair};
+use queue_pairs::{Deal, NEVER, NextEntries, Standing, Table, TimedCall, TimedPair};
 
 /// Standings that a search entered, to be looked at once more. Where all that may stand next at each of them leads to
 /// one of them, or to none, no pairs go on from any.
@@ -78,20 +78,20 @@ impl DeadEnds<'_> {
         if standing.take_moment >= NEVER {
             return false;
         }
-        let front = Front::of(self.table, standing);
-        if self.finds_stand_at_once(standing, &front) {
+        let next_entries = NextEntries::of(self.table, standing);
+        if self.finds_stand_at_once(standing, &next_entries) {
             return true;
         }
         if standing.put_moment > standing.take_moment {
             return false;
         }
-        if front.is_whole(standing) {
+        if next_entries.is_whole(standing) {
             return false;
         }
-        if !self.finds_lead(standing, &front) {
+        if !self.finds_lead(standing, &next_entries) {
             return false;
         }
-        self.pairs_lead(standing, &front)
+        self.pairs_lead(standing, &next_entries)
     }
 
     // Whether one of the standings is this one.
@@ -105,105 +105,112 @@ impl DeadEnds<'_> {
     }
 
     // Whether takes that find nothing stand at once, which delays nothing, and lead to one of the standings.
-    fn finds_stand_at_once(&self, standing: &Standing, front: &Front) -> bool
-        requires front { IsFront self.now.table.now standing.now front.now }
+    fn finds_stand_at_once(&self, standing: &Standing, next_entries: &NextEntries) -> bool
+        requires next_entries { AreNextEntries self.now.table.now standing.now next_entries.now }
         requires few { standing.now.take_moment < NEVER }
         ensures { IsTrue result → StandAtOnce self.now.table.now (listed self.now.standings.now.keys) standing.now }
     {
-        if front.find_first > standing.take_moment {
+        if next_entries.find_first > standing.take_moment {
             return false;
         }
-        if front.put_limit < standing.take_moment {
+        if next_entries.put_limit < standing.take_moment {
             return false;
         }
         self.has(&standing.with_finds(standing.take_moment))
     }
 
     // Whether the takes that find nothing and may stand next lead to one of the standings, or to none.
-    fn finds_lead(&self, standing: &Standing, front: &Front) -> bool
-        requires front { IsFront self.now.table.now standing.now front.now }
+    fn finds_lead(&self, standing: &Standing, next_entries: &NextEntries) -> bool
+        requires next_entries { AreNextEntries self.now.table.now standing.now next_entries.now }
         requires few { standing.now.take_moment < NEVER }
         ensures { IsTrue result → FindsLeadOn self.now.table.now (listed self.now.standings.now.keys) standing.now }
     {
-        if front.find_first >= NEVER {
+        if next_entries.find_first >= NEVER {
             return true;
         }
-        let moment = standing.take_moment.max(front.find_first);
-        if front.is_past(moment, moment) {
+        let moment = standing.take_moment.max(next_entries.find_first);
+        if next_entries.is_past(moment, moment) {
             return true;
         }
         self.has(&standing.with_finds(moment))
     }
 
     // Whether each pair that may stand next leads to one of the standings, or to none.
-    fn pairs_lead(&self, standing: &Standing, front: &Front) -> bool
-        requires front { IsFront self.now.table.now standing.now front.now }
+    fn pairs_lead(&self, standing: &Standing, next_entries: &NextEntries) -> bool
+        requires next_entries { AreNextEntries self.now.table.now standing.now next_entries.now }
         requires turn { standing.now.put_moment ≤ standing.now.take_moment }
         requires few { standing.now.take_moment < NEVER }
         ensures { IsTrue result → Lead IsAny self.now.table.now (listed self.now.standings.now.keys) standing.now }
     {
         for caller in 0..MAX_CALLERS {
-            if !self.putter_leads(standing, front, caller) {
+            if !self.putter_leads(standing, next_entries, caller) {
                 return false;
             }
         }
         true
     }
 
-    // The same of the pairs of a caller's put.
-    fn putter_leads(&self, standing: &Standing, front: &Front, caller: usize) -> bool
-        requires front { IsFront self.now.table.now standing.now front.now }
+    // Whether each pair of a caller's next put leads to one of the standings, or to none.
+    fn putter_leads(&self, standing: &Standing, next_entries: &NextEntries, caller: usize) -> bool
+        requires next_entries { AreNextEntries self.now.table.now standing.now next_entries.now }
         requires turn { standing.now.put_moment ≤ standing.now.take_moment }
         requires few { standing.now.take_moment < NEVER }
         requires caller { caller < MAX_CALLERS }
         ensures { IsTrue result → Lead (IsOfPutter caller) self.now.table.now (listed self.now.standings.now.keys) standing.now }
     {
-        match front.put(caller) {
-            Some(put) => self.put_leads(standing, front, put),
+        match next_entries.put(caller) {
+            Some(put) => self.put_leads(standing, next_entries, put),
             None => true,
         }
     }
 
-    // The same of the pairs of a put.
-    fn put_leads(&self, standing: &Standing, front: &Front, put: TimedCall) -> bool
-        requires front { IsFront self.now.table.now standing.now front.now }
+    // Whether each pair of a put that may stand next leads to one of the standings, or to none.
+    fn put_leads(&self, standing: &Standing, next_entries: &NextEntries, put: TimedCall) -> bool
+        requires next_entries { AreNextEntries self.now.table.now standing.now next_entries.now }
         requires turn { standing.now.put_moment ≤ standing.now.take_moment }
         requires few { standing.now.take_moment < NEVER }
         requires put { IsNextEntry (λ i n. put_at self.now.table.now i n) standing.now.puts put }
         ensures { IsTrue result → Lead (IsOfPut put.call) self.now.table.now (listed self.now.standings.now.keys) standing.now }
     {
         for caller in 0..MAX_CALLERS {
-            if !self.taker_leads(standing, front, put, caller) {
+            if !self.taker_leads(standing, next_entries, put, caller) {
                 return false;
             }
         }
         true
     }
 
-    // The same of a put and a caller's take.
-    fn taker_leads(&self, standing: &Standing, front: &Front, put: TimedCall, caller: usize) -> bool
-        requires front { IsFront self.now.table.now standing.now front.now }
+    // Whether the pair of a put and a caller's next take leads to one of the standings, or to none.
+    fn taker_leads(
+        &self,
+        standing: &Standing,
+        next_entries: &NextEntries,
+        put: TimedCall,
+        caller: usize,
+    ) -> bool
+        requires next_entries { AreNextEntries self.now.table.now standing.now next_entries.now }
         requires turn { standing.now.put_moment ≤ standing.now.take_moment }
         requires few { standing.now.take_moment < NEVER }
         requires put { IsNextEntry (λ i n. put_at self.now.table.now i n) standing.now.puts put }
         requires caller { caller < MAX_CALLERS }
         ensures { IsTrue result → Lead (IsOfTaker put.call caller) self.now.table.now (listed self.now.standings.now.keys) standing.now }
     {
-        match front.take(caller) {
-            Some(take) => self.calls_lead(standing, front, put, take),
+        match next_entries.take(caller) {
+            Some(take) => self.calls_lead(standing, next_entries, put, take),
             None => true,
         }
     }
 
-    // The same of a put and a take. A pair of which neither is answered is idle.
+    // Whether the pair of a put and a take leads to one of the standings, or to none. A pair of which neither call is
+    // answered is idle.
     fn calls_lead(
         &self,
         standing: &Standing,
-        front: &Front,
+        next_entries: &NextEntries,
         put: TimedCall,
         take: TimedCall,
     ) -> bool
-        requires front { IsFront self.now.table.now standing.now front.now }
+        requires next_entries { AreNextEntries self.now.table.now standing.now next_entries.now }
         requires turn { standing.now.put_moment ≤ standing.now.take_moment }
         requires few { standing.now.take_moment < NEVER }
         requires put { IsNextEntry (λ i n. put_at self.now.table.now i n) standing.now.puts put }
@@ -223,24 +230,24 @@ impl DeadEnds<'_> {
             return true;
         }
         let pair = TimedPair::earliest(standing, put, take);
-        self.pair_leads(standing, front, &pair)
+        self.pair_leads(standing, next_entries, &pair)
     }
 
-    // The same of a pair at its earliest moments.
-    fn pair_leads(&self, standing: &Standing, front: &Front, pair: &TimedPair) -> bool
-        requires front { IsFront self.now.table.now standing.now front.now }
+    // Whether a pair at its earliest moments leads to one of the standings, or to none.
+    fn pair_leads(&self, standing: &Standing, next_entries: &NextEntries, pair: &TimedPair) -> bool
+        requires next_entries { AreNextEntries self.now.table.now standing.now next_entries.now }
         requires turn { standing.now.put_moment ≤ standing.now.take_moment }
         requires few { standing.now.take_moment < NEVER }
         requires pair { IsNextPair self.now.table.now standing.now pair.now }
         ensures { IsTrue result → Lead (IsOf pair.now.put.call pair.now.take.call) self.now.table.now (listed self.now.standings.now.keys) standing.now }
     {
-        if front.is_past(pair.put_moment, pair.take_moment) {
+        if next_entries.is_past(pair.put_moment, pair.take_moment) {
             return true;
         }
         if self.leads(standing, pair) {
             return true;
         }
-        self.is_served(standing, front, pair)
+        self.is_served(standing, next_entries, pair)
     }
 
     // Whether one of the standings stands after a pair.
@@ -257,45 +264,45 @@ impl DeadEnds<'_> {
     }
 
     // Whether a pair of next calls that serves for this one leads to one of the standings.
-    fn is_served(&self, standing: &Standing, front: &Front, pair: &TimedPair) -> bool
-        requires front { IsFront self.now.table.now standing.now front.now }
+    fn is_served(&self, standing: &Standing, next_entries: &NextEntries, pair: &TimedPair) -> bool
+        requires next_entries { AreNextEntries self.now.table.now standing.now next_entries.now }
         ensures { IsTrue result → IsServed self.now.table.now (listed self.now.standings.now.keys) standing.now pair.now }
     {
         for caller in 0..MAX_CALLERS {
-            if self.putter_serves(standing, front, pair, caller) {
+            if self.putter_serves(standing, next_entries, pair, caller) {
                 return true;
             }
         }
         false
     }
 
-    // The same of the pairs of a caller's put.
+    // Whether a pair of a caller's next put serves for a given pair, and leads to one of the standings.
     fn putter_serves(
         &self,
         standing: &Standing,
-        front: &Front,
+        next_entries: &NextEntries,
         pair: &TimedPair,
         caller: usize,
     ) -> bool
-        requires front { IsFront self.now.table.now standing.now front.now }
+        requires next_entries { AreNextEntries self.now.table.now standing.now next_entries.now }
         requires caller { caller < MAX_CALLERS }
         ensures { IsTrue result → IsServed self.now.table.now (listed self.now.standings.now.keys) standing.now pair.now }
     {
-        match front.put(caller) {
-            Some(put) => self.put_serves(standing, front, pair, put),
+        match next_entries.put(caller) {
+            Some(put) => self.put_serves(standing, next_entries, pair, put),
             None => false,
         }
     }
 
-    // The same of the pairs of a put.
+    // Whether a pair of a put serves for a given pair, and leads to one of the standings.
     fn put_serves(
         &self,
         standing: &Standing,
-        front: &Front,
+        next_entries: &NextEntries,
         pair: &TimedPair,
         put: TimedCall,
     ) -> bool
-        requires front { IsFront self.now.table.now standing.now front.now }
+        requires next_entries { AreNextEntries self.now.table.now standing.now next_entries.now }
         requires put { IsNextEntry (λ i n. put_at self.now.table.now i n) standing.now.puts put }
         ensures { IsTrue result → IsServed self.now.table.now (listed self.now.standings.now.keys) standing.now pair.now }
     {
@@ -306,35 +313,36 @@ impl DeadEnds<'_> {
             return false;
         }
         for caller in 0..MAX_CALLERS {
-            if self.taker_serves(standing, front, pair, put, caller) {
+            if self.taker_serves(standing, next_entries, pair, put, caller) {
                 return true;
             }
         }
         false
     }
 
-    // The same of a put and a caller's take.
+    // Whether the pair of a put and a caller's next take serves for a given pair, and leads to one of the
+    // standings.
     fn taker_serves(
         &self,
         standing: &Standing,
-        front: &Front,
+        next_entries: &NextEntries,
         pair: &TimedPair,
         put: TimedCall,
         caller: usize,
     ) -> bool
-        requires front { IsFront self.now.table.now standing.now front.now }
+        requires next_entries { AreNextEntries self.now.table.now standing.now next_entries.now }
         requires put { IsNextEntry (λ i n. put_at self.now.table.now i n) standing.now.puts put }
         requires held { put.span.first < NEVER }
         requires caller { caller < MAX_CALLERS }
         ensures { IsTrue result → IsServed self.now.table.now (listed self.now.standings.now.keys) standing.now pair.now }
     {
-        match front.take(caller) {
+        match next_entries.take(caller) {
             Some(take) => self.calls_serve(standing, pair, put, take),
             None => false,
         }
     }
 
-    // The same of a put and a take.
+    // Whether the pair of a put and a take serves for a given pair, and leads to one of the standings.
     fn calls_serve(
         &self,
         standing: &Standing,

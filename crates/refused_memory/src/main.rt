@@ -2,12 +2,12 @@
 //! which one the system is to refuse.
 //!
 //! Each line of standard input names a work, how many allocations are used up before it, and `do` or `leave`, which only prepares
-//! it. Behind the work allocations are used up until one is refused, or 4,000 were had. A line is printed for each:
+//! it. After the work allocations are used up until one is refused, or 4,000 were had. A line is printed for each:
 //!
 //! | Line | Meaning |
 //! |---|---|
-//! | `WORK: CAME` | no allocation behind the work was refused |
-//! | `WORK: CAME, and N behind it` | the work had all memory that it wanted, and N more allocations were had before one was refused |
+//! | `WORK: CAME` | no allocation after the work was refused |
+//! | `WORK: CAME, and N suffix it` | the work had all memory that it wanted, and N more allocations were had before one was refused |
 //! | `WORK: refused before` | an allocation before the work was refused |
 //!
 //! CAME is the ordinary answer, want of memory with nothing written, or a call without a judgement, which leaves its record; and
@@ -42,9 +42,9 @@ fn try_line<R: Print + AllocGlobal + Threads + Sync>(rt: &R, line: &str) -> Resu
     if deed == "do" {
         work.act(rt);
     }
-    let behind = use_up_all(rt.alloc());
+    let suffix = use_up_all(rt.alloc());
     let came = work.came(rt.alloc());
-    match behind {
+    match suffix {
         None => println!(rt; "{name}: {came}")?,
         Some(count) => println!(rt; "{name}: {came}, and {count} behind it")?,
     }

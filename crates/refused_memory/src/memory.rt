@@ -1,9 +1,9 @@
 use std::alloc::Global;
 
-/// The most allocations that are used up behind a work.
+/// The most allocations that are used up after a work.
 const MOST: u64 = 4_000;
 
-/// Uses up so many allocations. False where one was refused.
+/// Uses up this many allocations. False where one was refused.
 pub fn use_up(alloc: Global, count: u64) -> bool {
     for number in 0..count {
         if !use_up_one(alloc, number) {

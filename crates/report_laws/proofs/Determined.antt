@@ -62,8 +62,8 @@ module _ (init : List ℕ) (next : List ℕ → ℕ → List ℕ × ℕ) (book :
       let made : map made_of xs ≡ map made_of ys = cc in
       let rest : calls_of a ≡ calls_of b = cc in
       let first : xs ≡ ys = same_own xs ys made (λ k. h (record { caller = 0; number = k })) (λ k. g (record { caller = 0; number = k })) in
-      let behind : Call → Call = λ call. record { caller = suc call.caller; number = call.number } in
-      let others : a ≡ b = same_lines a b rest (λ call. h (behind call)) (λ call. g (behind call)) in
+      let suffix : Call → Call = λ call. record { caller = suc call.caller; number = call.number } in
+      let others : a ≡ b = same_lines a b rest (λ call. h (suffix call)) (λ call. g (suffix call)) in
       cc
 
 pub locals_determine_lines : LocalsDetermineLines

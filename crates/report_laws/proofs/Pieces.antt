@@ -36,21 +36,21 @@ in_flat_map f (first ∷ xs) (suc i) j x y e own =
     let later = in_flat_map f xs i j x y e own in
     append_right (f first) (flat_map f xs) later.0 y later.1
 
--- what stands behind the first element's item, or is it
-behind : {Y : Type 0} (o : Option Y) (ys : List Y) (k : ℕ) (y : Y) → slice_get ys k ≡ Some y → (j : ℕ) × (slice_get (cons_option o ys) j ≡ Some y)
-behind None ys k y e = (k, e)
-behind (Some z) ys k y e = (suc k, e)
+-- what stands after the first element's item, or is it
+suffix : {Y : Type 0} (o : Option Y) (ys : List Y) (k : ℕ) (y : Y) → slice_get ys k ≡ Some y → (j : ℕ) × (slice_get (cons_option o ys) j ≡ Some y)
+suffix None ys k y e = (k, e)
+suffix (Some z) ys k y e = (suc k, e)
 
-is_or_behind : {Y : Type 0} (o : Option Y) (ys : List Y) (k : ℕ) (y : Y) → slice_get (cons_option o ys) k ≡ Some y
+is_or_after : {Y : Type 0} (o : Option Y) (ys : List Y) (k : ℕ) (y : Y) → slice_get (cons_option o ys) k ≡ Some y
     → (o ≡ Some y) ⊎ ((j : ℕ) × (slice_get ys j ≡ Some y))
-is_or_behind None ys k y e = inr (k, e)
-is_or_behind (Some z) ys zero y e = inl e
-is_or_behind (Some z) ys (suc k) y e = inr (k, e)
+is_or_after None ys k y e = inr (k, e)
+is_or_after (Some z) ys zero y e = inl e
+is_or_after (Some z) ys (suc k) y e = inr (k, e)
 
 pub from_filter_map : {X Y : Type 0} (h : X → Option Y) (xs : List X) (k : ℕ) (y : Y) → slice_get (filter_map h xs) k ≡ Some y
     → (i : ℕ) × (x : X) × (slice_get xs i ≡ Some x) × (h x ≡ Some y)
 from_filter_map h [] k y e = absurd (none-some y e)
-from_filter_map h (x ∷ xs) k y e = elim (is_or_behind (h x) (filter_map h xs) k y e) [
+from_filter_map h (x ∷ xs) k y e = elim (is_or_after (h x) (filter_map h xs) k y e) [
   | inl own ↦ (0, x, refl, own)
   | inr later ↦ let found = from_filter_map h xs later.0 y later.1 in (suc found.0, found.1, found.2, found.3)
 ]
@@ -61,4 +61,4 @@ in_filter_map h [] i x y e is = absurd (none-some x e)
 in_filter_map h (first ∷ xs) zero x y e is =
     (0, ap (λ o. slice_get (cons_option o (filter_map h xs)) 0) (ap h (same_Some first x e) ∙ is))
 in_filter_map h (first ∷ xs) (suc i) x y e is =
-    let later = in_filter_map h xs i x y e is in behind (h first) (filter_map h xs) later.0 y later.1
+    let later = in_filter_map h xs i x y e is in suffix (h first) (filter_map h xs) later.0 y later.1

@@ -15,18 +15,18 @@ operations_of-with_last further (c ∷ d ∷ calls) = ap (λ (ops : List ℕ). c
 
 -- where a step on the last call turns its mark, it turns that of the last one of all, and the others stay
 marks_of-with_last : (further : Reached → Reached) (before after : Mark) → ((reached : Reached) → mark_of reached ≡ before → mark_of (further reached) ≡ after)
-    → (front : List Mark) (calls : List Made) → marks_of calls ≡ front ++ before ∷ [] → marks_of (with_last further calls) ≡ front ++ after ∷ []
-marks_of-with_last further before after turns front [] e = absurd (omega (arith, ap (λ (ms : List Mark). length ms) e, length-append front (before ∷ [])))
+    → (prefix : List Mark) (calls : List Made) → marks_of calls ≡ prefix ++ before ∷ [] → marks_of (with_last further calls) ≡ prefix ++ after ∷ []
+marks_of-with_last further before after turns prefix [] e = absurd (omega (arith, ap (λ (ms : List Mark). length ms) e, length-append prefix (before ∷ [])))
 marks_of-with_last further before after turns [] (c ∷ []) e =
     let own : mark_of c.reached ≡ before = cc in
     ap (λ (m : Mark). m ∷ []) (turns c.reached own)
 marks_of-with_last further before after turns [] (c ∷ d ∷ calls) e = absurd (omega (arith, ap (λ (ms : List Mark). length ms) e))
-marks_of-with_last further before after turns (m ∷ front) (c ∷ []) e =
-    absurd (omega (arith, ap (λ (ms : List Mark). length ms) e, length-append front (before ∷ [])))
-marks_of-with_last further before after turns (m ∷ front) (c ∷ d ∷ calls) e =
+marks_of-with_last further before after turns (m ∷ prefix) (c ∷ []) e =
+    absurd (omega (arith, ap (λ (ms : List Mark). length ms) e, length-append prefix (before ∷ [])))
+marks_of-with_last further before after turns (m ∷ prefix) (c ∷ d ∷ calls) e =
     let own : mark_of c.reached ≡ m = cc in
-    let rest : marks_of (d ∷ calls) ≡ front ++ before ∷ [] = cc in
-    let later = marks_of-with_last further before after turns front (d ∷ calls) rest in
+    let rest : marks_of (d ∷ calls) ≡ prefix ++ before ∷ [] = cc in
+    let later = marks_of-with_last further before after turns prefix (d ∷ calls) rest in
     cc
 
 -- a call that has its record sees a cut
@@ -55,7 +55,7 @@ as_many_marks p (suc place) e =
 pub length-marks_after : (p : ℕ) → length (marks_after p) ≡ begun p
 length-marks_after p = as_many_marks p (p % 5) refl
 
--- The marks behind k judged calls.
+-- The marks after k judged calls.
 pub marks_with : (k p : ℕ) → p / 5 ≡ k → (place : ℕ) → p % 5 ≡ place → marks_after p ≡ replicate k Seen ++ mark_under_way place
 marks_with k p judged place under_way =
     ap (λ (n : ℕ). replicate n Seen ++ mark_under_way (p % 5)) judged ∙ ap (λ (n : ℕ). replicate k Seen ++ mark_under_way n) under_way

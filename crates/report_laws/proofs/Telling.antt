@@ -92,14 +92,14 @@ record EndsWith (calls : List Made) (m : Mark) : Type 0 where
   are : calls ≡ before ++ last ∷ []
   mark : mark_of last.reached ≡ m
 
-ends_with : (calls : List Made) (front : List Mark) (m : Mark) → marks_of calls ≡ front ++ m ∷ [] → EndsWith calls m
-ends_with [] front m e = absurd (omega (arith, ap (λ (ms : List Mark). length ms) e, length-append front (m ∷ [])))
+ends_with : (calls : List Made) (prefix : List Mark) (m : Mark) → marks_of calls ≡ prefix ++ m ∷ [] → EndsWith calls m
+ends_with [] prefix m e = absurd (omega (arith, ap (λ (ms : List Mark). length ms) e, length-append prefix (m ∷ [])))
 ends_with (c ∷ []) [] m e = let own : mark_of c.reached ≡ m = cc in record { before = []; last = c; are = refl; mark = own }
 ends_with (c ∷ d ∷ calls) [] m e = absurd (omega (arith, ap (λ (ms : List Mark). length ms) e))
-ends_with (c ∷ []) (x ∷ front) m e = absurd (omega (arith, ap (λ (ms : List Mark). length ms) e, length-append front (m ∷ [])))
-ends_with (c ∷ d ∷ calls) (x ∷ front) m e =
-    let rest : marks_of (d ∷ calls) ≡ front ++ m ∷ [] = cc in
-    let found = ends_with (d ∷ calls) front m rest in
+ends_with (c ∷ []) (x ∷ prefix) m e = absurd (omega (arith, ap (λ (ms : List Mark). length ms) e, length-append prefix (m ∷ [])))
+ends_with (c ∷ d ∷ calls) (x ∷ prefix) m e =
+    let rest : marks_of (d ∷ calls) ≡ prefix ++ m ∷ [] = cc in
+    let found = ends_with (d ∷ calls) prefix m rest in
     record { before = c ∷ found.before; last = found.last; are = ap (λ (cs : List Made). c ∷ cs) found.are; mark = found.mark }
 
 -- a call that is only announced has no answer

@@ -33,11 +33,11 @@ verdicts_stay init next n l m (Error r cut) more h = (h.0, gathered_stays n l m 
 any_at : (own : List Line) (k : ℕ) (line : Line) → slice_get own k ≡ Some line → is_error line ≡ true → any_error own ≡ true
 any_at [] k line there error = absurd (none-some line there)
 any_at (first ∷ own) zero line there error = ap (λ (b : Bool). b || any_error own) (ap is_error (same_Some first line there) ∙ error)
-any_at (first ∷ own) (suc k) line there error = behind (is_error first) (any_error own) (any_at own k line there error)
+any_at (first ∷ own) (suc k) line there error = suffix (is_error first) (any_error own) (any_at own k line there error)
   where
-    behind : (a b : Bool) → b ≡ true → (a || b) ≡ true
-    behind true b e = refl
-    behind false b e = e
+    suffix : (a b : Bool) → b ≡ true → (a || b) ≡ true
+    suffix true b e = refl
+    suffix false b e = e
 
 -- calls that are the same place by place are the same
 same_calls : (lines : List (List Line)) (locals : List Local) → length lines ≡ length locals

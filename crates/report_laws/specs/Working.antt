@@ -26,7 +26,7 @@ WorkersGoThrough =
     → map made_of own ≡ calls_in l → any_error own ≡ false → HasMade operations allotment l → All (λ (line : Line). IsJudgedBy init next n l line.end) own
     → HasWorked init next n operations allotment l own
 
--- And what it leaves that halted at an error, behind lines without one.
+-- And what it leaves that halted at an error, after lines without one.
 abbrev pub WorkersHalt : Type 0
 WorkersHalt =
     (init : List ℕ) (next : List ℕ → ℕ → List ℕ × ℕ) (n : ℕ) (operations : List ℕ) (allotment : ℕ) (l : Local) (own : List Line) (line : Line)

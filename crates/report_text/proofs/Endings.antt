@@ -12,18 +12,18 @@ use Rattle.client_scripts.specs.Grammar.{by_number}
 use Rattle.reports.specs.Findings.{Findings, sizes}
 use Rattle.reports.specs.Grammar.{caller_lines, report_lines}
 
--- behind the words of an answer come further ones
-pub behind_answer : (old middle new behind : List ℕ) (answer more : List (List ℕ)) → middle ≡ old ++ spaced answer → new ≡ middle ++ behind → behind ≡ spaced more → new ≡ old ++ spaced (answer ++ more)
-behind_answer old middle new behind answer more h k is =
-    both_pieces old middle new (spaced answer) behind h k
+-- after the words of an answer come further ones
+pub after_answer : (old middle new suffix : List ℕ) (answer more : List (List ℕ)) → middle ≡ old ++ spaced answer → new ≡ middle ++ suffix → suffix ≡ spaced more → new ≡ old ++ spaced (answer ++ more)
+after_answer old middle new suffix answer more h k is =
+    both_pieces old middle new (spaced answer) suffix h k
     ∙ ap (λ (x : List ℕ). old ++ x) (ap (λ (x : List ℕ). spaced answer ++ x) is ∙ sym (spaced-append answer more))
 
--- behind an answer comes a verdict, and what was seen
+-- after an answer comes a verdict, and what was seen
 pub verdict_written : (old m1 m2 new mark : List ℕ) (answer pairs : List (List ℕ)) → m1 ≡ old ++ spaced answer → m2 ≡ m1 ++ 32 ∷ (mark ++ codes " seen") → new ≡ m2 ++ spaced pairs
     → new ≡ old ++ spaced (answer ++ mark ∷ codes "seen" ∷ pairs)
 verdict_written old m1 m2 new mark answer pairs h k l =
-    let behind : List ℕ = 32 ∷ (mark ++ codes " seen") in
-    behind_answer old m1 new (behind ++ spaced pairs) answer (mark ∷ codes "seen" ∷ pairs) h (l ∙ ap (λ (x : List ℕ). x ++ spaced pairs) k ∙ append_assoc m1 behind (spaced pairs))
+    let suffix : List ℕ = 32 ∷ (mark ++ codes " seen") in
+    after_answer old m1 new (suffix ++ spaced pairs) answer (mark ∷ codes "seen" ∷ pairs) h (l ∙ ap (λ (x : List ℕ). x ++ spaced pairs) k ∙ append_assoc m1 suffix (spaced pairs))
     (ap (λ (x : List ℕ). 32 ∷ x) (append_assoc mark (codes " seen") (spaced pairs)))
 
 -- the head, the lines and the end are the whole text

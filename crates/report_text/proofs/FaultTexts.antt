@@ -25,7 +25,7 @@ use Rattle.text_fields.specs.Faults.{ALine}
 use Rattle.text_fields.specs.Head.{TitleDue, ObjectDue, CallersDue, CountsDue, HeadRead, title_words, object_words, callers_words, calls_words}
 use Rattle.book_text.specs.CallLines.{calls_from, all_calls, view_test}
 use Rattle.book_text.specs.Grammar.{end_words}
-use Rattle.book_text.specs.Leaving.{LeavesAt}
+use Rattle.book_text.specs.ReadOnly.{LeavesAt}
 use Rattle.book_text.proofs.Leavings.{Completes, one_more, leaves_texts}
 use Rattle.book_text.proofs.WrittenTexts.{numbers_from_places}
 use Rattle.call_lines.specs.declared.line.LineEnd.{LineEnd}
@@ -35,7 +35,7 @@ use Rattle.call_lines.specs.Lines.{delivered_in}
 use Rattle.client_scripts.specs.ScriptRules.{grouped}
 use Rattle.reports.specs.Findings.{Findings}
 use Rattle.reports.specs.Grammar.{line_words}
-use Rattle.report_text.specs.ReportRules.{book_so_far, IsCut, SaysLine, IsWrongCut, Fits, LineFails, ReportDue, InHead, InLines, AtEnd, behind_head, ReportPasses, ReportFails, report_wanted, report_rules, IsReportText, IsFirstReportFault}
+use Rattle.report_text.specs.ReportRules.{book_so_far, IsCut, SaysLine, IsWrongCut, Fits, LineFails, ReportDue, InHead, InLines, AtEnd, after_head, ReportPasses, ReportFails, report_wanted, report_rules, IsReportText, IsFirstReportFault}
 use Rattle.report_text.specs.Drafts.{StandBefore}
 use Rattle.report_text.proofs.Groups.{before, before-more, length-own}
 use Rattle.report_text.proofs.Pushing.{calls_of-so_far, length-book_so_far, inside}
@@ -158,7 +158,7 @@ module _ (kind : Kind) (counts : List ℕ) (told : List Line) (call : Call) (few
 
 -- ---- what may be due
 
--- the lines of these calls follow so many lines
+-- the lines of these calls follow this many lines
 abbrev AreDue : List ℕ → ℕ → List Call → Type 0
 AreDue counts n [] = Unit {0}
 AreDue counts n (call ∷ calls) = (n ≡ before counts call.caller + call.number) × (call.number < get_or counts call.caller 0) × AreDue counts (n + 1) calls
@@ -206,12 +206,12 @@ under-way-next kind counts told call calls words line says fits h = record {
 }
 
 comes_next : (due after : ReportDue) (words : List (List ℕ)) → CanCome due → ReportPasses due words after → CanCome after
-comes_next (InHead TitleDue) after words can h = subst CanCome (sym (h.2 ∙ ap behind_head h.1.1)) tt
-comes_next (InHead ObjectDue) after words can h = subst CanCome (sym (h.2 ∙ ap behind_head h.1.3)) tt
-comes_next (InHead (CallersDue kind)) after words can h = subst CanCome (sym (h.2 ∙ ap behind_head h.1.3)) h.1.1.few
+comes_next (InHead TitleDue) after words can h = subst CanCome (sym (h.2 ∙ ap after_head h.1.1)) tt
+comes_next (InHead ObjectDue) after words can h = subst CanCome (sym (h.2 ∙ ap after_head h.1.3)) tt
+comes_next (InHead (CallersDue kind)) after words can h = subst CanCome (sym (h.2 ∙ ap after_head h.1.3)) h.1.1.few
 comes_next (InHead (CountsDue kind n)) after words can h =
     let counts : List ℕ = h.1.0 in
-    subst CanCome (sym (h.2 ∙ ap behind_head h.1.3)) (record { few = omega (arith, h.1.1.count, can); small = h.1.1.few; sound = sound-none counts; due = due-all counts [] counts refl })
+    subst CanCome (sym (h.2 ∙ ap after_head h.1.3)) (record { few = omega (arith, h.1.1.count, can); small = h.1.1.few; sound = sound-none counts; due = due-all counts [] counts refl })
 comes_next (InHead (HeadRead kind calls)) after words can h = absurd can
 comes_next (InLines kind counts told []) after words can h = subst CanCome (sym h.1) tt
 comes_next (InLines kind counts told (call ∷ calls)) after words can h = subst CanCome (sym h.3) (under-way-next kind counts told call calls words h.0 h.1 h.2 can)

@@ -8,7 +8,7 @@ use Rattle.std.proofs.Math.ListN.{drop_of_length-le}
 use Rattle.list_laws.proofs.Places.{slice_get-push_old, slice_get-push_last, slice_get-push_cases}
 use Rattle.client_scripts.specs.ScriptRules.{grouped}
 
--- one more item behind those of a caller
+-- one more item after those of a caller
 abbrev pub push_at : {X : Type 0} → List (List X) → ℕ → X → List (List X)
 push_at xss i x = set xss i (get_or xss i [] ++ x ∷ [])
 
@@ -16,14 +16,14 @@ pub length-grouped : {X : Type 0} (counts : List ℕ) (xs : List X) → length (
 length-grouped [] xs = refl
 length-grouped (c ∷ counts) xs = ap suc (length-grouped counts (drop c xs))
 
--- so many items stand before those of a caller
+-- this many items stand before those of a caller
 abbrev pub before : List ℕ → ℕ → ℕ
 before counts i = sum (take i counts)
 
 pub before-suc : (c : ℕ) (counts : List ℕ) (i : ℕ) → before (c ∷ counts) (suc i) ≡ c + before counts i
 before-suc c counts i = sum_by-cons (λ (x : ℕ). x) c (take i counts)
 
--- behind the items of one caller more
+-- after the items of one caller more
 pub before-more : (counts : List ℕ) (i : ℕ) → before counts (i + 1) ≡ before counts i + get_or counts i 0
 before-more [] zero = refl
 before-more [] (suc i) = let next : suc i + 1 ≡ suc (i + 1) = omega arith in ap (before []) next
@@ -33,26 +33,26 @@ before-more (c ∷ counts) (suc i) =
     let rest : before (c ∷ counts) (suc (i + 1)) ≡ before (c ∷ counts) (suc i) + get_or counts i 0 = omega (arith, before-more counts i, before-suc c counts (i + 1), before-suc c counts i) in
     ap (before (c ∷ counts)) next ∙ rest
 
--- the items of a caller are those behind the ones of earlier callers
+-- the items of a caller are those after the ones of earlier callers
 pub length-own : {X : Type 0} (counts : List ℕ) (xs : List X) (i k : ℕ) → length xs ≡ before counts i + k → k ≤ get_or counts i 0 → length (get_or (grouped counts xs) i []) ≡ k
 length-own [] xs i k e le = omega arith
 length-own (c ∷ counts) xs zero k e le = omega (arith, length-take c xs, e)
 length-own {X} (c ∷ counts) xs (suc i) k e le = length-own counts (drop c xs) i k (omega (arith, length-drop c xs, e, before-suc c counts i)) le
 
--- an item behind all others is one more of its caller
+-- an item after all others is one more of its caller
 pub grouped-push : {X : Type 0} (counts : List ℕ) (xs : List X) (x : X) (i k : ℕ) → length xs ≡ before counts i + k → k < get_or counts i 0 → grouped counts (xs ++ x ∷ []) ≡ push_at (grouped counts xs) i x
 grouped-push [] xs x i k e lt = absurd (omega arith)
 grouped-push {X} (c ∷ counts) xs x zero k e lt =
     let size : length (xs ++ x ∷ []) ≤ c = omega (arith, length-append xs (x ∷ []), e) in
     let few : length xs ≤ c = omega (arith, e) in
-    let front : take c (xs ++ x ∷ []) ≡ take c xs ++ x ∷ [] = take_all c (xs ++ x ∷ []) size ∙ ap (λ (ys : List X). ys ++ x ∷ []) (sym (take_all c xs few)) in
+    let prefix : take c (xs ++ x ∷ []) ≡ take c xs ++ x ∷ [] = take_all c (xs ++ x ∷ []) size ∙ ap (λ (ys : List X). ys ++ x ∷ []) (sym (take_all c xs few)) in
     let rest : drop c (xs ++ x ∷ []) ≡ drop c xs = drop_of_length-le (xs ++ x ∷ []) size ∙ sym (drop_of_length-le xs few) in
-    ap (λ (ys : List X). ys ∷ grouped counts (drop c (xs ++ x ∷ []))) front ∙ ap (λ (ys : List X). (take c xs ++ x ∷ []) ∷ grouped counts ys) rest
+    ap (λ (ys : List X). ys ∷ grouped counts (drop c (xs ++ x ∷ []))) prefix ∙ ap (λ (ys : List X). (take c xs ++ x ∷ []) ∷ grouped counts ys) rest
 grouped-push {X} (c ∷ counts) xs x (suc i) k e lt =
     let many : c ≤ length xs = omega (arith, e, before-suc c counts i) in
-    let front : take c (xs ++ x ∷ []) ≡ take c xs = take-append-le c xs (x ∷ []) many in
+    let prefix : take c (xs ++ x ∷ []) ≡ take c xs = take-append-le c xs (x ∷ []) many in
     let rest : drop c (xs ++ x ∷ []) ≡ drop c xs ++ x ∷ [] = drop-append-le c xs (x ∷ []) many in
-    ap (λ (ys : List X). ys ∷ grouped counts (drop c (xs ++ x ∷ []))) front
+    ap (λ (ys : List X). ys ∷ grouped counts (drop c (xs ++ x ∷ []))) prefix
     ∙ ap (λ (ys : List X). take c xs ∷ grouped counts ys) rest
     ∙ ap (λ (yss : List (List X)). take c xs ∷ yss) (grouped-push counts (drop c xs) x i k (omega (arith, length-drop c xs, e, before-suc c counts i)) lt)
 

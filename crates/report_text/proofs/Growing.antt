@@ -3,7 +3,7 @@ use Rattle.std.proofs.Common.{◌≡◌, ℕ, zero, suc, List, [], ◌∷◌, �
 use Rattle.std.specs.List.{flat_map}
 use Rattle.std.proofs.lemmas.List.Concat.{flat_map-append}
 use Rattle.std.proofs.lemmas.Option.{slice_get_within}
-use Rattle.list_laws.proofs.Fronts.{slice_get-append_within}
+use Rattle.list_laws.proofs.Prefixes.{slice_get-append_within}
 use Rattle.list_laws.proofs.Options.{and_then_some}
 use Rattle.book_base.specs.declared.call.Call.{Call}
 use Rattle.book_base.specs.declared.call.Record.{Record}
@@ -14,7 +14,7 @@ use Rattle.client_scripts.specs.ScriptRules.{grouped}
 use Rattle.report_text.specs.ReportRules.{book_so_far}
 use Rattle.report_text.proofs.Pushing.{records_in}
 
--- the first so many of a longer list are a longer front
+-- the first so many of a longer list are a longer prefix
 take-longer : (c : ℕ) (xs ys : List Line) → (zs : List Line) × (take c (xs ++ ys) ≡ take c xs ++ zs)
 take-longer zero xs ys = ([], refl)
 take-longer (suc c) [] ys = (take (suc c) ys, refl)

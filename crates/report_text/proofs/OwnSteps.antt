@@ -29,7 +29,7 @@ use Rattle.report_text.specs.Parts.{joined, LineIsRead, LineIsStopped, AreOwnRea
 
 -- ---- one caller
 
--- of so many calls of a caller the lines of the first are read, and say these
+-- of this many calls of a caller the lines of the first are read, and say these
 pub record AreReadTo (kind : Kind) (counts : List ℕ) (told : List Line) (i count number : ℕ) (more : List Call) (text : Unread) (own : List Line) (after : Draft) (left : Unread) : Type 0 where
   pub goes : GoesTo report_rules (InLines kind counts told (calls_from i 0 count ++ more)) text (InLines kind counts (told ++ own) (calls_from i number (count - number) ++ more)) left
   pub draft : IsDraft counts (told ++ own) after

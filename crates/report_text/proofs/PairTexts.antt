@@ -1,4 +1,4 @@
--- Pairs of a cut in front of other words.
+-- Pairs of a cut before other words.
 use Rattle.std.proofs.Common.{◌≡◌, ℕ, zero, suc, ◌+◌, ◌<◌, ◌≤◌, ◌^◌, List, [], ◌∷◌, ◌++◌, length, decimal, refl, sym, ap, subst, ◌∙◌, arith, inl, inr}
 use Rattle.std.specs.Prelude.{is_some}
 use Rattle.std.proofs.lemmas.Option.{some_pair_parts}
@@ -23,12 +23,12 @@ pairs_above b b' (suc d ∷ cut) rest c words lt few plain e =
     let same : b' ≡ b = same_number b' b (omega arith) (omega arith) parts.0 in
     omega arith
 
--- the same cut, in front of the same words
+-- the same cut, before the same words
 pub record AreSame (xs ys : List ℕ) (s t : List (List ℕ)) : Type 0 where
   pub cuts : xs ≡ ys
   pub rests : s ≡ t
 
--- pairs in front of words that begin with no pair tell the cut and those words
+-- pairs before words that begin with no pair tell the cut and those words
 pub pairs_apart : (b : ℕ) (xs ys : List ℕ) (s t : List (List ℕ)) → length xs ≡ length ys → b + length xs ≤ 2 ^ 64 → AreNumbers xs → AreNumbers ys → NoPairFirst s → NoPairFirst t
     → pair_words b xs ++ s ≡ pair_words b ys ++ t → AreSame xs ys s t
 pairs_apart b [] [] s t same few h k p q e = record { cuts = refl; rests = e }
@@ -46,7 +46,7 @@ pairs_apart b (suc x ∷ xs) (suc y ∷ ys) s t same few h k p q e =
     let more = pairs_apart (b + 1) xs ys s t (omega arith) (omega arith) h.1 k.1 p q line.1 in
     record { cuts = ap (λ (z : ℕ). z ∷ xs) first ∙ ap (λ (zs : List ℕ). suc y ∷ zs) more.cuts; rests = more.rests }
 
--- pairs in front of words that begin with no pair have no bad one
+-- pairs before words that begin with no pair have no bad one
 pub pairs_good : (n : ℕ) (cut : List ℕ) (rest : List (List ℕ)) (b least : ℕ) → least ≤ b → b + length cut ≤ n → n ≤ 2 ^ 64 → AreNumbers cut → NoPairFirst rest → HasBadPair n least (pair_words b cut ++ rest) → ⊥
 pairs_good n [] [] b least le few small numbers plain h = h
 pairs_good n [] (word ∷ rest) b least le few small numbers plain h = absurd (cc (plain, h.0))

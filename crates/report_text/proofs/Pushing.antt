@@ -26,10 +26,10 @@ use Rattle.report_text.proofs.Groups.{push_at, length-grouped, before-suc, lengt
 
 -- ---- pages
 
--- a call's place in front of those without a line
-set_behind : (ops : List ℕ) (m x : ℕ) → set (ops ++ replicate (suc m) 0) (length ops) x ≡ (ops ++ x ∷ []) ++ replicate m 0
-set_behind [] m x = refl
-set_behind (op ∷ ops) m x = ap (λ (xs : List ℕ). op ∷ xs) (set_behind ops m x)
+-- a call's place before those without a line
+set_after : (ops : List ℕ) (m x : ℕ) → set (ops ++ replicate (suc m) 0) (length ops) x ≡ (ops ++ x ∷ []) ++ replicate m 0
+set_after [] m x = refl
+set_after (op ∷ ops) m x = ap (λ (xs : List ℕ). op ∷ xs) (set_after ops m x)
 
 abbrev pub op_of : Line → ℕ
 op_of line = line.op
@@ -45,7 +45,7 @@ part_operations count own line k size lt =
     let left : count - (k + 1) ≡ count - length (own ++ line ∷ []) = omega (arith, size, length-append own (line ∷ [])) in
     ap (λ (m : ℕ). set (ops ++ replicate m 0) k line.op) room
     ∙ ap (λ (j : ℕ). set (ops ++ replicate (suc (count - (k + 1))) 0) j line.op) (sym at)
-    ∙ set_behind ops (count - (k + 1)) line.op
+    ∙ set_after ops (count - (k + 1)) line.op
     ∙ ap (λ (m : ℕ). (ops ++ line.op ∷ []) ++ replicate m 0) left
     ∙ ap (λ (xs : List ℕ). xs ++ replicate (count - length (own ++ line ∷ [])) 0) (sym (map_push op_of own line))
 
@@ -96,9 +96,9 @@ so_far-push (c ∷ counts) told line zero k e lt =
     let few : length told ≤ c = omega (arith, e) in
     let all : take c told ≡ told = take_all c told few in
     let rest : drop c (told ++ line ∷ []) ≡ drop c told = drop_of_length-le (told ++ line ∷ []) size ∙ sym (drop_of_length-le told few) in
-    let front : part_page c (take c (told ++ line ∷ [])) ≡ page_with (part_page c (take c told)) k line.op (answer_in line.end)
+    let prefix : part_page c (take c (told ++ line ∷ [])) ≡ page_with (part_page c (take c told)) k line.op (answer_in line.end)
     = ap (part_page c) (take_all c (told ++ line ∷ []) size) ∙ sym (part_page-push c told line.op line.end k (omega (arith, e)) lt) ∙ ap (λ (own : List Line). page_with (part_page c own) k line.op (answer_in line.end)) (sym all) in
-    ap (λ (p : Page). p ∷ book_so_far counts (drop c (told ++ line ∷ []))) front
+    ap (λ (p : Page). p ∷ book_so_far counts (drop c (told ++ line ∷ []))) prefix
     ∙ ap (λ (ls : List Line). page_with (part_page c (take c told)) k line.op (answer_in line.end) ∷ book_so_far counts ls) rest
 so_far-push (c ∷ counts) told line (suc i) k e lt =
     let many : c ≤ length told = omega (arith, e, before-suc c counts i) in

@@ -27,7 +27,7 @@ use Rattle.call_lines.specs.declared.line.Line.{Line}
 use Rattle.call_lines.specs.Lines.{made_of, book_of_lines, lines_at, line_at, seen_at, delivered_in}
 use Rattle.reports.specs.Findings.{Findings, sizes, IsReport}
 use Rattle.reports.specs.Grammar.{line_words, call_line, caller_lines, report_lines, IsWrittenText}
-use Rattle.report_text.specs.ReportRules.{book_so_far, EndsTooEarly, ReportDue, InHead, InLines, AtEnd, behind_head, SaysLine, Fits, ReportPasses, report_rules, IsReportText}
+use Rattle.report_text.specs.ReportRules.{book_so_far, EndsTooEarly, ReportDue, InHead, InLines, AtEnd, after_head, SaysLine, Fits, ReportPasses, report_rules, IsReportText}
 use Rattle.report_text.specs.Drafts.{StandBefore}
 use Rattle.report_text.specs.Parts.{joined}
 use Rattle.report_text.proofs.Groups.{before, before-more}
@@ -157,7 +157,7 @@ answers_at [] i = refl
 answers_at (own ∷ lines) zero = ap (λ (rs : List Record). length rs) (flat_map-map (λ (c : Made). records_of c.reached) made_of own)
 answers_at (own ∷ lines) (suc i) = answers_at lines i
 
--- lines that are right, each behind those before it, are those of a report
+-- lines that are right, each after those before it, are those of a report
 pub sound_report : (kind : Kind) (lines : List (List Line)) → 1 ≤ length lines → length lines ≤ TEXT_CALLERS → AreAtMost TEXT_CALLS (sizes lines) → IsSound (sizes lines) (joined lines) → IsReport (record { kind = kind; lines = lines })
 sound_report kind lines some few calls s =
     let counts = sizes lines in
@@ -193,7 +193,7 @@ sound_report kind lines some few calls s =
       ];
     }
 
-enters : (due : HeadDue) (words : List (List ℕ)) (after : ReportDue) → ReportPasses (InHead due) words after → (next : HeadDue) × HeadPasses Second (codes "report") due words next × (after ≡ behind_head next)
+enters : (due : HeadDue) (words : List (List ℕ)) (after : ReportDue) → ReportPasses (InHead due) words after → (next : HeadDue) × HeadPasses Second (codes "report") due words next × (after ≡ after_head next)
 enters due words after h = h
 
 module _ (findings : Findings) where
@@ -204,7 +204,7 @@ module _ (findings : Findings) where
   -- the parts that were read are those of the report
   whole_read : (lines : List (List (List ℕ))) → Leads report_rules (AtEnd findings) (InHead TitleDue) lines → IsWholeRead lines
   whole_read lines h =
-      let head = head_read report_rules (AtEnd findings) Second (codes "report") InHead behind_head enters refl (λ kind. refl) (λ kind n. refl) (λ due e. absurd cc) lines h in
+      let head = head_read report_rules (AtEnd findings) Second (codes "report") InHead after_head enters refl (λ kind. refl) (λ kind n. refl) (λ due e. absurd cc) lines h in
       let kind = head.object in
       let counts = head.counts in
       let calls = read_callers findings kind counts [] [] counts head.others refl refl (sound-none counts) head.leads in

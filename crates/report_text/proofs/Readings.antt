@@ -20,19 +20,19 @@ use Rattle.book_text.proofs.Endings.{goes_end, stops_end}
 use Rattle.call_lines.specs.declared.line.Line.{Line}
 use Rattle.client_scripts.specs.ScriptRules.{grouped}
 use Rattle.reports.specs.Findings.{Findings}
-use Rattle.report_text.specs.ReportRules.{InHead, InLines, AtEnd, behind_head, ReportPasses, ReportFails, report_wanted, report_rules, IsReportText, IsNoReportText, IsFirstReportFault}
+use Rattle.report_text.specs.ReportRules.{InHead, InLines, AtEnd, after_head, ReportPasses, ReportFails, report_wanted, report_rules, IsReportText, IsNoReportText, IsFirstReportFault}
 use Rattle.report_text.proofs.SharpReports.{report_sharp}
 
 -- ---- the head
 
-head_right : (due after : HeadDue) (words : List (List ℕ)) → HeadPasses Second (codes "report") due words after → ReportPasses (behind_head due) words (behind_head after)
+head_right : (due after : HeadDue) (words : List (List ℕ)) → HeadPasses Second (codes "report") due words after → ReportPasses (after_head due) words (after_head after)
 head_right TitleDue after words h = (after, h, refl)
 head_right ObjectDue after words h = (after, h, refl)
 head_right (CallersDue kind) after words h = (after, h, refl)
 head_right (CountsDue kind n) after words h = (after, h, refl)
 head_right (HeadRead kind calls) after words h = absurd h
 
-head_wrong : (due : HeadDue) (bytes : List ℕ) (what : What) → IsWrong (head_rules Second (codes "report")) due (head_wanted due) bytes what → IsWrong report_rules (behind_head due) (report_wanted (behind_head due)) bytes what
+head_wrong : (due : HeadDue) (bytes : List ℕ) (what : What) → IsWrong (head_rules Second (codes "report")) due (head_wanted due) bytes what → IsWrong report_rules (after_head due) (report_wanted (after_head due)) bytes what
 head_wrong TitleDue bytes what (inl h) = inl h
 head_wrong TitleDue bytes what (inr h) = inr (record { line = h.line; rest = h.rest; whole = h.whole; test = record { fails = h.test.fails; first = h.test.first } })
 head_wrong ObjectDue bytes what (inl h) = inl h
@@ -43,11 +43,11 @@ head_wrong (CountsDue kind n) bytes what (inl h) = inl h
 head_wrong (CountsDue kind n) bytes what (inr h) = inr (record { line = h.line; rest = h.rest; whole = h.whole; test = record { fails = h.test.fails; first = h.test.first } })
 head_wrong (HeadRead kind calls) bytes what h = absurd h
 
-pub head_goes : (due after : HeadDue) (text left : Unread) → GoesTo (head_rules Second (codes "report")) due text after left → GoesTo report_rules (behind_head due) text (behind_head after) left
-head_goes = goes_within (head_rules Second (codes "report")) report_rules behind_head head_right head_wrong
+pub head_goes : (due after : HeadDue) (text left : Unread) → GoesTo (head_rules Second (codes "report")) due text after left → GoesTo report_rules (after_head due) text (after_head after) left
+head_goes = goes_within (head_rules Second (codes "report")) report_rules after_head head_right head_wrong
 
-pub head_fault : (due : HeadDue) (text : Unread) (fault : TextFault) → IsFirstFault (head_rules Second (codes "report")) due text fault → IsFirstFault report_rules (behind_head due) text fault
-head_fault = fault_within (head_rules Second (codes "report")) report_rules behind_head head_right head_wrong
+pub head_fault : (due : HeadDue) (text : Unread) (fault : TextFault) → IsFirstFault (head_rules Second (codes "report")) due text fault → IsFirstFault report_rules (after_head due) text fault
+head_fault = fault_within (head_rules Second (codes "report")) report_rules after_head head_right head_wrong
 
 -- ---- the end
 

@@ -11,11 +11,11 @@ use Rattle.seq_objects.specs.Words.{operation_words}
 use Rattle.seq_objects.specs.Replies.{reply_word}
 use Rattle.seq_objects.proofs.ReplyTexts.{reply_word-once}
 use Rattle.text_fields.specs.declared.version.Version.TheVariants.{Second}
-use Rattle.text_fields.specs.Counts.{pair_words, HasBadPair, HasWordBehindPairs, NoPairFirst}
+use Rattle.text_fields.specs.Counts.{pair_words, HasBadPair, HasWordAfterPairs, NoPairFirst}
 use Rattle.text_fields.specs.OperationLaws.{one_kind_operation}
 use Rattle.text_fields.proofs.NumberTexts.{same_first}
-use Rattle.book_text.specs.CallLines.{place_words, IsBehindOperation}
-use Rattle.book_text.proofs.EntryTexts.{same_behind, behind_place, pairs_not_bad, pairs_not_words}
+use Rattle.book_text.specs.CallLines.{place_words, IsAfterOperation}
+use Rattle.book_text.proofs.EntryTexts.{same_after, after_place, pairs_not_bad, pairs_not_words}
 use Rattle.book_text.proofs.CallTexts.{pairs_once}
 use Rattle.client_scripts.proofs.SharpScripts.{small_has}
 use Rattle.client_scripts.specs.ScriptRules.{grouped}
@@ -24,10 +24,10 @@ use Rattle.call_lines.specs.declared.line.LineEnd.TheVariants.{Pending, Unchecke
 use Rattle.call_lines.specs.declared.line.Line.{Line}
 use Rattle.call_lines.specs.Lines.{seen_in}
 use Rattle.reports.specs.Grammar.{ending_words, line_words, seen_words}
-use Rattle.report_text.specs.ReportRules.{book_so_far, IsCut, IsAnswer, IsFormed, SaysLine, IsBehindView, BeginAsVerdict, EndsTooEarly}
+use Rattle.report_text.specs.ReportRules.{book_so_far, IsCut, IsAnswer, IsFormed, SaysLine, IsAfterView, BeginAsVerdict, EndsTooEarly}
 use Rattle.report_text.specs.Parts.{answer_in, MayTell, FitsCuts}
 use Rattle.report_text.proofs.PairTexts.{pairs_apart}
-use Rattle.report_text.proofs.WordTexts.{pending_no_reply, plain_unchecked, plain_ok, plain_error, ok_no_error, unchecked_no_verdict, one_verdict, operations_of, Fails, FailsViewTest, behind_op, one_view, pending_has_no_reply, passes_place, passes_op, passes_reply_pending, passes_reply, passes_view, passes_tests, passes_mark}
+use Rattle.report_text.proofs.WordTexts.{pending_no_reply, plain_unchecked, plain_ok, plain_error, ok_no_error, unchecked_no_verdict, one_verdict, operations_of, Fails, FailsViewTest, after_op, one_view, pending_has_no_reply, passes_place, passes_op, passes_reply_pending, passes_reply, passes_view, passes_tests, passes_mark}
 
 -- ---- a line says one thing
 
@@ -71,9 +71,9 @@ one_ending n (Error r c) (Error s d) small h k e =
 
 pub one_line : (kind : Kind) (n : ℕ) (call : Call) (words : List (List ℕ)) (a b : Line) → SaysLine kind n call words a → SaysLine kind n call words b → a ≡ b
 one_line kind n call words a b h k =
-    let e = behind_place call (operation_words kind a.op ++ ending_words a.end) (operation_words kind b.op ++ ending_words b.end) (sym h.text ∙ k.text) in
+    let e = after_place call (operation_words kind a.op ++ ending_words a.end) (operation_words kind b.op ++ ending_words b.end) (sym h.text ∙ k.text) in
     let op : a.op ≡ b.op = one_kind_operation Second kind a.op b.op _ _ (small_has Second a.op h.has) (small_has Second b.op k.has) e in
-    let rest = same_behind (operation_words kind b.op) (ending_words a.end) (ending_words b.end) (ap (λ (o : ℕ). operation_words kind o ++ ending_words a.end) (sym op) ∙ e) in
+    let rest = same_after (operation_words kind b.op) (ending_words a.end) (ending_words b.end) (ap (λ (o : ℕ). operation_words kind o ++ ending_words a.end) (sym op) ∙ e) in
     let end : a.end ≡ b.end = one_ending n a.end b.end (omega (arith, h.few)) h.formed k.formed rest in
     let made : ℕ → LineEnd → Line = λ o x. record { op = o; end = x } in
     ap (λ (o : ℕ). made o a.end) op ∙ ap (made b.op) end
@@ -84,29 +84,29 @@ module _ (kind : Kind) (counts : List ℕ) (told : List Line) (call : Call) (wor
   abbrev n : ℕ
   n = length counts
 
-  -- the line has this record, and behind its view it says a verdict
+  -- the line has this record, and after its view it says a verdict
   pub record HasAnswer (r : Record) : Type 0 where
-    pub behind : List (List ℕ)
-    pub at : IsBehindView kind n call words r.view behind
-    pub said : (behind ≡ codes "unchecked" ∷ []) ⊎ ((cut : List ℕ) × IsCut n cut × BeginAsVerdict behind (pair_words 0 cut))
+    pub suffix : List (List ℕ)
+    pub at : IsAfterView kind n call words r.view suffix
+    pub said : (suffix ≡ codes "unchecked" ∷ []) ⊎ ((cut : List ℕ) × IsCut n cut × BeginAsVerdict suffix (pair_words 0 cut))
 
-  pub behind_view : (op : ℕ) (r : Record) (behind : List (List ℕ)) → IsOperationWord op → IsAnswer n r → NoPairFirst behind
-      → words ≡ place_words call ++ (operation_words kind op ++ (reply_word r.reply ∷ codes "view" ∷ (pair_words 0 r.view ++ behind))) → IsBehindView kind n call words r.view behind
-  behind_view op r behind has answer free e = record {
+  pub after_view : (op : ℕ) (r : Record) (suffix : List (List ℕ)) → IsOperationWord op → IsAnswer n r → NoPairFirst suffix
+      → words ≡ place_words call ++ (operation_words kind op ++ (reply_word r.reply ∷ codes "view" ∷ (pair_words 0 r.view ++ suffix))) → IsAfterView kind n call words r.view suffix
+  after_view op r suffix has answer free e = record {
     formed = answer.1;
     plain = free;
-    text = record { reply = r.reply; small = answer.0; text = behind_op kind counts told call words op _ has e };
+    text = record { reply = r.reply; small = answer.0; text = after_op kind counts told call words op _ has e };
   }
 
   -- the line is that of a pending call, or has an answer
   abbrev IsPendingOr : LineEnd → Type 0
-  IsPendingOr end = ((answer_in end ≡ None) × IsBehindOperation (operations_of kind) call words (codes "pending" ∷ [])) ⊎ ((r : Record) × (answer_in end ≡ Some r) × HasAnswer r)
+  IsPendingOr end = ((answer_in end ≡ None) × IsAfterOperation (operations_of kind) call words (codes "pending" ∷ [])) ⊎ ((r : Record) × (answer_in end ≡ Some r) × HasAnswer r)
 
   pending_or : (op : ℕ) (end : LineEnd) → IsOperationWord op → IsFormed n end → words ≡ line_words kind call (record { op = op; end = end }) → IsPendingOr end
-  pending_or op Pending has h e = inl (refl, behind_op kind counts told call words op _ has e)
-  pending_or op (Unchecked r) has h e = inr (r, refl, record { behind = codes "unchecked" ∷ []; at = behind_view op r _ has h (plain_unchecked []) e; said = inl refl })
-  pending_or op (Delivered r cut) has h e = inr (r, refl, record { behind = codes "ok" ∷ seen_words cut; at = behind_view op r _ has h.0 (plain_ok (seen_words cut)) e; said = inr (cut, h.1, inl refl) })
-  pending_or op (Error r cut) has h e = inr (r, refl, record { behind = codes "error" ∷ seen_words cut; at = behind_view op r _ has h.0 (plain_error (seen_words cut)) e; said = inr (cut, h.1, inr refl) })
+  pending_or op Pending has h e = inl (refl, after_op kind counts told call words op _ has e)
+  pending_or op (Unchecked r) has h e = inr (r, refl, record { suffix = codes "unchecked" ∷ []; at = after_view op r _ has h (plain_unchecked []) e; said = inl refl })
+  pending_or op (Delivered r cut) has h e = inr (r, refl, record { suffix = codes "ok" ∷ seen_words cut; at = after_view op r _ has h.0 (plain_ok (seen_words cut)) e; said = inr (cut, h.1, inl refl) })
+  pending_or op (Error r cut) has h e = inr (r, refl, record { suffix = codes "error" ∷ seen_words cut; at = after_view op r _ has h.0 (plain_error (seen_words cut)) e; said = inr (cut, h.1, inr refl) })
 
   module _ (line : Line) (h : SaysLine kind n call words line) where
     small : n < 2 ^ 64
@@ -119,7 +119,7 @@ module _ (kind : Kind) (counts : List ℕ) (told : List Line) (call : Call) (wor
     said_place k = passes_place kind counts told call words _ h.text k
 
     pub said_op : Fails kind counts told call words what.Op → ⊥
-    said_op k = passes_op kind counts told call words (ending_words line.end) (behind_op kind counts told call words line.op _ h.has h.text) k
+    said_op k = passes_op kind counts told call words (ending_words line.end) (after_op kind counts told call words line.op _ h.has h.text) k
 
     reply_cases : IsPendingOr line.end → Fails kind counts told call words what.Reply → ⊥
     reply_cases (inl pending) k = passes_reply_pending kind counts told call words pending.1 k
@@ -130,43 +130,43 @@ module _ (kind : Kind) (counts : List ℕ) (told : List Line) (call : Call) (wor
 
     view_cases : IsPendingOr line.end → Fails kind counts told call words what.View → ⊥
     view_cases (inl pending) k = pending_has_no_reply kind counts told call words _ pending.1 k.1
-    view_cases (inr a) k = passes_view kind counts told call words a.0.view a.2.behind small a.2.at k
+    view_cases (inr a) k = passes_view kind counts told call words a.0.view a.2.suffix small a.2.at k
 
     pub said_view : Fails kind counts told call words what.View → ⊥
     said_view k = view_cases right k
 
     tests_cases : (name : What) → MayTell (book_so_far counts told) call (answer_in line.end) → IsPendingOr line.end → FailsViewTest kind counts told call words name → ⊥
     tests_cases name may (inl pending) k = pending_has_no_reply kind counts told call words _ pending.1 k.at.text
-    tests_cases name may (inr a) k = passes_tests kind counts told call words a.0.view a.2.behind name small a.2.at (subst (MayTell (book_so_far counts told) call) a.1 may) k
+    tests_cases name may (inr a) k = passes_tests kind counts told call words a.0.view a.2.suffix name small a.2.at (subst (MayTell (book_so_far counts told) call) a.1 may) k
 
     pub said_tests : (name : What) → MayTell (book_so_far counts told) call (answer_in line.end) → FailsViewTest kind counts told call words name → ⊥
     said_tests name may k = tests_cases name may right k
 
-    mark_said : (behind : List (List ℕ)) → (behind ≡ codes "unchecked" ∷ []) ⊎ ((cut : List ℕ) × IsCut n cut × BeginAsVerdict behind (pair_words 0 cut))
-        → (behind ≡ codes "unchecked" ∷ []) ⊎ ((others : List (List ℕ)) × BeginAsVerdict behind others)
-    mark_said behind (inl unchecked) = inl unchecked
-    mark_said behind (inr verdict) = inr (pair_words 0 verdict.0, verdict.2)
+    mark_said : (suffix : List (List ℕ)) → (suffix ≡ codes "unchecked" ∷ []) ⊎ ((cut : List ℕ) × IsCut n cut × BeginAsVerdict suffix (pair_words 0 cut))
+        → (suffix ≡ codes "unchecked" ∷ []) ⊎ ((others : List (List ℕ)) × BeginAsVerdict suffix others)
+    mark_said suffix (inl unchecked) = inl unchecked
+    mark_said suffix (inr verdict) = inr (pair_words 0 verdict.0, verdict.2)
 
     mark_cases : IsPendingOr line.end → Fails kind counts told call words what.Mark → ⊥
     mark_cases (inl pending) k = pending_has_no_reply kind counts told call words _ pending.1 k.2.text
-    mark_cases (inr a) k = passes_mark kind counts told call words a.0.view a.2.behind small a.2.at (mark_said a.2.behind a.2.said) k
+    mark_cases (inr a) k = passes_mark kind counts told call words a.0.view a.2.suffix small a.2.at (mark_said a.2.suffix a.2.said) k
 
     pub said_mark : Fails kind counts told call words what.Mark → ⊥
     said_mark k = mark_cases right k
 
-    -- the words behind 'seen' are a cut
-    cut_cases : (view : List ℕ) (behind pairs : List (List ℕ)) → IsBehindView kind n call words view behind → BeginAsVerdict behind pairs → HasBadPair n 0 pairs ⊎ HasWordBehindPairs pairs → IsPendingOr line.end → ⊥
-    cut_cases view behind pairs at begins bad (inl pending) = pending_has_no_reply kind counts told call words _ pending.1 at.text
-    cut_cases view behind pairs at begins bad (inr a) =
-        let same : behind ≡ a.2.behind = (one_view kind counts told call words view a.0.view behind a.2.behind small at a.2.at).rests in
-        let here : BeginAsVerdict a.2.behind pairs = subst (λ (ws : List (List ℕ)). BeginAsVerdict ws pairs) same begins in
+    -- the words after 'seen' are a cut
+    cut_cases : (view : List ℕ) (suffix pairs : List (List ℕ)) → IsAfterView kind n call words view suffix → BeginAsVerdict suffix pairs → HasBadPair n 0 pairs ⊎ HasWordAfterPairs pairs → IsPendingOr line.end → ⊥
+    cut_cases view suffix pairs at begins bad (inl pending) = pending_has_no_reply kind counts told call words _ pending.1 at.text
+    cut_cases view suffix pairs at begins bad (inr a) =
+        let same : suffix ≡ a.2.suffix = (one_view kind counts told call words view a.0.view suffix a.2.suffix small at a.2.at).rests in
+        let here : BeginAsVerdict a.2.suffix pairs = subst (λ (ws : List (List ℕ)). BeginAsVerdict ws pairs) same begins in
         elim a.2.said [
-          | inl unchecked ↦ unchecked_no_verdict a.2.behind pairs unchecked here
+          | inl unchecked ↦ unchecked_no_verdict a.2.suffix pairs unchecked here
           | inr verdict ↦
-              let is : pairs ≡ pair_words 0 verdict.0 = one_verdict a.2.behind pairs (pair_words 0 verdict.0) here verdict.2 in
+              let is : pairs ≡ pair_words 0 verdict.0 = one_verdict a.2.suffix pairs (pair_words 0 verdict.0) here verdict.2 in
               elim bad [
                 | inl pair ↦ pairs_not_bad n verdict.0 0 0 (omega arith) (omega (arith, verdict.1.0)) (omega (arith, small)) verdict.1.1 (subst (HasBadPair n 0) is pair)
-                | inr word ↦ pairs_not_words 0 verdict.0 (omega (arith, small, verdict.1.0)) (subst HasWordBehindPairs is word)
+                | inr word ↦ pairs_not_words 0 verdict.0 (omega (arith, small, verdict.1.0)) (subst HasWordAfterPairs is word)
               ]
         ]
 

@@ -30,7 +30,7 @@ use Rattle.call_lines.specs.declared.line.Line.{Line}
 use Rattle.call_lines.specs.Lines.{reached_of}
 use Rattle.book_base.specs.Book.{Page}
 use Rattle.reports.specs.Grammar.{ending_words, seen_words}
-use Rattle.report_text.specs.ReportRules.{book_so_far, IsCut, IsAnswer, IsFormed, SaysLine, Fits, LineFails, ReportDue, InHead, InLines, AtEnd, behind_head, ReportPasses, ReportFails, report_wanted, report_rules}
+use Rattle.report_text.specs.ReportRules.{book_so_far, IsCut, IsAnswer, IsFormed, SaysLine, Fits, LineFails, ReportDue, InHead, InLines, AtEnd, after_head, ReportPasses, ReportFails, report_wanted, report_rules}
 use Rattle.world_core.specs.Calls.{records_of}
 use Rattle.report_text.specs.Parts.{answer_in, MayTell}
 use Rattle.report_text.proofs.RightLines.{one_line, said_place, said_op, said_reply, said_view, said_tests, said_mark, said_seen, said_last}
@@ -53,7 +53,7 @@ line_apart kind counts told call words line what.Mark h f k = said_mark kind cou
 line_apart kind counts told call words line what.Seen h f k = said_seen kind counts told call words line h (record { seen = f.seen; pending = f.pending }) k
 line_apart kind counts told call words line what.Last h f k = said_last kind counts told call words line h f.last k
 line_apart kind counts told call words line name h f k =
-    said_tests kind counts told call words line h name (may_tell (book_so_far counts told) call line.end f.view) (record { view = k.0; behind = k.1; fault = k.2; at = k.3; test = k.4; fails = k.5 })
+    said_tests kind counts told call words line h name (may_tell (book_so_far counts told) call line.end f.view) (record { view = k.0; suffix = k.1; fault = k.2; at = k.3; test = k.4; fails = k.5 })
 
 -- ---- the words of a right line can stand in a line
 
@@ -110,7 +110,7 @@ head : AreSharp (head_rules Second (codes "report"))
 head = head_sharp Second (codes "report") solid_title
 
 one_way : (due a b : ReportDue) (words : List (List ℕ)) → ReportPasses due words a → ReportPasses due words b → a ≡ b
-one_way (InHead due) a b words h k = h.2 ∙ ap behind_head (head.one_way due h.0 k.0 words h.1 k.1) ∙ sym k.2
+one_way (InHead due) a b words h k = h.2 ∙ ap after_head (head.one_way due h.0 k.0 words h.1 k.1) ∙ sym k.2
 one_way (InLines kind counts told []) a b words h k = h.1 ∙ sym k.1
 one_way (InLines kind counts told (call ∷ calls)) a b words h k =
     let same : h.0 ≡ k.0 = one_line kind (length counts) call words h.0 k.0 h.1 k.1 in

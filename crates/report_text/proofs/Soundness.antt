@@ -79,7 +79,7 @@ pub record IsSeenFit (counts : List ℕ) (lines : List (List Line)) (call : Call
   pub within : (j : ℕ) → get_or cut j 0 ≤ get_or counts j 0
   pub free : (other : Call) → IsPendingAt lines other → ¬ (Holds cut other)
 
--- lines that are right, each behind those before it
+-- lines that are right, each after those before it
 pub record IsSound (counts : List ℕ) (told : List Line) : Type 0 where
   pub operations : AllByRecursion (λ line. IsOperationWord line.op) told
   pub replies : AreWritable (book_so_far counts told)

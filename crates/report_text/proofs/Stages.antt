@@ -1,4 +1,4 @@
--- The stages of a text that is read: behind its head, its lines and its end.
+-- The stages of a text that is read: after its head, its lines and its end.
 use Rattle.std.proofs.Common.{◌≡◌, ℕ, List, [], subst, ap, sym, ◌∙◌}
 use Rattle.std.specs.Prelude.{codes}
 use Rattle.seq_objects.specs.declared.kind.Kind.{Kind}

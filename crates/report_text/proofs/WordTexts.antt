@@ -21,12 +21,12 @@ use Rattle.text_fields.specs.Faults.{turn_of}
 use Rattle.text_fields.specs.Operations.{Operations, kind_operations}
 use Rattle.text_fields.specs.OperationLaws.{small_word, one_kind_operation}
 use Rattle.text_fields.proofs.NumberTexts.{same_first}
-use Rattle.book_text.specs.CallLines.{place_words, IsBehindOperation, IsBehindReply, view_test}
-use Rattle.book_text.proofs.EntryTexts.{behind_place, pairs_not_words}
+use Rattle.book_text.specs.CallLines.{place_words, IsAfterOperation, IsAfterReply, view_test}
+use Rattle.book_text.proofs.EntryTexts.{after_place, pairs_not_words}
 use Rattle.book_text.proofs.EntryTexts as entry
 use Rattle.client_scripts.proofs.SharpScripts.{small_has}
 use Rattle.call_lines.specs.declared.line.Line.{Line}
-use Rattle.report_text.specs.ReportRules.{book_so_far, IsBehindView, BeginAsVerdict, LineFails}
+use Rattle.report_text.specs.ReportRules.{book_so_far, IsAfterView, BeginAsVerdict, LineFails}
 use Rattle.report_text.proofs.PairTexts.{AreSame, pairs_apart, pairs_good}
 
 -- ---- no reply is 'pending'
@@ -86,63 +86,63 @@ module _ (kind : Kind) (counts : List ℕ) (told : List Line) (call : Call) (wor
   abbrev pub Fails : What → Type 0
   Fails name = LineFails kind counts told call words name
 
-  pub behind_op : (op : ℕ) (behind : List (List ℕ)) → IsOperationWord op → words ≡ place_words call ++ (operation_words kind op ++ behind) → IsBehindOperation (operations_of kind) call words behind
-  behind_op op behind has e = record { op = op; has = small_has Second op has; text = e }
+  pub after_op : (op : ℕ) (suffix : List (List ℕ)) → IsOperationWord op → words ≡ place_words call ++ (operation_words kind op ++ suffix) → IsAfterOperation (operations_of kind) call words suffix
+  after_op op suffix has e = record { op = op; has = small_has Second op has; text = e }
 
-  pub one_behind : (x y : List (List ℕ)) → IsBehindOperation (operations_of kind) call words x → IsBehindOperation (operations_of kind) call words y → x ≡ y
-  one_behind x y a b = entry.one_behind Second (operations_of kind) (length counts) false call words (one_kind_operation Second kind) x y a b
+  pub one_after : (x y : List (List ℕ)) → IsAfterOperation (operations_of kind) call words x → IsAfterOperation (operations_of kind) call words y → x ≡ y
+  one_after x y a b = entry.one_after Second (operations_of kind) (length counts) false call words (one_kind_operation Second kind) x y a b
 
-  pub one_reply : (x y : List (List ℕ)) → IsBehindReply (operations_of kind) call words x → IsBehindReply (operations_of kind) call words y → x ≡ y
-  one_reply x y a b = (same_first _ _ _ _ (one_behind _ _ a.text b.text)).1
+  pub one_reply : (x y : List (List ℕ)) → IsAfterReply (operations_of kind) call words x → IsAfterReply (operations_of kind) call words y → x ≡ y
+  one_reply x y a b = (same_first _ _ _ _ (one_after _ _ a.text b.text)).1
 
-  pub one_view : (v w : List ℕ) (x y : List (List ℕ)) → length counts < 2 ^ 64 → IsBehindView kind (length counts) call words v x → IsBehindView kind (length counts) call words w y → AreSame v w x y
+  pub one_view : (v w : List ℕ) (x y : List (List ℕ)) → length counts < 2 ^ 64 → IsAfterView kind (length counts) call words v x → IsAfterView kind (length counts) call words w y → AreSame v w x y
   one_view v w x y small a b =
       pairs_apart 0 v w x y (a.formed.0 ∙ sym b.formed.0) (omega (arith, a.formed.0)) a.formed.1 b.formed.1 a.plain b.plain (same_first _ _ _ _ (one_reply _ _ a.text b.text)).1
 
   -- the line of a pending call has no reply
-  pub pending_has_no_reply : (behind : List (List ℕ)) → IsBehindOperation (operations_of kind) call words (codes "pending" ∷ []) → IsBehindReply (operations_of kind) call words behind → ⊥
-  pending_has_no_reply behind at h = pending_no_reply h.reply (sym (same_first _ _ _ _ (one_behind _ _ at h.text)).0)
+  pub pending_has_no_reply : (suffix : List (List ℕ)) → IsAfterOperation (operations_of kind) call words (codes "pending" ∷ []) → IsAfterReply (operations_of kind) call words suffix → ⊥
+  pending_has_no_reply suffix at h = pending_no_reply h.reply (sym (same_first _ _ _ _ (one_after _ _ at h.text)).0)
 
-  pub passes_place : (behind : List (List ℕ)) → words ≡ place_words call ++ behind → Fails what.Place → ⊥
-  passes_place behind e h = h behind e
+  pub passes_place : (suffix : List (List ℕ)) → words ≡ place_words call ++ suffix → Fails what.Place → ⊥
+  passes_place suffix e h = h suffix e
 
-  pub passes_op : (behind : List (List ℕ)) → IsBehindOperation (operations_of kind) call words behind → Fails what.Op → ⊥
-  passes_op behind at h = h.2 at.op behind (small_word Second at.op at.has) (behind_place call h.0 (operation_words kind at.op ++ behind) (sym h.1 ∙ at.text))
+  pub passes_op : (suffix : List (List ℕ)) → IsAfterOperation (operations_of kind) call words suffix → Fails what.Op → ⊥
+  passes_op suffix at h = h.2 at.op suffix (small_word Second at.op at.has) (after_place call h.0 (operation_words kind at.op ++ suffix) (sym h.1 ∙ at.text))
 
-  pub passes_reply_pending : IsBehindOperation (operations_of kind) call words (codes "pending" ∷ []) → Fails what.Reply → ⊥
-  passes_reply_pending at h = h.2 (one_behind _ _ h.1 at)
+  pub passes_reply_pending : IsAfterOperation (operations_of kind) call words (codes "pending" ∷ []) → Fails what.Reply → ⊥
+  passes_reply_pending at h = h.2 (one_after _ _ h.1 at)
 
-  pub passes_reply : (behind : List (List ℕ)) → IsBehindReply (operations_of kind) call words behind → Fails what.Reply → ⊥
-  passes_reply behind at h = h.3 at.reply behind at.small (one_behind _ _ h.1 at.text)
+  pub passes_reply : (suffix : List (List ℕ)) → IsAfterReply (operations_of kind) call words suffix → Fails what.Reply → ⊥
+  passes_reply suffix at h = h.3 at.reply suffix at.small (one_after _ _ h.1 at.text)
 
-  pub passes_view : (view : List ℕ) (behind : List (List ℕ)) → length counts < 2 ^ 64 → IsBehindView kind (length counts) call words view behind → Fails what.View → ⊥
-  passes_view view behind small at h =
-      let is : h.0 ≡ codes "view" ∷ (pair_words 0 view ++ behind) = one_reply _ _ h.1 at.text in
+  pub passes_view : (view : List ℕ) (suffix : List (List ℕ)) → length counts < 2 ^ 64 → IsAfterView kind (length counts) call words view suffix → Fails what.View → ⊥
+  passes_view view suffix small at h =
+      let is : h.0 ≡ codes "view" ∷ (pair_words 0 view ++ suffix) = one_reply _ _ h.1 at.text in
       elim h.2 [
-        | inl lacks ↦ lacks (pair_words 0 view ++ behind) is
+        | inl lacks ↦ lacks (pair_words 0 view ++ suffix) is
         | inr bad ↦
-            let same : bad.0 ≡ pair_words 0 view ++ behind = (same_first _ _ _ _ (sym bad.1 ∙ is)).1 in
-            pairs_good (length counts) view behind 0 0 (omega arith) (omega (arith, at.formed.0)) (omega arith) at.formed.1 at.plain (subst (HasBadPair (length counts) 0) same bad.2)
+            let same : bad.0 ≡ pair_words 0 view ++ suffix = (same_first _ _ _ _ (sym bad.1 ∙ is)).1 in
+            pairs_good (length counts) view suffix 0 0 (omega arith) (omega (arith, at.formed.0)) (omega arith) at.formed.1 at.plain (subst (HasBadPair (length counts) 0) same bad.2)
       ]
 
   -- a test of views that the line fails, by its view
   pub record FailsViewTest (name : What) : Type 0 where
     pub view : List ℕ
-    pub behind : List (List ℕ)
+    pub suffix : List (List ℕ)
     pub fault : BookFault
-    pub at : IsBehindView kind (length counts) call words view behind
+    pub at : IsAfterView kind (length counts) call words view suffix
     pub test : view_test fault ≡ Some name
     pub fails : FailsTest (book_so_far counts told) call.caller view fault
 
-  pub passes_tests : (view : List ℕ) (behind : List (List ℕ)) (name : What) → length counts < 2 ^ 64 → IsBehindView kind (length counts) call words view behind → MayAnswer (book_so_far counts told) call.caller view → FailsViewTest name → ⊥
-  passes_tests view behind name small at may h =
-      let same = (one_view h.view view h.behind behind small h.at at).cuts in
+  pub passes_tests : (view : List ℕ) (suffix : List (List ℕ)) (name : What) → length counts < 2 ^ 64 → IsAfterView kind (length counts) call words view suffix → MayAnswer (book_so_far counts told) call.caller view → FailsViewTest name → ⊥
+  passes_tests view suffix name small at may h =
+      let same = (one_view h.view view h.suffix suffix small h.at at).cuts in
       no_test_fails (book_so_far counts told) call.caller view may h.fault (subst (λ (v : List ℕ). FailsTest (book_so_far counts told) call.caller v h.fault) same h.fails)
 
-  pub passes_mark : (view : List ℕ) (behind : List (List ℕ)) → length counts < 2 ^ 64 → IsBehindView kind (length counts) call words view behind
-      → (behind ≡ codes "unchecked" ∷ []) ⊎ ((others : List (List ℕ)) × BeginAsVerdict behind others) → Fails what.Mark → ⊥
-  passes_mark view behind small at said h =
-      let same : behind ≡ h.1 = (one_view view h.0 behind h.1 small at h.2).rests in
+  pub passes_mark : (view : List ℕ) (suffix : List (List ℕ)) → length counts < 2 ^ 64 → IsAfterView kind (length counts) call words view suffix
+      → (suffix ≡ codes "unchecked" ∷ []) ⊎ ((others : List (List ℕ)) × BeginAsVerdict suffix others) → Fails what.Mark → ⊥
+  passes_mark view suffix small at said h =
+      let same : suffix ≡ h.1 = (one_view view h.0 suffix h.1 small at h.2).rests in
       elim said [
         | inl unchecked ↦ h.3 (sym same ∙ unchecked)
         | inr verdict ↦ h.4 verdict.0 (subst (λ (ws : List (List ℕ)). BeginAsVerdict ws verdict.0) same verdict.1)
@@ -159,4 +159,4 @@ module _ (kind : Kind) (counts : List ℕ) (told : List Line) (call : Call) (wor
   no_earlier k p o r v t m s few what.Mark lt h = m lt h
   no_earlier k p o r v t m s few what.Seen lt h = s lt h
   no_earlier k p o r v t m s few what.Last lt h = absurd (omega arith)
-  no_earlier k p o r v t m s few name lt h = t name lt (record { view = h.0; behind = h.1; fault = h.2; at = h.3; test = h.4; fails = h.5 })
+  no_earlier k p o r v t m s few name lt h = t name lt (record { view = h.0; suffix = h.1; fault = h.2; at = h.3; test = h.4; fails = h.5 })

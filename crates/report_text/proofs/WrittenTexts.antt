@@ -62,7 +62,7 @@ few_records l = of_end l.end where
   of_end (Delivered r cut) = omega arith
   of_end (Error r cut) = omega arith
 
--- no record stands behind a pending line
+-- no record stands after a pending line
 before_pending : (own : List Line) (m : ℕ) (l : Line) → slice_get own m ≡ Some l → l.end ≡ Pending → length own ≤ m + 1 → length (flat_map records_in own) ≤ m
 before_pending [] m l e p le = omega arith
 before_pending (x ∷ []) zero l e p le =
@@ -94,13 +94,13 @@ joined-middle : (done : List (List Line)) (own : List Line) (later : List (List 
 joined-middle done own later =
     flat_map-append (λ (x : List Line). x) done (own ∷ later) ∙ ap (λ (ls : List Line). joined done ++ ls) (flat_map-cons (λ (x : List Line). x) own later)
 
-joined_parts : (done : List (List Line)) (own : List Line) (later : List (List Line)) (front : List Line) (line : Line) (rest : List Line) (lines : List (List Line)) → lines ≡ done ++ own ∷ later → own ≡ front ++ line ∷ rest
-    → joined lines ≡ (joined done ++ front) ++ line ∷ (rest ++ joined later)
-joined_parts done own later front line rest lines split is =
+joined_parts : (done : List (List Line)) (own : List Line) (later : List (List Line)) (prefix : List Line) (line : Line) (rest : List Line) (lines : List (List Line)) → lines ≡ done ++ own ∷ later → own ≡ prefix ++ line ∷ rest
+    → joined lines ≡ (joined done ++ prefix) ++ line ∷ (rest ++ joined later)
+joined_parts done own later prefix line rest lines split is =
     ap joined split ∙ joined-middle done own later
     ∙ ap (λ (ls : List Line). joined done ++ (ls ++ joined later)) is
-    ∙ ap (λ (ls : List Line). joined done ++ ls) (append_assoc front (line ∷ rest) (joined later))
-    ∙ sym (append_assoc (joined done) front (line ∷ (rest ++ joined later)))
+    ∙ ap (λ (ls : List Line). joined done ++ ls) (append_assoc prefix (line ∷ rest) (joined later))
+    ∙ sym (append_assoc (joined done) prefix (line ∷ (rest ++ joined later)))
 
 sizes-middle : (done : List (List Line)) (own : List Line) (later : List (List Line)) → sizes (done ++ own ∷ later) ≡ sizes done ++ length own ∷ sizes later
 sizes-middle done own later = map-append (λ (x : List Line). length x) done (own ∷ later)
@@ -112,15 +112,15 @@ size_of done own later lines split =
     ∙ ap (λ (j : ℕ). get_or (sizes done ++ length own ∷ sizes later) j 0) (sym (length-map done (λ (x : List Line). length x)))
     ∙ get_middle (sizes done) (length own) (sizes later)
 
-stand_of : (done : List (List Line)) (own : List Line) (later : List (List Line)) (front : List Line) (lines : List (List Line)) → lines ≡ done ++ own ∷ later → StandBefore (sizes lines) (joined done ++ front) (length done) (length front)
-stand_of done own later front lines split =
+stand_of : (done : List (List Line)) (own : List Line) (later : List (List Line)) (prefix : List Line) (lines : List (List Line)) → lines ≡ done ++ own ∷ later → StandBefore (sizes lines) (joined done ++ prefix) (length done) (length prefix)
+stand_of done own later prefix lines split =
     let size : length (sizes done) ≡ length done = length-map done (λ (x : List Line). length x) in
     let first : take (length done) (sizes lines) ≡ sizes done
     = ap (λ (ls : List (List Line)). take (length done) (sizes ls)) split
     ∙ ap (take (length done)) (sizes-middle done own later)
     ∙ take_at (sizes done) (length own ∷ sizes later) (length done) size in
     let total : length (joined done) ≡ before (sizes lines) (length done) = length-joined done ∙ ap sum (sym first) in
-    omega (arith, length-append (joined done) front, total)
+    omega (arith, length-append (joined done) prefix, total)
 
 module _ (findings : Findings) (w : IsReport findings) where
   abbrev lines : List (List Line)
@@ -288,25 +288,25 @@ module _ (findings : Findings) (w : IsReport findings) where
 
   -- ---- all lines are right
 
-  caller_passes : (done : List (List Line)) (own : List Line) (later : List (List Line)) (front rest : List Line) (due : List Call) → lines ≡ done ++ own ∷ later → own ≡ front ++ rest
-      → AllPass ReportPasses (InLines kind counts (joined done ++ front) (calls_from (length done) (length front) (length rest) ++ due)) (by_number (call_line kind (length done)) (length front) rest) (InLines kind counts (joined done ++ own) due)
-  caller_passes done own later front [] due split is =
-      ap (λ (ls : List Line). InLines kind counts (joined done ++ ls) due) (sym (is ∙ append-nil front))
-  caller_passes done own later front (line ∷ rest) due split is =
-      let call : Call = record { caller = length done; number = length front } in
-      let told : List Line = joined done ++ front in
-      let next : List Line = front ++ line ∷ [] in
-      let all : joined lines ≡ told ++ line ∷ (rest ++ joined later) = joined_parts done own later front line rest lines split is in
+  caller_passes : (done : List (List Line)) (own : List Line) (later : List (List Line)) (prefix rest : List Line) (due : List Call) → lines ≡ done ++ own ∷ later → own ≡ prefix ++ rest
+      → AllPass ReportPasses (InLines kind counts (joined done ++ prefix) (calls_from (length done) (length prefix) (length rest) ++ due)) (by_number (call_line kind (length done)) (length prefix) rest) (InLines kind counts (joined done ++ own) due)
+  caller_passes done own later prefix [] due split is =
+      ap (λ (ls : List Line). InLines kind counts (joined done ++ ls) due) (sym (is ∙ append-nil prefix))
+  caller_passes done own later prefix (line ∷ rest) due split is =
+      let call : Call = record { caller = length done; number = length prefix } in
+      let told : List Line = joined done ++ prefix in
+      let next : List Line = prefix ++ line ∷ [] in
+      let all : joined lines ≡ told ++ line ∷ (rest ++ joined later) = joined_parts done own later prefix line rest lines split is in
       let count : get_or counts (length done) 0 ≡ length own = size_of done own later lines split in
-      let stand : StandBefore counts told (length done) (length front) = stand_of done own later front lines split in
-      let room : length front < get_or counts (length done) 0 = omega (arith, count, ap (length {A = Line}) is, length-append front (line ∷ rest)) in
-      let said : told ++ line ∷ [] ≡ joined done ++ next = append_assoc (joined done) front (line ∷ []) in
-      let size : length next ≡ length front + 1 = length-append front (line ∷ []) in
-      let rest_is : own ≡ next ++ rest = is ∙ sym (append_assoc front (line ∷ []) rest) in
+      let stand : StandBefore counts told (length done) (length prefix) = stand_of done own later prefix lines split in
+      let room : length prefix < get_or counts (length done) 0 = omega (arith, count, ap (length {A = Line}) is, length-append prefix (line ∷ rest)) in
+      let said : told ++ line ∷ [] ≡ joined done ++ next = append_assoc (joined done) prefix (line ∷ []) in
+      let size : length next ≡ length prefix + 1 = length-append prefix (line ∷ []) in
+      let rest_is : own ≡ next ++ rest = is ∙ sym (append_assoc prefix (line ∷ []) rest) in
       let step = caller_passes done own later next rest due split rest_is in
       let moved = subst (λ (m : ℕ). AllPass ReportPasses (InLines kind counts (joined done ++ next) (calls_from (length done) m (length rest) ++ due)) (by_number (call_line kind (length done)) m rest) (InLines kind counts (joined done ++ own) due)) size step in (
-        InLines kind counts (joined done ++ next) (calls_from (length done) (length front + 1) (length rest) ++ due),
-        (line, line_says told line (rest ++ joined later) call all stand room, line_fits told line (rest ++ joined later) call all stand room, ap (λ (ls : List Line). InLines kind counts ls (calls_from (length done) (length front + 1) (length rest) ++ due)) (sym said)),
+        InLines kind counts (joined done ++ next) (calls_from (length done) (length prefix + 1) (length rest) ++ due),
+        (line, line_says told line (rest ++ joined later) call all stand room, line_fits told line (rest ++ joined later) call all stand room, ap (λ (ls : List Line). InLines kind counts ls (calls_from (length done) (length prefix + 1) (length rest) ++ due)) (sym said)),
         moved,
       )
 

@@ -14,7 +14,7 @@ use Rattle.seq_objects.specs.declared.kind.Kind.{Kind}
 use Rattle.seq_objects.specs.Words.{operation_words}
 use Rattle.seq_objects.specs.Replies.{reply_word}
 use Rattle.text_fields.specs.Lines.{Unread}
-use Rattle.text_fields.specs.Counts.{pair_words, HasBadPair, HasWordBehindPairs, NoPairFirst}
+use Rattle.text_fields.specs.Counts.{pair_words, HasBadPair, HasWordAfterPairs, NoPairFirst}
 use Rattle.text_fields.specs.Faults.{GoesTo, IsFirstTest, StopsFor}
 use Rattle.book_text.specs.CallLines.{place_words, calls_from, all_calls, LacksViewWord, view_test, with_line}
 use Rattle.call_lines.specs.declared.line.LineEnd.{LineEnd}
@@ -31,26 +31,26 @@ use Rattle.report_text.specs.Drafts.{StandBefore, AreLimits, AreSeenCounts, IsDr
 
 -- after the operation the words are 'pending' alone, or begin with this answer
 abbrev pub SayAnswer : ℕ → List (List ℕ) → Option Record → List (List ℕ) → Type 0
-SayAnswer n words None behind = words ≡ codes "pending" ∷ []
-SayAnswer n words (Some r) behind = IsAnswer n r × NoPairFirst behind × (words ≡ reply_word r.reply ∷ codes "view" ∷ (pair_words 0 r.view ++ behind))
+SayAnswer n words None suffix = words ≡ codes "pending" ∷ []
+SayAnswer n words (Some r) suffix = IsAnswer n r × NoPairFirst suffix × (words ≡ reply_word r.reply ∷ codes "view" ∷ (pair_words 0 r.view ++ suffix))
 
 -- why they don't
 abbrev pub IsNoAnswer : ℕ → List (List ℕ) → What → Type 0
 IsNoAnswer n words what.Reply = (words ≢ codes "pending" ∷ []) × ((reply : ℕ) (others : List (List ℕ)) → reply < 2 ^ 64 → words ≢ reply_word reply ∷ others)
-IsNoAnswer n words what.View = (reply : ℕ) × (behind : List (List ℕ)) × (reply < 2 ^ 64) × (words ≡ reply_word reply ∷ behind)
-    × (LacksViewWord behind ⊎ ((pairs : List (List ℕ)) × (behind ≡ codes "view" ∷ pairs) × HasBadPair n 0 pairs))
+IsNoAnswer n words what.View = (reply : ℕ) × (suffix : List (List ℕ)) × (reply < 2 ^ 64) × (words ≡ reply_word reply ∷ suffix)
+    × (LacksViewWord suffix ⊎ ((pairs : List (List ℕ)) × (suffix ≡ codes "view" ∷ pairs) × HasBadPair n 0 pairs))
 IsNoAnswer n words _ = ⊥
 
 -- the line begins with its call, this operation and this answer, where it has one
-pub record IsFront (kind : Kind) (n : ℕ) (call : Call) (words : List (List ℕ)) (op : ℕ) (answer : Option Record) (behind : List (List ℕ)) : Type 0 where
+pub record IsPrefix (kind : Kind) (n : ℕ) (call : Call) (words : List (List ℕ)) (op : ℕ) (answer : Option Record) (suffix : List (List ℕ)) : Type 0 where
   pub has : IsOperationWord op
   pub rest : List (List ℕ)
   pub text : words ≡ place_words call ++ (operation_words kind op ++ rest)
-  pub answered : SayAnswer n rest answer behind
+  pub answered : SayAnswer n rest answer suffix
 
 -- the first test that a line fails before the views of other lines are asked, whatever lines stand before it
-abbrev pub IsFrontRefused : Kind → ℕ → Call → List (List ℕ) → What → Type 0
-IsFrontRefused kind n call words name = (counts : List ℕ) (told : List Line) → length counts ≡ n → IsFirstTest (LineFails kind counts told call words) name
+abbrev pub IsPrefixRefused : Kind → ℕ → Call → List (List ℕ) → What → Type 0
+IsPrefixRefused kind n call words name = (counts : List ℕ) (told : List Line) → length counts ≡ n → IsFirstTest (LineFails kind counts told call words) name
 
 -- the words after the view, for a line with this end
 abbrev pub verdict_words : LineEnd → List (List ℕ)
@@ -59,7 +59,7 @@ verdict_words (Unchecked r) = codes "unchecked" ∷ []
 verdict_words (Delivered r cut) = codes "ok" ∷ seen_words cut
 verdict_words (Error r cut) = codes "error" ∷ seen_words cut
 
--- the end has this record, and a seen cut of so many callers where it has one
+-- the end has this record, and a seen cut of this many callers where it has one
 abbrev pub HasVerdict : ℕ → Record → LineEnd → Type 0
 HasVerdict n r Pending = ⊥
 HasVerdict n r (Unchecked s) = s ≡ r
@@ -73,7 +73,7 @@ SayVerdict n r words end = HasVerdict n r end × (words ≡ verdict_words end)
 -- why they say none
 abbrev pub IsNoVerdict : ℕ → List (List ℕ) → What → Type 0
 IsNoVerdict n words what.Mark = (words ≢ codes "unchecked" ∷ []) × ((others : List (List ℕ)) → ¬ (BeginAsVerdict words others))
-IsNoVerdict n words what.Seen = (pairs : List (List ℕ)) × BeginAsVerdict words pairs × (HasBadPair n 0 pairs ⊎ HasWordBehindPairs pairs)
+IsNoVerdict n words what.Seen = (pairs : List (List ℕ)) × BeginAsVerdict words pairs × (HasBadPair n 0 pairs ⊎ HasWordAfterPairs pairs)
 IsNoVerdict n words _ = ⊥
 
 -- the record of a line, where it has one
@@ -155,7 +155,7 @@ abbrev pub LineIsStopped : Kind → Draft → Call → Unread → ReadFault → 
 LineIsStopped kind before call text e = (counts : List ℕ) (told : List Line) (more : List Call)
     → IsDraft counts told before → StandBefore counts told call.caller call.number → StopsFor report_rules (InLines kind counts told (call ∷ more)) text e
 
--- The next lines are those of so many calls of a caller, and say these.
+-- The next lines are those of this many calls of a caller, and say these.
 pub record AreOwnRead (kind : Kind) (counts : List ℕ) (told : List Line) (i count : ℕ) (more : List Call) (text : Unread) (own : List Line) (after : Draft) (left : Unread) : Type 0 where
   pub goes : GoesTo report_rules (InLines kind counts told (calls_from i 0 count ++ more)) text (InLines kind counts (told ++ own) more) left
   pub draft : IsDraft counts (told ++ own) after
@@ -166,7 +166,7 @@ abbrev pub LinesAreRead : Kind → Draft → ℕ → ℕ → Unread → List Lin
 LinesAreRead kind before i count text own after left = (counts : List ℕ) (told : List Line) (more : List Call)
     → IsDraft counts told before → StandBefore counts told i 0 → AreOwnRead kind counts told i count more text own after left
 
--- In the next lines, which are to be those of so many calls of a caller, a reader stops.
+-- In the next lines, which are to be those of this many calls of a caller, a reader stops.
 abbrev pub LinesAreStopped : Kind → Draft → ℕ → ℕ → Unread → ReadFault → Type 0
 LinesAreStopped kind before i count text e = (counts : List ℕ) (told : List Line) (more : List Call)
     → IsDraft counts told before → StandBefore counts told i 0 → StopsFor report_rules (InLines kind counts told (calls_from i 0 count ++ more)) text e

@@ -17,11 +17,11 @@ use Rattle.seq_objects.specs.Words.{operation_words}
 use Rattle.seq_objects.specs.Replies.{reply_word}
 use Rattle.text_fields.specs.declared.version.Version.TheVariants.{Second}
 use Rattle.text_fields.specs.Lines.{Unread}
-use Rattle.text_fields.specs.Counts.{AreNumbers, pair_words, HasBadPair, HasWordBehindPairs, NoPairFirst}
+use Rattle.text_fields.specs.Counts.{AreNumbers, pair_words, HasBadPair, HasWordAfterPairs, NoPairFirst}
 use Rattle.text_fields.specs.Faults.{Wanted, ALine, TheEnd, Rules, IsFirstFault, IsReadTo}
 use Rattle.text_fields.specs.Head.{HeadDue, TitleDue, ObjectDue, CallersDue, CountsDue, HeadRead, HeadPasses, HeadFails}
 use Rattle.text_fields.specs.Operations.{kind_operations}
-use Rattle.book_text.specs.CallLines.{place_words, all_calls, IsBehindOperation, IsBehindReply, LacksViewWord, view_test}
+use Rattle.book_text.specs.CallLines.{place_words, all_calls, IsAfterOperation, IsAfterReply, LacksViewWord, view_test}
 use Rattle.book_text.specs.Grammar.{end_words}
 use Rattle.book_text.specs.BookRules.{whole_text}
 use Rattle.world_core.specs.Calls.{records_of}
@@ -50,15 +50,15 @@ book_so_far (count ∷ counts) told = part_page count (take count told) ∷ book
 
 -- ---- what the words of a line say
 
--- a cut of so many callers, as texts can have it
+-- a cut of this many callers, as texts can have it
 abbrev pub IsCut : ℕ → List ℕ → Type 0
 IsCut n cut = (length cut ≡ n) × AreNumbers cut
 
--- a record of so many callers, as texts can have it
+-- a record of this many callers, as texts can have it
 abbrev pub IsAnswer : ℕ → Record → Type 0
 IsAnswer n r = (r.reply < 2 ^ 64) × IsCut n r.view
 
--- the end of a line, as texts of so many callers can have it
+-- the end of a line, as texts of this many callers can have it
 abbrev pub IsFormed : ℕ → LineEnd → Type 0
 IsFormed n Pending = Unit {0}
 IsFormed n (Unchecked r) = IsAnswer n r
@@ -74,14 +74,14 @@ pub record SaysLine (kind : Kind) (n : ℕ) (call : Call) (words : List (List �
   pub text : words ≡ line_words kind call line
 
 -- after the reply the line has this view, and after it these words, which begin with no pair
-pub record IsBehindView (kind : Kind) (n : ℕ) (call : Call) (words : List (List ℕ)) (view : List ℕ) (behind : List (List ℕ)) : Type 0 where
+pub record IsAfterView (kind : Kind) (n : ℕ) (call : Call) (words : List (List ℕ)) (view : List ℕ) (suffix : List (List ℕ)) : Type 0 where
   pub formed : IsCut n view
-  pub plain : NoPairFirst behind
-  pub text : IsBehindReply (kind_operations Second kind) call words (codes "view" ∷ (pair_words 0 view ++ behind))
+  pub plain : NoPairFirst suffix
+  pub text : IsAfterReply (kind_operations Second kind) call words (codes "view" ∷ (pair_words 0 view ++ suffix))
 
 -- the words begin with a verdict, and these stand after it
 abbrev pub BeginAsVerdict : List (List ℕ) → List (List ℕ) → Type 0
-BeginAsVerdict words behind = (words ≡ codes "ok" ∷ codes "seen" ∷ behind) ⊎ (words ≡ codes "error" ∷ codes "seen" ∷ behind)
+BeginAsVerdict words suffix = (words ≡ codes "ok" ∷ codes "seen" ∷ suffix) ⊎ (words ≡ codes "error" ∷ codes "seen" ∷ suffix)
 
 -- ---- how a line fits those before it
 
@@ -116,31 +116,31 @@ pub record Fits (counts : List ℕ) (told : List Line) (call : Call) (line : Lin
 -- A line for this call fails a test, after lines that say these.
 abbrev pub LineFails : Kind → List ℕ → List Line → Call → List (List ℕ) → What → Type 0
 -- the line doesn't begin with the caller and the number that are due
-LineFails kind counts told call words what.Place = (behind : List (List ℕ)) → words ≢ place_words call ++ behind
+LineFails kind counts told call words what.Place = (suffix : List (List ℕ)) → words ≢ place_words call ++ suffix
 -- the next words are no operation
-LineFails kind counts told call words what.Op = (behind : List (List ℕ)) × (words ≡ place_words call ++ behind)
-    × ((op : ℕ) (others : List (List ℕ)) → IsOperationWord op → behind ≢ operation_words kind op ++ others)
+LineFails kind counts told call words what.Op = (suffix : List (List ℕ)) × (words ≡ place_words call ++ suffix)
+    × ((op : ℕ) (others : List (List ℕ)) → IsOperationWord op → suffix ≢ operation_words kind op ++ others)
 -- the words after the operation begin with no reply, and aren't 'pending' alone
-LineFails kind counts told call words what.Reply = (behind : List (List ℕ)) × IsBehindOperation (kind_operations Second kind) call words behind × (behind ≢ codes "pending" ∷ [])
-    × ((reply : ℕ) (others : List (List ℕ)) → reply < 2 ^ 64 → behind ≢ reply_word reply ∷ others)
+LineFails kind counts told call words what.Reply = (suffix : List (List ℕ)) × IsAfterOperation (kind_operations Second kind) call words suffix × (suffix ≢ codes "pending" ∷ [])
+    × ((reply : ℕ) (others : List (List ℕ)) → reply < 2 ^ 64 → suffix ≢ reply_word reply ∷ others)
 -- the next words are no view: the next isn't 'view', or of the pair words after it one is no pair,
 -- or its caller doesn't rise
-LineFails kind counts told call words what.View = (behind : List (List ℕ)) × IsBehindReply (kind_operations Second kind) call words behind
-    × (LacksViewWord behind ⊎ ((pairs : List (List ℕ)) × (behind ≡ codes "view" ∷ pairs) × HasBadPair (length counts) 0 pairs))
+LineFails kind counts told call words what.View = (suffix : List (List ℕ)) × IsAfterReply (kind_operations Second kind) call words suffix
+    × (LacksViewWord suffix ⊎ ((pairs : List (List ℕ)) × (suffix ≡ codes "view" ∷ pairs) × HasBadPair (length counts) 0 pairs))
 -- the words after the view are none of the three forms
-LineFails kind counts told call words what.Mark = (view : List ℕ) × (behind : List (List ℕ)) × IsBehindView kind (length counts) call words view behind
-    × (behind ≢ codes "unchecked" ∷ []) × ((others : List (List ℕ)) → ¬ (BeginAsVerdict behind others))
+LineFails kind counts told call words what.Mark = (view : List ℕ) × (suffix : List (List ℕ)) × IsAfterView kind (length counts) call words view suffix
+    × (suffix ≢ codes "unchecked" ∷ []) × ((others : List (List ℕ)) → ¬ (BeginAsVerdict suffix others))
 -- the words after 'seen' are no cut; or the seen cut is wrong; or the line is pending, and an
 -- earlier seen cut holds its call
 LineFails kind counts told call words what.Seen =
-    ((view : List ℕ) × (behind : List (List ℕ)) × (pairs : List (List ℕ)) × IsBehindView kind (length counts) call words view behind × BeginAsVerdict behind pairs
-    × (HasBadPair (length counts) 0 pairs ⊎ HasWordBehindPairs pairs))
+    ((view : List ℕ) × (suffix : List (List ℕ)) × (pairs : List (List ℕ)) × IsAfterView kind (length counts) call words view suffix × BeginAsVerdict suffix pairs
+    × (HasBadPair (length counts) 0 pairs ⊎ HasWordAfterPairs pairs))
     ⊎ (((line : Line) × (cut : List ℕ) × SaysLine kind (length counts) call words line × (seen_in line.end ≡ Some cut) × IsWrongCut counts (grouped counts told) call cut)
     ⊎ ((line : Line) × SaysLine kind (length counts) call words line × (line.end ≡ Pending) × IsSeenBefore (grouped counts told) call))
 -- the line isn't delivered, and its caller has a further one
 LineFails kind counts told call words what.Last = (line : Line) × SaysLine kind (length counts) call words line × EndsTooEarly counts call line
 -- the line has a view that the book of the lines before it refuses
-LineFails kind counts told call words name = (view : List ℕ) × (behind : List (List ℕ)) × (fault : BookFault) × IsBehindView kind (length counts) call words view behind
+LineFails kind counts told call words name = (view : List ℕ) × (suffix : List (List ℕ)) × (fault : BookFault) × IsAfterView kind (length counts) call words view suffix
     × (view_test fault ≡ Some name) × FailsTest (book_so_far counts told) call.caller view fault
 
 -- ---- the rules
@@ -154,16 +154,16 @@ pub data ReportDue : Type 0 where
   AtEnd : Findings → ReportDue
 
 -- After the head come the lines of the calls.
-abbrev pub behind_head : HeadDue → ReportDue
-behind_head TitleDue = InHead TitleDue
-behind_head ObjectDue = InHead ObjectDue
-behind_head (CallersDue kind) = InHead (CallersDue kind)
-behind_head (CountsDue kind n) = InHead (CountsDue kind n)
-behind_head (HeadRead kind counts) = InLines kind counts [] (all_calls 0 counts)
+abbrev pub after_head : HeadDue → ReportDue
+after_head TitleDue = InHead TitleDue
+after_head ObjectDue = InHead ObjectDue
+after_head (CallersDue kind) = InHead (CallersDue kind)
+after_head (CountsDue kind n) = InHead (CountsDue kind n)
+after_head (HeadRead kind counts) = InLines kind counts [] (all_calls 0 counts)
 
 -- the right lines of a report's text
 abbrev pub ReportPasses : ReportDue → List (List ℕ) → ReportDue → Type 0
-ReportPasses (InHead due) words after = (next : HeadDue) × HeadPasses Second (codes "report") due words next × (after ≡ behind_head next)
+ReportPasses (InHead due) words after = (next : HeadDue) × HeadPasses Second (codes "report") due words next × (after ≡ after_head next)
 ReportPasses (InLines kind counts told []) words after = (words ≡ end_words) × (after ≡ AtEnd (record { kind = kind; lines = grouped counts told }))
 ReportPasses (InLines kind counts told (call ∷ calls)) words after = (line : Line) × SaysLine kind (length counts) call words line × Fits counts told call line × (after ≡ InLines kind counts (told ++ line ∷ []) calls)
 ReportPasses (AtEnd findings) words after = ⊥

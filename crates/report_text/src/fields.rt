@@ -5,10 +5,10 @@ ghost use Rattle.book_base.specs.declared.TheConstants.{MAX_CALLERS};
 ghost use Rattle.book_base.specs.Book.{IsCall, with_answer};
 ghost use Rattle.book_base.specs.Refusal.{MayAnswer};
 ghost use Rattle.text_fields.specs.Lines.{words_of};
-ghost use Rattle.text_fields.specs.Counts.{AreNumbers, pair_words, HasBadPair, HasWordBehindPairs};
+ghost use Rattle.text_fields.specs.Counts.{AreNumbers, pair_words, HasBadPair, HasWordAfterPairs};
 ghost use Rattle.book_text.specs.CallLines.{IsUnanswered};
 ghost use Rattle.report_text.specs.ReportRules.{SaysLine, IsCut};
-ghost use Rattle.report_text.specs.Parts.{SayAnswer, IsNoAnswer, IsFront, IsFrontRefused, SayVerdict, IsNoVerdict, MayTell, IsAnswerRefused, answer_in, with_told, AreWordsRefused};
+ghost use Rattle.report_text.specs.Parts.{SayAnswer, IsNoAnswer, IsPrefix, IsPrefixRefused, SayVerdict, IsNoVerdict, MayTell, IsAnswerRefused, answer_in, with_told, AreWordsRefused};
 
 use book_base::{Book, Call, Cut, OpWord, ReadFault, Record, TextFault, What};
 use book_text::{refusal, take_operation, take_place, take_word};
@@ -18,7 +18,7 @@ use text_fields::{Words, read_pairs};
 
 /// What a line says before its verdict.
 #[derive(Clone, Copy)]
-struct Front {
+struct Prefix {
     op: OpWord,
     answer: Option<Record>,
 }
@@ -41,9 +41,9 @@ pub(crate) fn read_fields(
 {
     let mut words = Words::new(line);
     let n = book.callers();
-    match read_front(kind, &mut words, call, n) {
+    match read_prefix(kind, &mut words, call, n) {
         Err(what) => Err(ReadFault::Text(TextFault { line: number, what })),
-        Ok(Front { op, answer }) => {
+        Ok(Prefix { op, answer }) => {
             let end = match answer {
                 None => LineEnd::Pending,
                 Some(answer) => take_answer(book, call, answer, &mut words, number)?,
@@ -55,12 +55,12 @@ pub(crate) fn read_fields(
 }
 
 /// The call, its operation, and the answer, where there is one, at the beginning of a line.
-fn read_front(kind: Kind, words: &mut Words, call: Call, n: u32) -> Result<Front, What>
+fn read_prefix(kind: Kind, words: &mut Words, call: Call, n: u32) -> Result<Prefix, What>
     requires some { 1 ≤ n }
     requires few { n ≤ MAX_CALLERS }
-    ensures found { IfOk result (λ front.
-        IsFront kind n call words.old front.op front.answer words.new) }
-    ensures refused { IfErr result (IsFrontRefused kind n call words.old) }
+    ensures found { IfOk result (λ prefix.
+        IsPrefix kind n call words.old prefix.op prefix.answer words.new) }
+    ensures refused { IfErr result (IsPrefixRefused kind n call words.old) }
 {
     let Some(()) = take_place(words, call) else {
         return Err(What::Place);
@@ -69,7 +69,7 @@ fn read_front(kind: Kind, words: &mut Words, call: Call, n: u32) -> Result<Front
         return Err(What::Op);
     };
     match read_answer(words, n) {
-        Ok(answer) => Ok(Front { op, answer }),
+        Ok(answer) => Ok(Prefix { op, answer }),
         Err(what) => Err(what),
     }
 }
@@ -167,7 +167,7 @@ fn read_seen(words: &mut Words, n: u32) -> Option<Cut>
     requires some { 1 ≤ n }
     requires few { n ≤ MAX_CALLERS }
     ensures found { IfSome result (λ cut. IsCut n cut × (words.old ≡ pair_words 0 cut)) }
-    ensures none { IfNone result (HasBadPair n 0 words.old ⊎ HasWordBehindPairs words.old) }
+    ensures none { IfNone result (HasBadPair n 0 words.old ⊎ HasWordAfterPairs words.old) }
 {
     let cut = read_pairs(words, n)?;
     match words.next() {

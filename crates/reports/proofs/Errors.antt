@@ -4,7 +4,7 @@ use Rattle.std.specs.Option.{option_and_then}
 use Rattle.std.specs.List.{list_any}
 use Rattle.std.proofs.lemmas.Bool.{or_parts}
 use Rattle.std.proofs.lemmas.List.{get_or-take}
-use Rattle.list_laws.proofs.Fronts.{slice_get-take_within}
+use Rattle.list_laws.proofs.Prefixes.{slice_get-take_within}
 use Rattle.std.proofs.lemmas.Option.{none-some}
 use Rattle.list_laws.proofs.Options.{none_from_is_some, and_then_some}
 use Rattle.book_base.specs.declared.call.Call.{Call}

@@ -62,8 +62,8 @@ one_record (Unchecked r) some = (r, refl)
 one_record (Delivered r cut) some = (r, refl)
 one_record (Error r cut) some = (r, refl)
 
-record_behind : (first : Line) (tail : List Record) (k : ℕ) → IsSome (answer_in first.end) → slice_get (records_of (reached_of first.end) ++ tail) (suc k) ≡ slice_get tail k
-record_behind first tail k some = let one = one_record first.end some in ap (λ (rs : List Record). slice_get (rs ++ tail) (suc k)) one.1
+record_after : (first : Line) (tail : List Record) (k : ℕ) → IsSome (answer_in first.end) → slice_get (records_of (reached_of first.end) ++ tail) (suc k) ≡ slice_get tail k
+record_after first tail k some = let one = one_record first.end some in ap (λ (rs : List Record). slice_get (rs ++ tail) (suc k)) one.1
 
 record_first : (first : Line) (tail : List Record) → IsSome (answer_in first.end) → slice_get (records_of (reached_of first.end) ++ tail) 0 ≡ answer_in first.end
 record_first first tail some = let one = one_record first.end some in ap (λ (rs : List Record). slice_get (rs ++ tail) 0) one.1 ∙ sym (ap (λ (rs : List Record). slice_get rs 0) one.1)
@@ -76,7 +76,7 @@ record_at (first ∷ []) led (suc k) line e = absurd (none-some line e)
 record_at (first ∷ second ∷ own) led zero line e =
     record_first first (own_page (second ∷ own)).records (led 0 first refl (omega arith)) ∙ ap (λ (x : Line). answer_in x.end) (same_Some first line e)
 record_at (first ∷ second ∷ own) led (suc k) line e =
-    record_behind first (own_page (second ∷ own)).records k (led 0 first refl (omega arith))
+    record_after first (own_page (second ∷ own)).records k (led 0 first refl (omega arith))
     ∙ record_at (second ∷ own) (λ j l there low. led (suc j) l there (omega (arith, low))) k line e
 
 -- the operation of a line
@@ -102,8 +102,8 @@ pub length-book : (lines : List (List Line)) → length (book_of_lines lines) �
 length-book [] = refl
 length-book (own ∷ lines) = ap suc (length-book lines)
 
-length-front : (lines : List (List Line)) (n : ℕ) → n < length lines → length (book_of_lines (take n lines)) ≡ n
-length-front lines n low = length-book (take n lines) ∙ length-take-le n lines (omega (arith, low))
+length-prefix : (lines : List (List Line)) (n : ℕ) → n < length lines → length (book_of_lines (take n lines)) ≡ n
+length-prefix lines n low = length-book (take n lines) ∙ length-take-le n lines (omega (arith, low))
 
 whole_split : (lines : List (List Line)) (n : ℕ) → n < length lines
     → book_of_lines lines ≡ book_of_lines (take n lines) ++ own_page (lines_at lines n) ∷ book_of_lines (drop (n + 1) lines)
@@ -134,7 +134,7 @@ filling_more lines n k line low answered e =
     let done : List Page = book_of_lines (take n lines) in
     let own : List Line = lines_at lines n in
     let later : List Page = unanswered_book (sizes (drop (n + 1) lines)) in
-    ap (λ (m : ℕ). with_line (filling lines n k) (record { caller = m; number = k }) line.op (answer_in line.end)) (sym (length-front lines n low))
+    ap (λ (m : ℕ). with_line (filling lines n k) (record { caller = m; number = k }) line.op (answer_in line.end)) (sym (length-prefix lines n low))
     ∙ with_line-middle done (page_to k (own_page own)) later k line.op (answer_in line.end)
     ∙ ap (λ (p : Page). done ++ p ∷ later)
     (page_to-more (own_page own) k line.op (answer_in line.end) (operation_at own k line e) (record_at own (led_lines lines n answered) k line e))
@@ -148,72 +148,72 @@ filled_all lines n all =
     ∙ append-nil (book_of_lines (take n lines))
     ∙ ap book_of_lines (take_all n lines all)
 
--- ---- such a book is a front of the whole one, so that it takes the next record
+-- ---- such a book is a prefix of the whole one, so that it takes the next record
 
 -- A page has as many calls as another, and the first ones of its records.
-record IsFrontPage (part whole : Page) : Type 0 where
+record IsPrefixPage (part whole : Page) : Type 0 where
   calls : length part.operations ≡ length whole.operations
   records : (k : ℕ) (r : Record) → slice_get part.records k ≡ Some r → slice_get whole.records k ≡ Some r
 
-abbrev AreFronts : List Page → List Page → Type 0
-AreFronts [] [] = Unit {0}
-AreFronts [] (q ∷ qs) = ⊥
-AreFronts (p ∷ ps) [] = ⊥
-AreFronts (p ∷ ps) (q ∷ qs) = IsFrontPage p q × AreFronts ps qs
+abbrev ArePrefixes : List Page → List Page → Type 0
+ArePrefixes [] [] = Unit {0}
+ArePrefixes [] (q ∷ qs) = ⊥
+ArePrefixes (p ∷ ps) [] = ⊥
+ArePrefixes (p ∷ ps) (q ∷ qs) = IsPrefixPage p q × ArePrefixes ps qs
 
-same_front : (p : Page) → IsFrontPage p p
-same_front p = record { calls = refl; records = λ k r e. e }
+same_prefix : (p : Page) → IsPrefixPage p p
+same_prefix p = record { calls = refl; records = λ k r e. e }
 
-fronts_same : (ps : List Page) → AreFronts ps ps
-fronts_same [] = tt
-fronts_same (p ∷ ps) = (same_front p, fronts_same ps)
+prefixes_same : (ps : List Page) → ArePrefixes ps ps
+prefixes_same [] = tt
+prefixes_same (p ∷ ps) = (same_prefix p, prefixes_same ps)
 
-fronts_behind : (done ps qs : List Page) → AreFronts ps qs → AreFronts (done ++ ps) (done ++ qs)
-fronts_behind [] ps qs h = h
-fronts_behind (p ∷ done) ps qs h = (same_front p, fronts_behind done ps qs h)
+prefixes_after : (done ps qs : List Page) → ArePrefixes ps qs → ArePrefixes (done ++ ps) (done ++ qs)
+prefixes_after [] ps qs h = h
+prefixes_after (p ∷ done) ps qs h = (same_prefix p, prefixes_after done ps qs h)
 
-front_to : (k : ℕ) (own : List Line) → IsFrontPage (page_to k (own_page own)) (own_page own)
-front_to k own = record {
+prefix_to : (k : ℕ) (own : List Line) → IsPrefixPage (page_to k (own_page own)) (own_page own)
+prefix_to k own = record {
   calls = length-operations_to k (own_page own).operations;
   records = λ j r e. slice_get-take k (own_page own).records j r e;
 }
 
-front_unanswered : (own : List Line) → IsFrontPage (unanswered_page (length own)) (own_page own)
-front_unanswered own = record {
+prefix_unanswered : (own : List Line) → IsPrefixPage (unanswered_page (length own)) (own_page own)
+prefix_unanswered own = record {
   calls = length-replicate (length own) 0 ∙ sym (length-own_page own);
   records = λ k r e. absurd (none-some r e);
 }
 
-fronts_unanswered : (lines : List (List Line)) → AreFronts (unanswered_book (sizes lines)) (book_of_lines lines)
-fronts_unanswered [] = tt
-fronts_unanswered (own ∷ lines) = (front_unanswered own, fronts_unanswered lines)
+prefixes_unanswered : (lines : List (List Line)) → ArePrefixes (unanswered_book (sizes lines)) (book_of_lines lines)
+prefixes_unanswered [] = tt
+prefixes_unanswered (own ∷ lines) = (prefix_unanswered own, prefixes_unanswered lines)
 
-filling_is_front : (lines : List (List Line)) (n k : ℕ) → n < length lines → AreFronts (filling lines n k) (book_of_lines lines)
-filling_is_front lines n k low =
-    subst (AreFronts (filling lines n k)) (sym (whole_split lines n low))
-    (fronts_behind (book_of_lines (take n lines)) _ _ (front_to k (lines_at lines n), fronts_unanswered (drop (n + 1) lines)))
+filling_is_prefix : (lines : List (List Line)) (n k : ℕ) → n < length lines → ArePrefixes (filling lines n k) (book_of_lines lines)
+filling_is_prefix lines n k low =
+    subst (ArePrefixes (filling lines n k)) (sym (whole_split lines n low))
+    (prefixes_after (book_of_lines (take n lines)) _ _ (prefix_to k (lines_at lines n), prefixes_unanswered (drop (n + 1) lines)))
 
-front_length : (ps qs : List Page) → AreFronts ps qs → length ps ≡ length qs
-front_length [] [] h = refl
-front_length [] (q ∷ qs) h = absurd h
-front_length (p ∷ ps) [] h = absurd h
-front_length (p ∷ ps) (q ∷ qs) h = ap suc (front_length ps qs h.1)
+prefix_length : (ps qs : List Page) → ArePrefixes ps qs → length ps ≡ length qs
+prefix_length [] [] h = refl
+prefix_length [] (q ∷ qs) h = absurd h
+prefix_length (p ∷ ps) [] h = absurd h
+prefix_length (p ∷ ps) (q ∷ qs) h = ap suc (prefix_length ps qs h.1)
 
-front_at : (ps qs : List Page) → AreFronts ps qs → (i : ℕ) → IsFrontPage (page_of ps i) (page_of qs i)
-front_at [] [] h i = same_front (page_of [] i)
-front_at [] (q ∷ qs) h i = absurd h
-front_at (p ∷ ps) [] h i = absurd h
-front_at (p ∷ ps) (q ∷ qs) h zero = h.0
-front_at (p ∷ ps) (q ∷ qs) h (suc i) = front_at ps qs h.1 i
+prefix_at : (ps qs : List Page) → ArePrefixes ps qs → (i : ℕ) → IsPrefixPage (page_of ps i) (page_of qs i)
+prefix_at [] [] h i = same_prefix (page_of [] i)
+prefix_at [] (q ∷ qs) h i = absurd h
+prefix_at (p ∷ ps) [] h i = absurd h
+prefix_at (p ∷ ps) (q ∷ qs) h zero = h.0
+prefix_at (p ∷ ps) (q ∷ qs) h (suc i) = prefix_at ps qs h.1 i
 
 -- the caller's page
 page_of-filling : (lines : List (List Line)) (n k : ℕ) → n < length lines → page_of (filling lines n k) n ≡ page_to k (own_page (lines_at lines n))
 page_of-filling lines n k low =
-    ap (λ (m : ℕ). page_of (filling lines n k) m) (sym (length-front lines n low))
+    ap (λ (m : ℕ). page_of (filling lines n k) m) (sym (length-prefix lines n low))
     ∙ page_of-middle (book_of_lines (take n lines)) (page_to k (own_page (lines_at lines n))) (unanswered_book (sizes (drop (n + 1) lines)))
 
 pub length-filling : (lines : List (List Line)) (n k : ℕ) → n < length lines → length (filling lines n k) ≡ length lines
-length-filling lines n k low = front_length (filling lines n k) (book_of_lines lines) (filling_is_front lines n k low) ∙ length-book lines
+length-filling lines n k low = prefix_length (filling lines n k) (book_of_lines lines) (filling_is_prefix lines n k low) ∙ length-book lines
 
 pub calls_of-filling : (lines : List (List Line)) (n k : ℕ) → n < length lines → calls_of (filling lines n k) n ≡ length (lines_at lines n)
 calls_of-filling lines n k low =
@@ -227,22 +227,22 @@ may_take lines n k line low valid answered e =
     let whole : List Page = book_of_lines lines in
     let call : Call = record { caller = n; number = k } in
     let page : Page = own_page (lines_at lines n) in
-    let fronts = filling_is_front lines n k low in
+    let prefixes = filling_is_prefix lines n k low in
     let in_page : (r : Record) → answer_in line.end ≡ Some r → slice_get page.records k ≡ Some r
     = λ r is. record_at (lines_at lines n) (led_lines lines n answered) k line e ∙ is in
     let there : (r : Record) → answer_in line.end ≡ Some r → record_of whole call ≡ Some r
     = λ r is. ap (λ (p : Page). slice_get p.records k) (page_of-lines lines n) ∙ in_page r is in
     record {
-      wide = λ r is. valid.wide call r (there r is) ∙ sym (front_length now whole fronts);
+      wide = λ r is. valid.wide call r (there r is) ∙ sym (prefix_length now whole prefixes);
       may = λ r is.
           let within : k < length page.records = slice_get_within page.records k r (in_page r is) in
           let made : answers_of now n ≡ k = ap (λ (p : Page). length p.records) (page_of-filling lines n k low) ∙ length-take-le k page.records (omega (arith, within)) in
-          let calls : (i : ℕ) → calls_of now i ≡ calls_of whole i = λ i. (front_at now whole fronts i).calls in
+          let calls : (i : ℕ) → calls_of now i ≡ calls_of whole i = λ i. (prefix_at now whole prefixes i).calls in
           let all : answers_of whole n ≡ length page.records = ap (λ (p : Page). length p.records) (page_of-lines lines n) in
           record {
             unanswered = omega (arith, within, made, calls n, all, valid.answers n);
             within = within_announced now r.view (λ i. omega (arith, below_calls whole r.view (valid.within call r (there r is)) i, calls i));
             own = valid.own call r (there r is) ∙ omega (arith, made);
-            comparable = λ other s has. valid.comparable call other r s (there r is) ((front_at now whole fronts other.caller).records other.number s has);
+            comparable = λ other s has. valid.comparable call other r s (there r is) ((prefix_at now whole prefixes other.caller).records other.number s has);
           };
     }

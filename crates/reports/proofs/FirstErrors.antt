@@ -20,7 +20,7 @@ some_in [] some = absurd cc
 some_in (line ∷ own) some = elim (cases_Bool (is_error line)) [
   | inl is ↦ let cut = some_from_is_some (error_in line.end) is in (cut.0, (0, line, refl, cut.1, refl))
   | inr isnt ↦
-      let later = some_in own (elim (or_cases (is_error line) (any_error own) some) as (λ _. any_error own ≡ true) [ inl is ↦ absurd cc | inr behind ↦ behind ]) in
+      let later = some_in own (elim (or_cases (is_error line) (any_error own) some) as (λ _. any_error own ≡ true) [ inl is ↦ absurd cc | inr suffix ↦ suffix ]) in
       (later.0, (suc later.1.0, later.1.1, later.1.2, later.1.3, or_from (is_error line) (any_error (take later.1.0 own)) isnt later.1.4))
 ]
 
@@ -30,7 +30,7 @@ some_caller [] some = absurd cc
 some_caller (own ∷ lines) some = elim (cases_Bool (any_error own)) [
   | inl is ↦ (0, is, refl)
   | inr isnt ↦
-      let later = some_caller lines (elim (or_cases (any_error own) (list_any any_error lines) some) as (λ _. list_any any_error lines ≡ true) [ inl is ↦ absurd cc | inr behind ↦ behind ]) in
+      let later = some_caller lines (elim (or_cases (any_error own) (list_any any_error lines) some) as (λ _. list_any any_error lines ≡ true) [ inl is ↦ absurd cc | inr suffix ↦ suffix ]) in
       (suc later.0, later.1, or_from (any_error own) (list_any any_error (take later.0 lines)) isnt later.2)
 ]
 

@@ -19,16 +19,16 @@ abbrev pub worked_witness : List Page
 worked_witness = page (5 ∷ []) (first ∷ []) ∷ page (6 ∷ []) (second ∷ []) ∷ page [] [] ∷ []
 
 -- The only caller has a line after a pending one.
-abbrev pub behind_pending : List (List Line)
-behind_pending = (pending 5 ∷ pending 7 ∷ []) ∷ []
+abbrev pub after_pending : List (List Line)
+after_pending = (pending 5 ∷ pending 7 ∷ []) ∷ []
 
 -- The only caller has a line after one that wasn't judged.
-abbrev pub behind_unchecked : List (List Line)
-behind_unchecked = (unchecked 5 (answer 50 (1 ∷ [])) ∷ pending 7 ∷ []) ∷ []
+abbrev pub after_unchecked : List (List Line)
+after_unchecked = (unchecked 5 (answer 50 (1 ∷ [])) ∷ pending 7 ∷ []) ∷ []
 
 -- The only caller has a line after an error.
-abbrev pub behind_error : List (List Line)
-behind_error = (failed 5 (answer 50 (1 ∷ [])) (1 ∷ []) ∷ pending 7 ∷ []) ∷ []
+abbrev pub after_error : List (List Line)
+after_error = (failed 5 (answer 50 (1 ∷ [])) (1 ∷ []) ∷ pending 7 ∷ []) ∷ []
 
 -- The only caller's call saw a cut that lacks the call itself.
 abbrev pub own_unseen : List (List Line)

@@ -7,7 +7,7 @@ ghost use Rattle.call_lines.specs.Cases.{call, pending, worked_lines};
 ghost use Rattle.reports.specs.Findings.{IsReport, IsFirstError, IsWitness};
 ghost use Rattle.reports.specs.ReportLayout.{lines_in};
 ghost use Rattle.reports.specs.Tally.{counts_of};
-ghost use Rattle.reports.specs.Cases.{of_queue, worked, worked_witness, behind_pending, behind_unchecked, behind_error, own_unseen, of_two_callers, one_too_many, no_operation, no_reply, crossing, two_errors};
+ghost use Rattle.reports.specs.Cases.{of_queue, worked, worked_witness, after_pending, after_unchecked, after_error, own_unseen, of_two_callers, one_too_many, no_operation, no_reply, crossing, two_errors};
 
 use crate::report::{Own, Report};
 use book_base::{Cut, NoMemory, Record};
@@ -45,11 +45,11 @@ pub fn the_earlier_callers_error_is_first()
 /// can't have seen, or that no text can have.
 pub fn lines_that_are_no_report()
     // Lines with one after a pending line are no report.
-    ensures behind_pending { ¬ IsReport (of_queue behind_pending) }
+    ensures after_pending { ¬ IsReport (of_queue after_pending) }
     // Lines with one after an unchecked line are no report.
-    ensures behind_unchecked { ¬ IsReport (of_queue behind_unchecked) }
+    ensures after_unchecked { ¬ IsReport (of_queue after_unchecked) }
     // Lines with one after an error line are no report.
-    ensures behind_error { ¬ IsReport (of_queue behind_error) }
+    ensures after_error { ¬ IsReport (of_queue after_error) }
     // A line whose seen cut lacks its own call is in no report.
     ensures own_unseen { ¬ IsReport (of_queue own_unseen) }
     // A line whose seen cut has a count more than there are callers is in no report.

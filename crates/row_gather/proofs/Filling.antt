@@ -1,4 +1,4 @@
--- Books with a front of another's records, and books that are filled with further records.
+-- Books with a prefix of another's records, and books that are filled with further records.
 use Rattle.std.proofs.Common.{◌≡◌, ℕ, ◌+◌, ◌<◌, ◌≤◌, List, [], ◌∷◌, ◌++◌, length, take, set, get_or, slice_get, Some, refl, sym, ap, ◌∙◌, subst, arith, inl, inr, append_assoc}
 use Rattle.std.proofs.lemmas.Bool.{cases_lt, cases_eq}
 use Rattle.std.proofs.lemmas.List.{set-set, set-get_or, length-set, take_more, take_all, get_or_past, get_or-take, length-take, append-nil}
@@ -14,31 +14,31 @@ use Rattle.book_base.proofs.GrowthLemmas.{within_announced, below_calls, page_of
 use Rattle.book_base.proofs.ViewLemmas.{answer_stands}
 use Rattle.row_gather.specs.Words.{records_at}
 use Rattle.row_gather.specs.Filling.{with_records, filled, IsFilled}
-use Rattle.row_gather.proofs.Behind.{slice_get-append_right, slice_get-append_along}
+use Rattle.row_gather.proofs.After.{slice_get-append_right, slice_get-append_along}
 
--- A book has the calls of another, and a front of its records.
-pub record IsFrontOf (part whole : List Page) : Type 0 where
+-- A book has the calls of another, and a prefix of its records.
+pub record IsPrefixOf (part whole : List Page) : Type 0 where
   pub callers : length part ≡ length whole
   pub operations : (i : ℕ) → (page_of part i).operations ≡ (page_of whole i).operations
   pub records : (call : Call) (r : Record) → record_of part call ≡ Some r → record_of whole call ≡ Some r
 
 -- It is valid where the other is.
-pub front_is_valid : (part whole : List Page) → IsFrontOf part whole → IsValid whole → IsValid part
-front_is_valid part whole front valid =
-    let calls : (i : ℕ) → calls_of part i ≡ calls_of whole i = λ i. ap (length {A = ℕ}) (front.operations i) in
+pub prefix_is_valid : (part whole : List Page) → IsPrefixOf part whole → IsValid whole → IsValid part
+prefix_is_valid part whole prefix valid =
+    let calls : (i : ℕ) → calls_of part i ≡ calls_of whole i = λ i. ap (length {A = ℕ}) (prefix.operations i) in
     record {
       answers = λ i. elim (cases_lt (calls_of part i) (answers_of part i)) [
         | inl more ↦
             let it : Call = record { caller = i; number = calls_of part i } in
             let there = answer_stands part it more in
-            let was = front.records it there.0 there.1 in
+            let was = prefix.records it there.0 there.1 in
             absurd (omega (arith, slice_get_within (page_of whole i).records (calls_of part i) there.0 was, valid.answers i, calls i))
         | inr fits ↦ fits
       ];
-      wide = λ call r e. valid.wide call r (front.records call r e) ∙ sym front.callers;
-      within = λ call r e. within_announced part r.view (λ i. omega (arith, below_calls whole r.view (valid.within call r (front.records call r e)) i, calls i));
-      own = λ call r e. valid.own call r (front.records call r e);
-      comparable = λ a b r s x y. valid.comparable a b r s (front.records a r x) (front.records b s y);
+      wide = λ call r e. valid.wide call r (prefix.records call r e) ∙ sym prefix.callers;
+      within = λ call r e. within_announced part r.view (λ i. omega (arith, below_calls whole r.view (valid.within call r (prefix.records call r e)) i, calls i));
+      own = λ call r e. valid.own call r (prefix.records call r e);
+      comparable = λ a b r s x y. valid.comparable a b r s (prefix.records a r x) (prefix.records b s y);
     }
 
 -- ---- the further records of one caller
@@ -63,9 +63,9 @@ with_records_more book j k rs r low inside is =
     ∙ set-set book j (page_with book j (take k rs)) (record (page_of book j) { records = (had ++ take k rs) ++ r ∷ [] })
     ∙ ap (λ (x : List Record). set book j (record (page_of book j) { records = x })) more
 
--- the first ones are a front of all
-with_records_front : (book : List Page) (j k : ℕ) (rs : List Record) → j < length book → IsFrontOf (with_records book j (take k rs)) (with_records book j rs)
-with_records_front book j k rs low =
+-- the first ones are a prefix of all
+with_records_prefix : (book : List Page) (j k : ℕ) (rs : List Record) → j < length book → IsPrefixOf (with_records book j (take k rs)) (with_records book j rs)
+with_records_prefix book j k rs low =
     let few : Page = page_with book j (take k rs) in
     let all : Page = page_with book j rs in
     record {
@@ -95,7 +95,7 @@ may_next book now j k rs r at low inside is valid =
     let few : Page = page_with book j (take k rs) in
     let next : IsValid (with_answer (with_records book j (take k rs)) j r)
     = subst IsValid (sym (with_records_more book j k rs r low inside is))
-    (front_is_valid (with_records book j (take (k + 1) rs)) (with_records book j rs) (with_records_front book j (k + 1) rs low) valid) in
+    (prefix_is_valid (with_records book j (take (k + 1) rs)) (with_records book j rs) (with_records_prefix book j (k + 1) rs low) valid) in
     subst (λ (b : List Page). MayAnswer b j r.view) (sym at) (MayAnswer-from_valid (with_records book j (take k rs)) j r (omega (arith, low, length-set book j few)) next)
 
 -- and its view has one count per caller
@@ -162,14 +162,14 @@ records_of_first lists j i k r e =
 records_next : (book now : List Page) (lists : List (List Record)) (j : ℕ) → IsFilled book (take j lists) now → (page_of now j).records ≡ (page_of book j).records
 records_next book now lists j h = h.records j ∙ with_none (page_of book j).records (records_at (take j lists) j) (none_past lists j j (omega arith))
 
--- and with them the book is a front of the one with all
+-- and with them the book is a prefix of the one with all
 pub valid_next : (book now : List Page) (lists : List (List Record)) (j : ℕ) (rs : List Record) → IsFilled book (take j lists) now → length lists ≡ length book → j < length book
     → records_at lists j ≡ rs → IsValid (filled book lists) → IsValid (with_records now j rs)
 valid_next book now lists j rs h long low at valid =
     let whole = filled_is book lists long in
     let p : Page = page_with now j rs in
     let inside : j < length now = omega (arith, low, h.callers) in
-    front_is_valid (with_records now j rs) (filled book lists)
+    prefix_is_valid (with_records now j rs) (filled book lists)
     (record {
       callers = length-set now j p ∙ (h.callers ∙ sym whole.callers);
       operations = λ i. elim (cases_eq i j) [

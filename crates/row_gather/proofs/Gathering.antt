@@ -24,7 +24,7 @@ use Rattle.row_gather.specs.Filling.{IsFilled}
 use Rattle.row_gather.specs.Exact.{IsBookOfAll}
 use Rattle.row_gather.proofs.Peeking.{knows_viewed}
 use Rattle.row_gather.proofs.Counting.{greatest_in-least, greatest_in-reached}
-use Rattle.row_gather.proofs.Behind.{slice_get-append_left, slice_get-append_right, slice_get-append_cases}
+use Rattle.row_gather.proofs.After.{slice_get-append_left, slice_get-append_right, slice_get-append_cases}
 
 -- a given cut has one count for each caller
 pub given_wide : (s : Shape) (i : ℕ) (l : Local) (cut : List ℕ) → IsLocalOf s i l → IsGivenIn l.cuts M cut → length cut ≡ s.callers

@@ -1,4 +1,4 @@
-pub mod Behind
+pub mod After
 pub mod Peeking
 pub mod Reading
 pub mod Counting

@@ -6,7 +6,7 @@ use Rattle.world_core.specs.declared.region.Region.TheVariants.{N, M}
 use Rattle.world_core.specs.Shape.{Shape}
 use Rattle.world_core.specs.Layout.{Content, Low, High, Reply, View_entry, Embedded_entry, places, content}
 use Rattle.world_core.specs.Local.{Local, Staged, own_count}
-use Rattle.world_core.specs.Event.{Stage, is_staging, is_due, is_entry_to_embed, may_happen}
+use Rattle.world_core.specs.Event.{Stage, is_staging, is_due, is_entry_to_embed, is_enabled}
 use Rattle.row_staging.specs.Staging.{with_staged}
 
 -- what belongs at a place doesn't hang on what was staged
@@ -23,13 +23,13 @@ count_same l staged M = refl
 
 -- so neither does which word may be staged
 pub stage_same : (s : Shape) (me : ℕ) (l : Local) (staged : List Staged) (region : Region) (place x : ℕ)
-    → may_happen s me (with_staged l staged) (Stage region place x) ≡ may_happen s me l (Stage region place x)
+    → is_enabled s me (with_staged l staged) (Stage region place x) ≡ is_enabled s me l (Stage region place x)
 stage_same s me l staged region place x = λ i.
     is_staging l.phase region && (nat_lt (count_same l staged region i) s.cap && (nat_lt place (places s.callers region) && due_same l staged (content s.callers region place) x i))
 
 -- a word that belongs may be staged
 pub may_stage_word : (s : Shape) (me : ℕ) (l : Local) (region : Region) (place x : ℕ) → is_staging l.phase region ≡ true → own_count l region < s.cap
-    → place < places s.callers region → is_due l (content s.callers region place) x ≡ true → IsTrue (may_happen s me l (Stage region place x))
+    → place < places s.callers region → is_due l (content s.callers region place) x ≡ true → IsTrue (is_enabled s me l (Stage region place x))
 may_stage_word s me l region place x phase row fits due =
     and_from (is_staging l.phase region) (nat_lt (own_count l region) s.cap && (nat_lt place (places s.callers region) && is_due l (content s.callers region place) x)) phase
     (and_from (nat_lt (own_count l region) s.cap) (nat_lt place (places s.callers region) && is_due l (content s.callers region place) x) (lt-ltb (own_count l region) s.cap row)

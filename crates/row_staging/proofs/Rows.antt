@@ -7,7 +7,7 @@ use Rattle.world_core.specs.declared.region.Region.TheVariants.{N, M}
 use Rattle.world_core.specs.Shape.{Shape}
 use Rattle.world_core.specs.Layout.{places}
 use Rattle.world_core.specs.Local.{Phase, Announcing, Publishing, Local, Staged}
-use Rattle.world_core.specs.Event.{Stage, Announce, is_staging, are_staged, is_row_staged, staged_at, may_happen, local_after}
+use Rattle.world_core.specs.Event.{Stage, Announce, is_staging, are_staged, is_row_staged, staged_at, is_enabled, local_after}
 use Rattle.world_core.specs.Agreement.{HasPhase, unpublished_calls}
 use Rattle.world_core.specs.Calls.{IsLocalOf}
 use Rattle.world_laws.proofs.Locals.{locals_have_phases}
@@ -17,9 +17,9 @@ use Rattle.row_staging.proofs.Due.{stage_same, may_stage_word, due_in_view, due_
 
 -- what may be staged may still be once more of the row is
 pub may_still : (s : Shape) (me : ℕ) (l m : Local) (staged : List Staged) (region : Region) (place x : ℕ) → m ≡ with_staged l staged
-    → IsTrue (may_happen s me l (Stage region place x)) → IsTrue (may_happen s me m (Stage region place x))
+    → IsTrue (is_enabled s me l (Stage region place x)) → IsTrue (is_enabled s me m (Stage region place x))
 may_still s me l m staged region place x is may =
-    subst (λ (k : Local). IsTrue (may_happen s me k (Stage region place x))) (sym is) (stage_same s me l staged region place x ∙ may)
+    subst (λ (k : Local). IsTrue (is_enabled s me k (Stage region place x))) (sym is) (stage_same s me l staged region place x ∙ may)
 
 -- a row of N
 abbrev pub staged_N : ℕ → ℕ → List ℕ → List Staged → List Staged
@@ -66,12 +66,12 @@ module _ (s : Shape) (me : ℕ) (l : Local) (reply : ℕ) (view cut : List ℕ) 
   phase_M : is_staging l.phase M ≡ true
   phase_M = ap (λ (p : Phase). is_staging p M) may.phase
 
-  pub reply_may : IsTrue (may_happen s me l (Stage M 0 reply))
+  pub reply_may : IsTrue (is_enabled s me l (Stage M 0 reply))
   reply_may = may_stage_word s me l M 0 reply phase_M row (omega arith) (eq-eqb reply (slice_index l.replies l.published) (sym may.reply_is))
 
-  pub view_may : (j : ℕ) → j < length view → IsTrue (may_happen s me l (Stage M (1 + j) (slice_index view j)))
+  pub view_may : (j : ℕ) → j < length view → IsTrue (is_enabled s me l (Stage M (1 + j) (slice_index view j)))
   view_may j low =
       may_stage_word s me l M (1 + j) (slice_index view j) phase_M row (omega (arith, low, may.view_wide)) (due_in_view s.callers l view j (omega (arith, low, may.view_wide)) may.view_is)
 
-  pub entry_may_M : (j : ℕ) → j < length cut → IsTrue (may_happen s me l (Stage M (1 + s.callers + j) (slice_index cut j)))
+  pub entry_may_M : (j : ℕ) → j < length cut → IsTrue (is_enabled s me l (Stage M (1 + s.callers + j) (slice_index cut j)))
   entry_may_M j low = may_stage_word s me l M (1 + s.callers + j) (slice_index cut j) phase_M row (omega (arith, low, may.wide)) (due_in_M s.callers l cut j may.embeds)

@@ -16,7 +16,7 @@ with_staged l staged = record l { staged = staged }
 abbrev pub local_announced : ℕ → ℕ → Local → Local
 local_announced n op l = record (local_after n l Announce) { operations = l.operations ++ op ∷ [] }
 
--- One of n callers, each with so many rows, may announce a call in a row that embeds this cut.
+-- One of n callers, each with this many rows, may announce a call in a row that embeds this cut.
 pub record MayAnnounce (n cap : ℕ) (cut : List ℕ) (l : Local) : Type 0 where
   pub phase : l.phase ≡ Announcing
   pub row : l.announced < cap

@@ -19,7 +19,7 @@ at_lt [] i x e = absurd (some-ne-none x (sym e))
 at_lt (y ∷ xs) zero x e = omega arith
 at_lt (y ∷ xs) (suc i) x e = let deeper = at_lt xs i x e in omega arith
 
--- a view has no local behind its end
+-- a view has no local after its end
 pub inside : (v : View) (i : ℕ) (l : Local) → has v i ≡ Some l → i < length v
 inside [] i l e = absurd (none-some l e)
 inside (x ∷ v) zero l e = omega arith

@@ -7,7 +7,7 @@ use Rattle.world_core.specs.Shape.{Shape}
 use Rattle.world_core.specs.Layout.{places, count_index, place_index, object_index}
 use Rattle.world_core.specs.Local.{Local, Asking, own_count}
 use Rattle.world_core.specs.Event as event
-use Rattle.world_core.specs.Event.{Event, is_word, is_staging, is_due, is_asking, may_begin, may_happen, is_allowed, knows_row}
+use Rattle.world_core.specs.Event.{Event, is_word, is_staging, is_due, is_asking, may_begin, is_enabled, is_allowed, knows_row}
 use Rattle.world_core.specs.Calls.{IsLocalOf}
 use Rattle.world_laws.proofs.Locals.{locals_have_phases, known_rows_are_counted}
 use Rattle.world_laws.proofs.Words.{may_stage}
@@ -29,8 +29,8 @@ known_low s i l r j k (locals, t, low, is) knows =
     (known_rows_are_counted s locals i j k r t low (subst (λ (m : Local). IsTrue (knows_row s.callers m r j k)) (sym is) knows)).1
 
 module _ (s : Shape) (objects who : ℕ) (l : Local) (low : who < s.callers) where
-  allowed : (e : Event) → IsTrue (may_happen s who l e) → IsTrue (is_allowed s who l e)
-  allowed e may = and_from (nat_lt who s.callers) (may_happen s who l e) (lt-test who s.callers low) may
+  allowed : (e : Event) → IsTrue (is_enabled s who l e) → IsTrue (is_allowed s who l e)
+  allowed e may = and_from (nat_lt who s.callers) (is_enabled s who l e) (lt-test who s.callers low) may
 
   pub makes_look : (r : Region) (j : ℕ) (o : Opening) (word : ℕ) → j < s.callers → IsTrue (may_begin s who l r j (opening_in o)) → word ≡ count_index s.callers r j
       → Makes s objects who l word (λ x. x) (event_of (Look r j o))
@@ -53,7 +53,7 @@ module _ (s : Shape) (objects who : ℕ) (l : Local) (low : who < s.callers) whe
         writes = λ words. sym (set_read words word);
       }
 
-  pub makes_stage : (r : Region) (place x word : ℕ) → IsTrue (may_happen s who l (event.Stage r place x)) → word ≡ place_index s.callers s.cap r who (own_count l r) place
+  pub makes_stage : (r : Region) (place x word : ℕ) → IsTrue (is_enabled s who l (event.Stage r place x)) → word ≡ place_index s.callers s.cap r who (own_count l r) place
       → Makes s objects who l word (λ _. x) (event_of (Stage r place x))
   makes_stage r place x word may is =
       record {
@@ -96,5 +96,5 @@ module _ (s : Shape) (objects who : ℕ) (l : Local) (low : who < s.callers) whe
       }
 
 -- the row that a caller stages, and that its place is one of the table
-pub staged_row : (s : Shape) (who : ℕ) (l : Local) (r : Region) (place x : ℕ) → IsTrue (may_happen s who l (event.Stage r place x)) → (own_count l r < s.cap) × (place < places s.callers r)
+pub staged_row : (s : Shape) (who : ℕ) (l : Local) (r : Region) (place x : ℕ) → IsTrue (is_enabled s who l (event.Stage r place x)) → (own_count l r < s.cap) × (place < places s.callers r)
 staged_row s who l r place x may = let m = may_stage s who l r place x may in (m.row, m.place)

@@ -130,4 +130,4 @@ module _ {P : Type 0} where
   -- The caller may stage this word: its row exists, and the word belongs at this place of it.
   abbrev pub MayStage : (P → ℕ → ℕ → Meaning) → Rows P → Caller P → Region → ℕ → ℕ → Type 0
   MayStage meaning r c region place word =
-      IsTrue (event.may_happen (shape_of meaning r) (who_of c) (local_with c) (event.Stage region place word))
+      IsTrue (event.is_enabled (shape_of meaning r) (who_of c) (local_with c) (event.Stage region place word))

@@ -16,7 +16,7 @@ pub struct Kept {
     pub stance: Stance,
 }
 
-/// The callers of a table that are with no thread, each with its local. Those of one that is let go make no more
+/// The parked callers of a table, each with its local. Those of one that is let go make no more
 /// steps.
 #[derive(Drop)]
 pub struct Bench<P = Outside> {

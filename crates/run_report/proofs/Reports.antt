@@ -55,17 +55,17 @@ all_lines : (Is : ℕ → Type 0) (own : List Line) → AllByRecursion Is (opera
 all_lines Is [] h = tt
 all_lines Is (line ∷ own) h = (h.0, all_lines Is own h.1)
 
--- what a line's record is, and those behind it
+-- what a line's record is, and those after it
 reply_of : (line : Line) (own : List Line) (end : LineEnd) (k : ℕ) (r : Record) → HasWord end
     → ((m : ℕ) → record_of (book_of_lines (own ∷ [])) (record { caller = 0; number = m }) ≡ Some r → r.reply < 2 ^ 64)
     → record_of (book_of_lines ((record { op = line.op; end = end } ∷ own) ∷ [])) (record { caller = 0; number = k }) ≡ Some r → r.reply < 2 ^ 64
-reply_of line own Pending k r word behind there = behind k there
-reply_of line own (Unchecked s) zero r word behind there = subst (λ (q : Record). q.reply < 2 ^ 64) (same_Some s r there) word
-reply_of line own (Unchecked s) (suc k) r word behind there = behind k there
-reply_of line own (Delivered s cut) zero r word behind there = subst (λ (q : Record). q.reply < 2 ^ 64) (same_Some s r there) word
-reply_of line own (Delivered s cut) (suc k) r word behind there = behind k there
-reply_of line own (Error s cut) zero r word behind there = subst (λ (q : Record). q.reply < 2 ^ 64) (same_Some s r there) word
-reply_of line own (Error s cut) (suc k) r word behind there = behind k there
+reply_of line own Pending k r word suffix there = suffix k there
+reply_of line own (Unchecked s) zero r word suffix there = subst (λ (q : Record). q.reply < 2 ^ 64) (same_Some s r there) word
+reply_of line own (Unchecked s) (suc k) r word suffix there = suffix k there
+reply_of line own (Delivered s cut) zero r word suffix there = subst (λ (q : Record). q.reply < 2 ^ 64) (same_Some s r there) word
+reply_of line own (Delivered s cut) (suc k) r word suffix there = suffix k there
+reply_of line own (Error s cut) zero r word suffix there = subst (λ (q : Record). q.reply < 2 ^ 64) (same_Some s r there) word
+reply_of line own (Error s cut) (suc k) r word suffix there = suffix k there
 
 -- a record of some lines has the reply of one of them
 reply_among : (own : List Line) (k : ℕ) (r : Record) → AllByRecursion (λ (line : Line). HasWord line.end) own
@@ -86,11 +86,11 @@ words_of_all (own ∷ lines) h =
     let each = λ (own : Own). All (λ (line : Line). HasWord line.end) own.lines.items in
     (recursion_from_All (λ (line : Line). HasWord line.end) own.lines.items (All-head each own lines h), words_of_all lines (All-tail each own lines h))
 
--- behind the last caller there are no lines
-pub none_behind : (lines : List (List Line)) (i : ℕ) → length lines ≤ i → lines_at lines i ≡ []
-none_behind [] i high = refl
-none_behind (own ∷ lines) zero high = absurd (omega (arith, high))
-none_behind (own ∷ lines) (suc i) high = none_behind lines i (omega (arith, high))
+-- after the last caller there are no lines
+pub none_after : (lines : List (List Line)) (i : ℕ) → length lines ≤ i → lines_at lines i ≡ []
+none_after [] i high = refl
+none_after (own ∷ lines) zero high = absurd (omega (arith, high))
+none_after (own ∷ lines) (suc i) high = none_after lines i (omega (arith, high))
 
 module _ (init : List ℕ) (next : List ℕ → ℕ → List ℕ × ℕ) (s : Shape) (locals : List Local) (plan : Plan) (allotments : List ℕ) (lines : List (List Line)) (valid : IsPlan Second plan) (callers : s.callers ≡ length plan.operations)
     (together : AreTogether s locals) (of : AreLinesOf init next locals lines) (lawful : IsLawful init next s plan.operations allotments lines) (replies : AllByRecursion (AllByRecursion (λ (line : Line). HasWord line.end)) lines) where
@@ -115,7 +115,7 @@ module _ (init : List ℕ) (next : List ℕ → ℕ → List ℕ × ℕ) (s : Sh
             let full = lines_before_the_last_are_delivered (operations_at plan.operations call.caller) (slice_index allotments call.caller) (lines_at lines call.caller) call.number line
             (lawful.allotted call.caller (omega (arith, within, lawful.callers))) there low in
             subst (λ (e : LineEnd). IsSome (delivered_in e)) (sym full.2) refl
-        | inr behind ↦ absurd (omega (arith, low, ap (λ (l : List Line). length l) (none_behind lines call.caller behind)))
+        | inr suffix ↦ absurd (omega (arith, low, ap (λ (l : List Line). length l) (none_after lines call.caller suffix)))
       ]
 
   pub is_report : IsReport (record { kind = plan.kind; lines = lines })

@@ -9,7 +9,7 @@ use Rattle.client_scripts.specs.Plans.{Plan}
 use Rattle.report_laws.specs.Cases.{five_and_six, stopped}
 use Rattle.run_report.specs.Reporting.{IsReportOf}
 
--- The first caller stops after so many phases, and the second after two.
+-- The first caller stops after this many phases, and the second after two.
 abbrev pub stops_after : ℕ → List (Option ℕ)
 stops_after phases = Some phases ∷ Some 2 ∷ []
 

@@ -23,7 +23,7 @@ outside_shape n = record { callers = n; cap = MAX_CALLS; program = outside }
 
 -- Findings are those of a plan's callers that were given these phases and left these locals: of its kind, with the lines of just these
 -- locals, which are those of one reachable world, and lawful; and each caller has made just the phases that its lines tell of, so that
--- one which stopped behind its publish has published. A call under way that was announced and not asked has no object step, and to one
+-- one which stopped after its publish has published. A call under way that was announced and not asked has no object step, and to one
 -- that was asked the program allows a reply.
 pub record IsReportOf (init : List ℕ) (next : List ℕ → ℕ → List ℕ × ℕ) (s : Shape) (locals : List Local) (plan : Plan) (allotments : List ℕ) (findings : Findings) : Type 0 where
   pub kind : findings.kind ≡ plan.kind

@@ -61,7 +61,7 @@ one_first_error : (lines : List (List Line)) (a b : Call) (cut other : List ℕ)
 one_first_error lines a b cut other first second =
     elim (order_of a b) [
       | inl before ↦ absurd (none-some cut (sym (second.first a before) ∙ first.error))
-      | inr (inl behind) ↦ absurd (none-some other (sym (first.first b behind) ∙ second.error))
+      | inr (inl suffix) ↦ absurd (none-some other (sym (first.first b suffix) ∙ second.error))
       | inr (inr same) ↦ let both : ◌≡◌ {A = Option (List ℕ)} (Some cut) (Some other) = sym first.error ∙ ap (error_at lines) same ∙ second.error in cc
     ]
 

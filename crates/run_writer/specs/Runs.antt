@@ -23,7 +23,7 @@ use Rattle.byte_streams.specs.declared.status.Status.{Status}
 use Rattle.byte_streams.specs.declared.status.Status.TheVariants.{Fine, Found}
 use Rattle.byte_streams.specs.Writing.{EndsWriting}
 
--- The rest of what is written behind a report: where a line is an error, the text of the book that the first error saw, else nothing.
+-- The rest of what is written after a report: where a line is an error, the text of the book that the first error saw, else nothing.
 abbrev pub IsWitnessText : Findings → List ℕ → Type 0
 IsWitnessText report rest =
     ((list_any any_error report.lines ≡ false) × (rest ≡ []))

@@ -57,7 +57,7 @@ no_row (row ∷ rows) word e = here (no_row rows word) (bytes_eq word row.0) ref
 
 -- ---- the walk over one word
 
--- where the walk stops behind the first word, by what that was
+-- where the walk stops after the first word, by what that was
 abbrev stopped_by : Text → Held × Step → Option (Text × List Text)
 stopped_by word met = (after_step [] word (walk_from nothing_held) met.0 met.1).stopped
 

@@ -115,17 +115,17 @@ opening_from : (bytes : List ℕ) (kind : Kind) (n : ℕ) (rest : List ℕ) → 
     → bytes ≡ line_text (title_words Second (codes "script")) ++ (line_text (object_words kind) ++ (line_text (callers_words n) ++ rest)) → IsOpening bytes n
 opening_from bytes kind n rest may known is =
     let title = title_words Second (codes "script") in
-    let behind_object : List ℕ = line_text (callers_words n) ++ rest in
-    let behind_title : List ℕ = line_text (object_words kind) ++ behind_object in
+    let past_object : List ℕ = line_text (callers_words n) ++ rest in
+    let past_title : List ℕ = line_text (object_words kind) ++ past_object in
     record {
       title_line = join_with_byte 32 title;
       object_line = join_with_byte 32 (object_words kind);
       callers_line = join_with_byte 32 (callers_words n);
-      after_title = record { bytes = behind_title; number = 2 };
-      after_object = record { bytes = behind_object; number = 3 };
+      after_title = record { bytes = past_title; number = 2 };
+      after_object = record { bytes = past_object; number = 3 };
       after_callers = record { bytes = rest; number = 4 };
-      first = ap (λ (b : List ℕ). line_at (whole_text b)) is ∙ line_of title behind_title 1 title_solid;
-      second = line_of (object_words kind) behind_object 2 (object_solid kind known);
+      first = ap (λ (b : List ℕ). line_at (whole_text b)) is ∙ line_of title past_title 1 title_solid;
+      second = line_of (object_words kind) past_object 2 (object_solid kind known);
       third = line_of (callers_words n) rest 3 (callers_solid n may);
       titled = words_of-join title title_solid;
       kind = kind;

@@ -22,7 +22,7 @@ LeavesTwo plan = length plan.operations + 2 ≤ MAX_CALLERS
 unfoldable pub IsMonitorInput : List ℕ → Type 0
 IsMonitorInput bytes = (plan : Plan) × IsScriptText Second bytes plan × LeavesTwo plan
 
--- The first three lines of the bytes are those of a script of so many callers.
+-- The first three lines of the bytes are those of a script of this many callers.
 pub record IsOpening (bytes : List ℕ) (callers : ℕ) : Type 0 where
   pub title_line : List ℕ
   pub object_line : List ℕ

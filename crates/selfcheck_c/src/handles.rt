@@ -17,7 +17,7 @@ pub const DONE: u32 = 0;
 /// What was given isn't as the call wants it, and nothing has changed.
 pub const UNFIT: u32 = 9;
 
-/// Opens a table for so many callers, 1 to 16, with 1 to 256 calls each, which are judged by the kind of this name, and
+/// Opens a table for this many callers, 1 to 16, with 1 to 256 calls each, which are judged by the kind of this name, and
 /// puts its handle into the slot, which has none.
 #[unsafe(no_mangle)]
 pub extern "C" fn selfcheck_open(

@@ -29,7 +29,7 @@ IsWrittenWith-none e words small arity =
     let has : has_arguments Nullary word ≡ true = and_from (argument_of word == 0) (extra_of word == 0) (eq-eqb (argument_of word) 0 parts.1) (eq-eqb (extra_of word) 0 parts.2) in
     record {
       operation = is_operation e 0 0 small (omega arith) (subst (λ a. has_arguments a word ≡ true) (sym arity) has);
-      behind = words;
+      suffix = words;
       whole = ap (λ a. argument_words a word ++ words) (sym arity);
       count = ap (λ a. length (argument_words a word)) arity;
     }
@@ -56,11 +56,11 @@ IsWrittenWith-one e second third argument small arity argument_small spelled =
     ap (λ a. argument_words a word) arity ∙ ap (λ n. decimal n ∷ []) parts.1 ∙ ap (λ w. w ∷ []) spelled in
     record {
       operation = is_operation e argument 0 small argument_small (subst (λ a. has_arguments a word ≡ true) (sym arity) (eq-eqb (extra_of word) 0 parts.2));
-      behind = further third None;
+      suffix = further third None;
       whole = further-one second third ∙ ap (λ ws. ws ++ further third None) (sym words);
       count = ap length words;
     }
 
--- The text of an entry's word is its name, and each argument behind a space.
+-- The text of an entry's word is its name, and each argument after a space.
 pub text_of-spaced : (e : Entry) (word : ℕ) → text_of e word ≡ e.name ++ spaced_arguments e.arity word
 text_of-spaced e word = spaced e.name e.arity word

@@ -9,7 +9,7 @@ use Rattle.std.proofs.lemmas.List.Sums.{fails_before_first}
 use Rattle.std.proofs.lemmas.List.Quantifiers.{position-Some}
 use Rattle.list_laws.proofs.Options.{cases_Option}
 
--- what stands in front of the first item that passes doesn't pass
+-- what stands before the first item that passes doesn't pass
 filter_before : (p : ℕ → Bool) (xs : List ℕ) (i : ℕ) → ((k : ℕ) → k < i → p (get_or xs k 0) ≡ false) → filter p (take i xs) ≡ []
 filter_before p xs zero fails = refl
 filter_before p [] (suc i) fails = refl

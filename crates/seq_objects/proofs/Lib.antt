@@ -1,12 +1,12 @@
 pub mod Spelling
 pub mod Tables
-pub mod Fronts
+pub mod Prefixes
 pub mod ReplyTexts
 pub mod Texts
 pub mod WholeDigits
 pub mod Arguments
 pub mod MapPlaces
-pub mod Leaving
+pub mod ReadOnly
 pub mod MapReading
 pub mod Reading
 pub mod KeyedItems

@@ -12,7 +12,7 @@ use Rattle.seq_objects.specs.Replies.{reply_none, reply_value, reply_bad}
 use Rattle.seq_objects.specs.Items.{place_for}
 use Rattle.seq_objects.specs.MapSteps.{item_of, key_of, place_of_key, put_at, put_in, value_at, without, map_operation, map_after}
 use Rattle.seq_objects.specs.Keys.{key_in_map, map_key, map_part}
-use Rattle.seq_objects.proofs.Leaving.{value_is_small}
+use Rattle.seq_objects.proofs.ReadOnly.{value_is_small}
 use Rattle.seq_objects.proofs.KeyedItems.{filter-insert_other, filter-insert_first, filter-remove_other, filter-remove_first, filter-set_other, filter-set_first, filter-found, filter-none, first_of, rest_of, item_at, first_passes}
 
 -- the reply with the value of an item, if there is one

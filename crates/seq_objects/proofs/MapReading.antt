@@ -9,7 +9,7 @@ use Rattle.seq_objects.specs.Replies.{reply_none, reply_value}
 use Rattle.seq_objects.specs.Items.{place_for}
 use Rattle.seq_objects.specs.MapSteps.{item_of, key_of, place_of_key, put_at, value_at, without, map_operation, map_after}
 use Rattle.seq_objects.specs.MapLaws.{LacksKey, HasKeysOnce, PutIsGot, PutLeavesOthers, DeleteLeavesOthers, DeletedIsNone, KeysStayOnce}
-use Rattle.seq_objects.proofs.Leaving.{value_is_small}
+use Rattle.seq_objects.proofs.ReadOnly.{value_is_small}
 
 -- the value of the first item of a key
 abbrev found : ℕ → List ℕ → ℕ
@@ -34,10 +34,10 @@ read_is (x ∷ xs) key =
           ap (value_at (x ∷ xs)) (placed p (x ∷ xs) 0 (cond-false (not (p x)) (1 + n) 0 (ap not passes)) (omega arith))
           ∙ sym (cond-true (p x) (reply_value x) (found key xs) passes)
       | inr fails ↦
-          let behind : here ≡ suc n = cond-true (not (p x)) (1 + n) 0 (ap not fails) ∙ omega arith in
+          let suffix : here ≡ suc n = cond-true (not (p x)) (1 + n) 0 (ap not fails) ∙ omega arith in
           let rest : value_at (x ∷ xs) (place_of_key (x ∷ xs) key) ≡ value_at xs (place_of_key xs key) = elim (cases_lt n (length xs)) as (λ _. value_at (x ∷ xs) (place_of_key (x ∷ xs) key) ≡ value_at xs (place_of_key xs key)) [
-            | inl inside ↦ ap (value_at (x ∷ xs)) (placed p (x ∷ xs) (suc n) behind (omega (arith, inside))) ∙ sym (ap (value_at xs) (placed p xs n refl inside))
-            | inr past ↦ ap (value_at (x ∷ xs)) (unplaced p (x ∷ xs) (suc n) behind (omega (arith, past))) ∙ sym (ap (value_at xs) (unplaced p xs n refl past))
+            | inl inside ↦ ap (value_at (x ∷ xs)) (placed p (x ∷ xs) (suc n) suffix (omega (arith, inside))) ∙ sym (ap (value_at xs) (placed p xs n refl inside))
+            | inr past ↦ ap (value_at (x ∷ xs)) (unplaced p (x ∷ xs) (suc n) suffix (omega (arith, past))) ∙ sym (ap (value_at xs) (unplaced p xs n refl past))
           ] in
           rest ∙ (read_is xs key ∙ sym (cond-false (p x) (reply_value x) (found key xs) fails))
     ]
@@ -58,7 +58,7 @@ lacks_at key [] i inside lacks = absurd (omega (arith, inside))
 lacks_at key (x ∷ xs) zero inside lacks = lacks.0
 lacks_at key (x ∷ xs) (suc i) inside lacks = lacks_at key xs i (omega (arith, inside)) lacks.1
 
--- an item in place of another
+-- an item instead of another
 found_set_same : (key item : ℕ) (xs : List ℕ) (i : ℕ) → i < length xs → key_of item ≡ key → ((k : ℕ) → k < i → (key_of (get_or xs k 0) == key) ≡ false) → found key (set xs i item) ≡ reply_value item
 found_set_same key item [] i inside same first = absurd (omega (arith, inside))
 found_set_same key item (x ∷ xs) zero inside same first = cond-true (key_of item == key) (reply_value item) (found key xs) (eq-eqb (key_of item) key same)

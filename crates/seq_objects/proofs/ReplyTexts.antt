@@ -129,7 +129,7 @@ reply_word-unknown word digits reply begins spelled unknown =
     reply_word-other reply (none_from_is_some (named_reply reply) parts.0) parts.1
     ∙ ap (λ ds. 35 ∷ ds) spelled ∙ sym begins
 
--- Behind '=' stands no reply's text where the digits are no value's.
+-- After '=' stands no reply's text where the digits are no value's.
 pub not-reply-value : (word digits : List ℕ) → reply_named word ≡ None → word ≡ 61 ∷ digits
     → ((n : ℕ) → n < 2 ^ 32 → decimal n ≢ digits) → (reply : ℕ) → reply_word reply ≢ word
 not-reply-value word digits none begins lacking reply same = elim (reply_word-cases reply) [
@@ -150,7 +150,7 @@ not-reply-unmarked word none no_value no_number reply same = elim (reply_word-ca
   | inr (inr other) ↦ no_number (decimal reply) (sym same ∙ other.1)
 ]
 
--- Behind '#' stands no reply's text where each reply with these digits has another.
+-- After '#' stands no reply's text where each reply with these digits has another.
 pub not-reply-marked : (word digits : List ℕ) → reply_named word ≡ None → word ≡ 35 ∷ digits
     → ((reply : ℕ) → reply < 2 ^ 64 → decimal reply ≡ digits → is_known_reply reply ≡ true)
     → (reply : ℕ) → reply < 2 ^ 64 → reply_word reply ≢ word

@@ -40,9 +40,9 @@ Spells-unknown kind first digits others word begins spelled unknown =
     let words : operation_words kind word ≡ first ∷ [] =
     operation_words-unknown kind word (unknown-entry kind word unknown)
     ∙ ap (λ ds. (35 ∷ ds) ∷ []) spelled ∙ ap (λ w. w ∷ []) (sym begins) in
-    record { behind = others; whole = ap (λ ws. ws ++ others) (sym words); count = omega (arith, ap length words) }
+    record { suffix = others; whole = ap (λ ws. ws ++ others) (sym words); count = omega (arith, ap length words) }
 
--- The name of an entry, and its arguments behind it, spell a word of this entry.
+-- The name of an entry, and its arguments after it, spell a word of this entry.
 pub Spells-known : (kind : Kind) (first : List ℕ) (others : List (List ℕ)) (e : Entry) (word used : ℕ)
     → entry_named kind first ≡ Some e → IsWrittenWith e others word used
     → Spells kind (first ∷ others) word used
@@ -52,8 +52,8 @@ Spells-known kind first others e word used named written =
     operation_words-known kind word e (entry_of-operation kind word e at.0 written.operation)
     ∙ ap (λ n. n ∷ argument_words e.arity word) at.1 in
     record {
-      behind = written.behind;
-      whole = ap (λ ws. first ∷ ws) written.whole ∙ ap (λ ws. ws ++ written.behind) (sym words);
+      suffix = written.suffix;
+      whole = ap (λ ws. first ∷ ws) written.whole ∙ ap (λ ws. ws ++ written.suffix) (sym words);
       count = omega (arith, ap length words, written.count);
     }
 
@@ -67,13 +67,13 @@ Spells-entry : (kind : Kind) (first : List ℕ) (others : List (List ℕ)) (word
     → IsNamed first others word used e
 Spells-entry kind first others word used e known spells =
     let words = operation_words-known kind word e known in
-    let same : first ∷ others ≡ e.name ∷ (argument_words e.arity word ++ spells.behind) =
-    spells.whole ∙ ap (λ ws. ws ++ spells.behind) words in
+    let same : first ∷ others ≡ e.name ∷ (argument_words e.arity word ++ spells.suffix) =
+    spells.whole ∙ ap (λ ws. ws ++ spells.suffix) words in
     record {
       name = cc;
       written = record {
         operation = (entry_of-inside kind word e known).1;
-        behind = spells.behind;
+        suffix = spells.suffix;
         whole = cc;
         count = omega (arith, ap length words, spells.count);
       };
@@ -85,8 +85,8 @@ Spells-marked : (kind : Kind) (first : List ℕ) (others : List (List ℕ)) (wor
     → (first ≡ 35 ∷ whole_digits word) × (used ≡ 0)
 Spells-marked kind first others word used unknown spells =
     let words = operation_words-unknown kind word unknown in
-    let same : first ∷ others ≡ (35 ∷ whole_digits word) ∷ spells.behind =
-    spells.whole ∙ ap (λ ws. ws ++ spells.behind) words in
+    let same : first ∷ others ≡ (35 ∷ whole_digits word) ∷ spells.suffix =
+    spells.whole ∙ ap (λ ws. ws ++ spells.suffix) words in
     (cc, omega (arith, ap length words, spells.count))
 
 -- How words spell an operation: '#' and the whole word, or an entry's name and its arguments.
@@ -109,7 +109,7 @@ named-marked : (kind : Kind) (first : List ℕ) (e : Entry) (rest : List ℕ) �
 named-marked kind first e rest inside name begins =
     marked-name rest (subst (λ n. is_plain_name n ≡ true) (name ∙ begins) (is_plain_name-entry kind e inside))
 
--- Behind '#' stands no text of an operation where the kind knows each word with these digits.
+-- After '#' stands no text of an operation where the kind knows each word with these digits.
 pub not-Spells-marked : (kind : Kind) (first digits : List ℕ) (others : List (List ℕ))
     → first ≡ 35 ∷ digits
     → ((word : ℕ) → IsOperationWord word → whole_digits word ≡ digits → is_known_word kind word ≡ true)
@@ -142,7 +142,7 @@ not-Spells-lacking kind first others e unmarked found lacks op used spells = eli
       let other : entry_named kind first ≡ Some named.0 = entry_named-name kind first named.0 named.1 named.2.name in
       let same : named.0 ≡ e = cc in
       let here : IsWrittenWith e others op used = subst (λ f. IsWrittenWith f others op used) same named.2.written in
-      lacks.lacking op here.behind here.operation here.whole
+      lacks.lacking op here.suffix here.operation here.whole
 ]
 
 -- The text of an operation of an entry.
@@ -187,7 +187,7 @@ one_operation a b a_used b_used e words a_is b_is =
     let a_parts = and_parts (code_of a == e.code) (has_arguments e.arity a) a_is.operation in
     let b_parts = and_parts (code_of b == e.code) (has_arguments e.arity b) b_is.operation in
     let codes : code_of a ≡ code_of b = eqb-true (code_of a) e.code a_parts.0 ∙ sym (eqb-true (code_of b) e.code b_parts.0) in
-    let same = same_arguments e.arity a b a_is.behind b_is.behind a_parts.1 b_parts.1 (sym a_is.whole ∙ b_is.whole) in
+    let same = same_arguments e.arity a b a_is.suffix b_is.suffix a_parts.1 b_parts.1 (sym a_is.whole ∙ b_is.whole) in
     omega arith
 
 -- Words are read as one operation at most.
@@ -195,7 +195,7 @@ pub Spells-once : (kind : Kind) (words : List (List ℕ)) (a b a_used b_used : �
     → IsOperationWord a → IsOperationWord b → Spells kind words a a_used
     → Spells kind words b b_used → (a ≡ b) × (a_used ≡ b_used)
 Spells-once kind [] a b a_used b_used a_small b_small a_spells b_spells =
-    absurd (omega (arith, ap length a_spells.whole, a_spells.count, length-append (operation_words kind a) a_spells.behind))
+    absurd (omega (arith, ap length a_spells.whole, a_spells.count, length-append (operation_words kind a) a_spells.suffix))
 Spells-once kind (first ∷ others) a b a_used b_used a_small b_small a_spells b_spells =
     let one : a ≡ b = elim (Spells-cases kind first others a a_used a_spells) [
       | inl a_marked ↦ elim (Spells-cases kind first others b b_used b_spells) [

@@ -101,7 +101,7 @@ Spells-own kind word other same =
     let some = some_words kind word in (
       length some.1,
       record {
-        behind = [];
+        suffix = [];
         whole = sym same ∙ sym (append-nil (operation_words kind other));
         count = omega (arith, ap length same, ap length some.2);
       },

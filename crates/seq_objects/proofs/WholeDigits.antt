@@ -34,17 +34,17 @@ whole_digits-no_colon word digits small lacks same = elim (cases_Bool (high_of w
       absurd (not-Lacks-marked 58 (decimal (low_of word)) (decimal (high_of word)) (subst (Lacks 58) (sym same ∙ whole) lacks))
 ]
 
--- Digits with a colon are those of a word with a high word, which stands behind the first colon.
-pub whole_digits-colon : (word : ℕ) (before behind : List ℕ) → IsOperationWord word
-    → Lacks 58 before → whole_digits word ≡ before ++ 58 ∷ behind
-    → (high_of word ≢ 0) × (decimal (low_of word) ≡ before) × (decimal (high_of word) ≡ behind)
-whole_digits-colon word before behind small lacks same = elim (cases_Bool (high_of word == 0)) [
+-- Digits with a colon are those of a word with a high word, which stands after the first colon.
+pub whole_digits-colon : (word : ℕ) (before suffix : List ℕ) → IsOperationWord word
+    → Lacks 58 before → whole_digits word ≡ before ++ 58 ∷ suffix
+    → (high_of word ≢ 0) × (decimal (low_of word) ≡ before) × (decimal (high_of word) ≡ suffix)
+whole_digits-colon word before suffix small lacks same = elim (cases_Bool (high_of word == 0)) [
   | inl none ↦
       let whole = whole_digits-low word (eqb-true (high_of word) 0 none) in
-      absurd (not-Lacks-marked 58 before behind (subst (Lacks 58) (sym whole ∙ same) (decimal-no_colon (low_of word) (omega arith))))
+      absurd (not-Lacks-marked 58 before suffix (subst (Lacks 58) (sym whole ∙ same) (decimal-no_colon (low_of word) (omega arith))))
   | inr some ↦
       let high : high_of word ≢ 0 = eqb-false (high_of word) 0 some in
-      let parts = first_mark-once 58 (decimal (low_of word)) before (decimal (high_of word)) behind (decimal-no_colon (low_of word) (omega arith)) lacks (sym (whole_digits-both word high) ∙ same) in
+      let parts = first_mark-once 58 (decimal (low_of word)) before (decimal (high_of word)) suffix (decimal-no_colon (low_of word) (omega arith)) lacks (sym (whole_digits-both word high) ∙ same) in
       (high, parts.0, parts.1)
 ]
 

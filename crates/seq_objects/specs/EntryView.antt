@@ -25,14 +25,14 @@ spaced_arguments Nullary word = []
 spaced_arguments Unary word = 32 ∷ decimal (argument_of word)
 spaced_arguments Binary word = (32 ∷ decimal (argument_of word)) ++ 32 ∷ decimal (extra_of word)
 
--- Words begin with the arguments of a word of an entry, which are so many.
+-- Words begin with the arguments of a word of an entry, which are this many.
 pub record IsWrittenWith (entry : Entry) (words : List (List ℕ)) (word used : ℕ) : Type 0 where
   pub operation : is_operation_of word entry ≡ true
-  pub behind : List (List ℕ)
-  pub whole : words ≡ argument_words entry.arity word ++ behind
+  pub suffix : List (List ℕ)
+  pub whole : words ≡ argument_words entry.arity word ++ suffix
   pub count : length (argument_words entry.arity word) ≡ used
 
 -- Words don't begin with the arguments of a word of an entry.
 pub record LacksArguments (entry : Entry) (words : List (List ℕ)) : Type 0 where
-  pub lacking : (word : ℕ) (behind : List (List ℕ)) → is_operation_of word entry ≡ true
-      → words ≢ argument_words entry.arity word ++ behind
+  pub lacking : (word : ℕ) (suffix : List (List ℕ)) → is_operation_of word entry ≡ true
+      → words ≢ argument_words entry.arity word ++ suffix

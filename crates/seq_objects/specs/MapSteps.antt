@@ -23,7 +23,7 @@ key_of item = item / 2 ^ 32
 abbrev pub place_of_key : List ℕ → ℕ → Option ℕ
 place_of_key list key = position (λ item. key_of item == key) list
 
--- The list with an item in place of the one at a place, whose value is the reply; where there is no
+-- The list with an item instead of the one at a place, whose value is the reply; where there is no
 -- place, with the item before the first greater one, or at the end.
 abbrev pub put_at : List ℕ → ℕ → Option ℕ → List ℕ × ℕ
 put_at list item (Some place) = (slice_set list place item, reply_value (slice_index list place))

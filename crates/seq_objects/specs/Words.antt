@@ -195,10 +195,10 @@ further None third = []
 further (Some second) None = second ∷ []
 further (Some second) (Some third) = second ∷ third ∷ []
 
--- Words begin with those of an operation: a first one, and so many further ones.
+-- Words begin with those of an operation: a first one, and this many further ones.
 pub record Spells (kind : Kind) (words : List (List ℕ)) (op used : ℕ) : Type 0 where
-  pub behind : List (List ℕ)
-  pub whole : words ≡ operation_words kind op ++ behind
+  pub suffix : List (List ℕ)
+  pub whole : words ≡ operation_words kind op ++ suffix
   pub count : length (operation_words kind op) ≡ used + 1
 
 -- A printed character of ASCII, so no space and no line feed.
@@ -211,8 +211,8 @@ pub record IsWord (word : List ℕ) : Type 0 where
   pub printed : All IsPrinted word
 
 -- The new list is the old one with a prefix of the text at its end.
-pub record AppendsFront (old new text : List ℕ) : Type 0 where
-  pub front : List ℕ
+pub record AppendsPrefix (old new text : List ℕ) : Type 0 where
+  pub prefix : List ℕ
   pub rest : List ℕ
-  pub split : text ≡ front ++ rest
-  pub appended : new ≡ old ++ front
+  pub split : text ≡ prefix ++ rest
+  pub appended : new ≡ old ++ prefix

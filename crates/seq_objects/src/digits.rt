@@ -1,6 +1,6 @@
 ghost use Rattle.std.specs.Prelude.{◌≡◌, ◌≢◌, ℕ, ◌^◌, ◌<◌, [], ◌∷◌, ◌++◌, ◌⊎◌, ◌↔◌, decimal, slice_index, IsTrue, IfSome, IfNone, MatchOption, List, OnOk, OnErr};
 ghost use Rattle.std.specs.Int.{IsInRange};
-ghost use Rattle.seq_objects.specs.Words.{AppendsFront};
+ghost use Rattle.seq_objects.specs.Words.{AppendsPrefix};
 
 use book_base::NoMemory;
 use itoa::Buffer;
@@ -50,14 +50,14 @@ pub fn put_number(out: &mut Vec<u8>, n: u64) -> Result<(), NoMemory>
 /// Appends a byte, and after it a number in decimal digits.
 pub fn put_marked(out: &mut Vec<u8>, mark: u8, n: u64) -> Result<(), NoMemory>
     ensures ok { OnOk result (out.new.items ≡ out.old.items ++ mark ∷ decimal n) }
-    ensures err { OnErr result (AppendsFront out.old.items out.new.items (mark ∷ decimal n)) }
+    ensures err { OnErr result (AppendsPrefix out.old.items out.new.items (mark ∷ decimal n)) }
 {
     out.push(mark)?;
     put_number(out, n)
 }
 
 /// What stands after a byte that a word begins with.
-pub fn behind(mark: u8, word: &[u8]) -> Option<&[u8]>
+pub fn suffix(mark: u8, word: &[u8]) -> Option<&[u8]>
     ensures found { IfSome result (λ rest. word.now ≡ mark ∷ rest.now) }
     ensures none { IfNone result ((rest : List ℕ) → word.now ≢ mark ∷ rest) }
 {

@@ -1,6 +1,6 @@
 ghost use Rattle.std.specs.Prelude.{◌≡◌, ◌^◌, ◌<◌, ◌∷◌, ◌++◌, map, IfSome, IfNone, OnOk, OnErr, option_map, option_copied};
 ghost use Rattle.seq_objects.specs.Words as words;
-ghost use Rattle.seq_objects.specs.Words.{further, AppendsFront};
+ghost use Rattle.seq_objects.specs.Words.{further, AppendsPrefix};
 ghost use Rattle.seq_objects.specs.EntryView.{shown, entry_named, text_of, spaced_arguments, IsWrittenWith, LacksArguments};
 
 use crate::digits::{argument, put_marked};
@@ -215,7 +215,7 @@ impl Entry {
     pub fn put(&self, out: &mut Vec<u8>, word: OpWord) -> Result<(), NoMemory>
         ensures ok { OnOk result (out.new.items ≡ out.old.items ++ text_of (shown self.now) word) }
         ensures err { OnErr result
-            (AppendsFront out.old.items out.new.items (text_of (shown self.now) word)) }
+            (AppendsPrefix out.old.items out.new.items (text_of (shown self.now) word)) }
     {
         out.extend_from_slice(self.name.as_bytes())?;
         put_arguments(out, self.arity, word)
@@ -226,7 +226,7 @@ impl Entry {
 fn put_arguments(out: &mut Vec<u8>, arity: Arity, word: OpWord) -> Result<(), NoMemory>
     ensures ok { OnOk result (out.new.items ≡ out.old.items ++ spaced_arguments arity word) }
     ensures err { OnErr result
-        (AppendsFront out.old.items out.new.items (spaced_arguments arity word)) }
+        (AppendsPrefix out.old.items out.new.items (spaced_arguments arity word)) }
 {
     match arity {
         Arity::Nullary => Ok(()),

@@ -4,11 +4,11 @@ ghost use Rattle.book_base.specs.OperationWord.{IsOperationWord};
 ghost use Rattle.seq_objects.specs.declared.kind.Kind.{Kind};
 ghost use Rattle.seq_objects.specs.Objects.{kind_init, kind_next, length-kind_init, length-kind_next, kind_next-unknown};
 ghost use Rattle.seq_objects.specs.Seen.{kind_sees};
-ghost use Rattle.seq_objects.specs.Words.{kind_name, is_first_kind, is_known_word, operation_text, whole_digits, further, Spells, AppendsFront};
+ghost use Rattle.seq_objects.specs.Words.{kind_name, is_first_kind, is_known_word, operation_text, whole_digits, further, Spells, AppendsPrefix};
 
 use crate::cas_register::CasRegister;
 use crate::counter::Counter;
-use crate::digits::behind;
+use crate::digits::suffix;
 use crate::entry::{entry_named, entry_of};
 use crate::int_set::IntSet;
 use crate::map::Map;
@@ -114,7 +114,7 @@ impl Kind {
             let others = further (option_copied second.entry) (option_copied third.entry) in
             ¬ (Spells self (first.now ∷ others) op used)) }
     {
-        match behind(b'#', first) {
+        match suffix(b'#', first) {
             Some(digits) => Some((self.unknown_word(digits)?, 0)),
             None => entry_named(self, first)?.operation(second, third),
         }
@@ -126,7 +126,7 @@ impl Kind {
         ensures ok { OnOk result (out.new.items ≡ out.old.items ++ operation_text self op) }
         // After want of memory the list has a prefix of that text after what it held.
         ensures err { OnErr result
-            (AppendsFront out.old.items out.new.items (operation_text self op)) }
+            (AppendsPrefix out.old.items out.new.items (operation_text self op)) }
     {
         match entry_of(self, op) {
             Some(entry) => entry.put(out, op),

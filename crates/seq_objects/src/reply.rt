@@ -1,10 +1,10 @@
 ghost use Rattle.std.specs.Prelude.{◌≡◌, ◌≢◌, ℕ, ◌^◌, ◌<◌, ◌++◌, true, false, map, decimal, option_map, IfSome, IfNone, OnOk, OnErr};
-ghost use Rattle.seq_objects.specs.Words.{AppendsFront};
+ghost use Rattle.seq_objects.specs.Words.{AppendsPrefix};
 ghost use Rattle.seq_objects.specs.Replies.{named_replies, named_reply, is_value, is_known_reply, reply_word, reply_value};
 ghost use Rattle.seq_objects.specs.ReplyView.{shown, reply_named};
 ghost use Rattle.seq_objects.specs.Readings.{shown_value};
 
-use crate::digits::{argument, behind, number, put_marked};
+use crate::digits::{argument, number, put_marked, suffix};
 use book_base::{BAD, NoMemory};
 
 /// How many values there are: the value of a reply word is below this number.
@@ -137,9 +137,9 @@ pub fn reply_from_word(word: &[u8]) -> Option<u64>
     if let Some(entry) = reply_named(word) {
         return Some(entry.word);
     }
-    match behind(b'=', word) {
+    match suffix(b'=', word) {
         Some(digits) => Some(value_reply(u64::from(argument(digits)?))),
-        None => unknown_reply(behind(b'#', word)?),
+        None => unknown_reply(suffix(b'#', word)?),
     }
 }
 
@@ -148,7 +148,7 @@ pub fn put_reply(out: &mut Vec<u8>, reply: u64) -> Result<(), NoMemory>
     // After an answer Ok the vector has the text of the reply after what it held.
     ensures ok { OnOk result (out.new.items ≡ out.old.items ++ reply_word reply) }
     // After want of memory the vector has what it held and a prefix of the text of the reply.
-    ensures err { OnErr result (AppendsFront out.old.items out.new.items (reply_word reply)) }
+    ensures err { OnErr result (AppendsPrefix out.old.items out.new.items (reply_word reply)) }
 {
     if let Some(entry) = named(reply) {
         out.extend_from_slice(entry.name.as_bytes())?;

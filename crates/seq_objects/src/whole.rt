@@ -1,15 +1,15 @@
 ghost use Rattle.std.specs.Prelude.{◌≡◌, ◌≢◌, ℕ, ◌∷◌, ◌++◌, IfSome, IfNone, OnOk, OnErr};
 ghost use Rattle.list_laws.proofs.Splits.{Lacks};
 ghost use Rattle.book_base.specs.OperationWord.{IsOperationWord};
-ghost use Rattle.seq_objects.specs.Words.{whole_digits, AppendsFront};
+ghost use Rattle.seq_objects.specs.Words.{whole_digits, AppendsPrefix};
 
 use crate::digits::{number, put_marked};
 use book_base::{NoMemory, OpWord, high, join, low};
 
 /// The part of a word before the first such byte, and the part after it.
 fn split_at_mark(mark: u8, word: &[u8]) -> Option<(&[u8], &[u8])>
-    ensures found { IfSome result (λ (before, behind).
-        (word.now ≡ before.now ++ mark ∷ behind.now) × Lacks mark before.now) }
+    ensures found { IfSome result (λ (before, suffix).
+        (word.now ≡ before.now ++ mark ∷ suffix.now) × Lacks mark before.now) }
     ensures none { IfNone result (Lacks mark word.now) }
 {
     let place = word.iter().position(|&byte| byte == mark)?;
@@ -38,7 +38,7 @@ pub fn whole(digits: &[u8]) -> Option<OpWord>
 /// Appends a byte, and after it an operation word in digits.
 pub fn put_whole(out: &mut Vec<u8>, mark: u8, op: OpWord) -> Result<(), NoMemory>
     ensures ok { OnOk result (out.new.items ≡ out.old.items ++ mark ∷ whole_digits op) }
-    ensures err { OnErr result (AppendsFront out.old.items out.new.items (mark ∷ whole_digits op)) }
+    ensures err { OnErr result (AppendsPrefix out.old.items out.new.items (mark ∷ whole_digits op)) }
 {
     put_marked(out, mark, low(op))?;
     if high(op) == 0 {

@@ -256,7 +256,7 @@ part_fits book cut part wide h counts callers e f =
     } in
     subst (λ (c : List ℕ). PartFits book c callers) (sym e) (subst (λ (x : List ℕ). PartFits book cut x) (sym f) fits)
 
--- the list behind a set fits the room
+-- the list after a set fits the room
 pub after_fits : (init : List ℕ) (served : List ℕ → List ℕ → Option (List ℕ × List ℕ)) (book : List Page) (walk : Walk) (places : List Place) (after : List ℕ) → IsSmall book → length init ≤ 1
     → Grows served → IsWalk init served book walk → callers_of places ≡ picked walk.left walk.callers.items
     → MayStandTogether served book walk.counts.items walk.here.words places after → length after ≤ ROOM

@@ -28,7 +28,7 @@ abbrev pub list_joined : Bool → ℕ → List ℕ → List ℕ
 list_joined true mask list = mask ∷ []
 list_joined false mask list = list
 
--- the reply to an operation, where so many numbers are joined then
+-- the reply to an operation, where this many numbers are joined then
 abbrev pub join_reply : ℕ → ℕ → ℕ
 join_reply mask op = if is_join op then reply_value mask else reply_bad
 

@@ -112,12 +112,12 @@ pub record IsWalk (init : List ℕ) (served : List ℕ → List ℕ → Option (
 abbrev pub order_of : List Level → List (List Place)
 order_of levels = map (λ level. level.set) levels
 
--- how many ways there may be of so many sets
+-- how many ways there may be of this many sets
 unfoldable pub ways : ℕ → ℕ
 ways zero = 1
 ways (suc depth) = (2 ^ MAX_CALLERS + 2) * ways depth
 
--- how much may be left to try, where at most so many sets follow the first cut: each number of a level weighs more than all that
+-- how much may be left to try, where at most this many sets follow the first cut: each number of a level weighs more than all that
 -- may come below it
 unfoldable pub weigh : ℕ → List Level → ℕ → ℕ
 weigh depth [] left = (left + 1) * ways depth

@@ -123,7 +123,7 @@ fn joins_some(ops: &[OpWord]) -> bool
     ops.iter().filter(|op| Joins::knows(**op)).count() > 0
 }
 
-// The reply to an operation, where so many numbers are joined then.
+// The reply to an operation, where this many numbers are joined then.
 fn join_reply(mask: u64, op: OpWord) -> u64
     ensures { result ≡ join_reply mask op }
 {

@@ -15,7 +15,7 @@ use Rattle.text_fields.specs.Head.{callers_words, calls_words}
 use Rattle.text_fields.specs.Faults.{ALine}
 use Rattle.book_text.specs.CallLines.{Progress, with_line, IsNamedCall, IsCallLine, call_words, all_calls, is_gap, EntryFails, view_test}
 use Rattle.book_text.specs.Grammar.{end_words}
-use Rattle.book_text.specs.Leaving.{LeavesAt}
+use Rattle.book_text.specs.ReadOnly.{LeavesAt}
 use Rattle.book_text.proofs.Leavings.{Completes, one_more, leaves_texts}
 use Rattle.book_text.proofs.ReadTexts.{has_zero}
 use Rattle.setbook_text.specs.JoinWords.{join_operations}

@@ -13,7 +13,7 @@ use Rattle.book_text.specs.CallLines.{Progress, IsCallLine, place_words, answer_
 use Rattle.book_text.specs.Grammar.{line_of, end_words}
 use Rattle.book_text.specs.BookRules as books
 use Rattle.book_text.specs.BookRules.{BookDue, BookPasses}
-use Rattle.book_text.proofs.EntryTexts.{same_behind, behind_place}
+use Rattle.book_text.proofs.EntryTexts.{same_after, after_place}
 use Rattle.setbook_text.specs.JoinWords.{join_words, join_operations}
 use Rattle.setbook_text.specs.SetBookRules.{SetBookDue, InCalls, AtEnd, SetBookPasses}
 
@@ -101,12 +101,12 @@ module _ (kind : Kind) where
     same_line call words other twin e =
         let op : ℕ = unwrap_or (operation_of book call) 0 in
         let answer : Option Record = record_of book call in
-        let tail = behind_place call (others.words twin.op ++ answer_words Second twin.answer) (others.words op ++ answer_words Second answer) (sym twin.second ∙ e) in
+        let tail = after_place call (others.words twin.op ++ answer_words Second twin.answer) (others.words op ++ answer_words Second answer) (sym twin.second ∙ e) in
         let same : twin.op ≡ op = one_kind_operation Second kind twin.op op (answer_words Second twin.answer) (answer_words Second answer) twin.has (has_word call) tail in
         let answers : answer_words Second twin.answer ≡ answer_words Second answer
-        = same_behind (others.words op) (answer_words Second twin.answer) (answer_words Second answer) (ap (λ (o : ℕ). others.words o ++ answer_words Second twin.answer) (sym same) ∙ tail) in
+        = same_after (others.words op) (answer_words Second twin.answer) (answer_words Second answer) (ap (λ (o : ℕ). others.words o ++ answer_words Second twin.answer) (sym same) ∙ tail) in
         twin.first ∙ ap (λ (o : ℕ). call_words Second join_operations call o twin.answer) same
-        ∙ ap (λ (behind : List (List ℕ)). place_words call ++ (join_words op ++ behind)) answers
+        ∙ ap (λ (suffix : List (List ℕ)). place_words call ++ (join_words op ++ suffix)) answers
 
     pub lines_are : (due : List Call) (lines twins : List (List (List ℕ))) → AreTwins due lines twins → twins ≡ map (line_of Second others book) due ++ end_words ∷ []
         → lines ≡ map (line_of Second join_operations book) due ++ end_words ∷ []

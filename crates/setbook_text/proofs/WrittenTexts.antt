@@ -29,7 +29,7 @@ use Rattle.book_text.specs.CallLines.{IsNamedCall, place_words, answer_words, al
 use Rattle.book_text.specs.Grammar as books
 use Rattle.book_text.specs.Grammar.{line_of, end_words, book_lines}
 use Rattle.book_text.specs.BookRules as rules
-use Rattle.book_text.specs.BookRules.{BookDue, BookPasses, book_rules, behind_head, IsBookText}
+use Rattle.book_text.specs.BookRules.{BookDue, BookPasses, book_rules, after_head, IsBookText}
 use Rattle.book_text.proofs.SharpBooks.{book_sharp, solid_cut}
 use Rattle.book_text.proofs.ReadTexts as reading
 use Rattle.book_text.proofs.ReadTexts.{has_zero}
@@ -105,13 +105,13 @@ book_head kind book lines h =
     let end : BookDue = rules.AtEnd kind book in
     let moved : (due next : BookDue) (ls : List (List (List ℕ))) → due ≡ next → BookEnds kind book due ls → BookEnds kind book next ls = λ due next ls e leads. subst (λ (d : BookDue). BookEnds kind book d ls) e leads in
     let title = has_line (BookPasses Second) end (rules.InHead heads.TitleDue) lines (λ e. absurd cc) h in
-    let object = has_line (BookPasses Second) end (rules.InHead heads.ObjectDue) title.rest (λ e. absurd cc) (moved title.next (rules.InHead heads.ObjectDue) title.rest (title.right.2 ∙ ap behind_head title.right.1.1) title.leads) in
+    let object = has_line (BookPasses Second) end (rules.InHead heads.ObjectDue) title.rest (λ e. absurd cc) (moved title.next (rules.InHead heads.ObjectDue) title.rest (title.right.2 ∙ ap after_head title.right.1.1) title.leads) in
     let k : Kind = object.right.1.0 in
     let callers = has_line (BookPasses Second) end (rules.InHead (heads.CallersDue k)) object.rest (λ e. absurd cc)
-    (moved object.next (rules.InHead (heads.CallersDue k)) object.rest (object.right.2 ∙ ap behind_head object.right.1.3) object.leads) in
+    (moved object.next (rules.InHead (heads.CallersDue k)) object.rest (object.right.2 ∙ ap after_head object.right.1.3) object.leads) in
     let n : ℕ = callers.right.1.0 in
     let calls = has_line (BookPasses Second) end (rules.InHead (heads.CountsDue k n)) callers.rest (λ e. absurd cc)
-    (moved callers.next (rules.InHead (heads.CountsDue k n)) callers.rest (callers.right.2 ∙ ap behind_head callers.right.1.3) callers.leads) in
+    (moved callers.next (rules.InHead (heads.CountsDue k n)) callers.rest (callers.right.2 ∙ ap after_head callers.right.1.3) callers.leads) in
     let counts : List ℕ = calls.right.1.0 in
     record {
       object = k;
@@ -120,7 +120,7 @@ book_head kind book lines h =
       counts = counts;
       calls = calls.right.1.1;
       rest = calls.rest;
-      leads = moved calls.next (rules.InCalls k (unanswered_book counts) (all_calls 0 counts)) calls.rest (calls.right.2 ∙ ap behind_head calls.right.1.3) calls.leads;
+      leads = moved calls.next (rules.InCalls k (unanswered_book counts) (all_calls 0 counts)) calls.rest (calls.right.2 ∙ ap after_head calls.right.1.3) calls.leads;
     }
 
 -- ---- lines of one text are the same
@@ -251,17 +251,17 @@ read_is_written bytes book h =
     let w = reading.read_is_written Second (text_of (start ++ twins.0)) Counter book text in
     let same : start ++ twins.0 ≡ book_lines Second Counter book
     = same_lines (start ++ twins.0) (book_lines Second Counter book) (all_solid (book_rules Second) (book_sharp Second) due end (start ++ twins.0) right) (solid_book book w.writable) w.text in
-    let behind_title = same_head _ _ _ _ same in
-    let behind_object = same_head _ _ _ _ behind_title.1 in
-    let behind_callers = same_head _ _ _ _ behind_object.1 in
-    let behind_calls = same_head (calls_words counts) (calls_words (announced book)) twins.0 _ behind_callers.1 in
+    let past_title = same_head _ _ _ _ same in
+    let past_object = same_head _ _ _ _ past_title.1 in
+    let after_callers = same_head _ _ _ _ past_object.1 in
+    let after_calls = same_head (calls_words counts) (calls_words (announced book)) twins.0 _ after_callers.1 in
     let numbers = numbers_at_most 256 counts (omega arith) head.calls.few in
     let others_numbers = numbers_at_most 256 (announced book) (omega arith) (announced_few book w.writable) in
-    let counts_are : counts ≡ announced book = same_numbers counts (announced book) numbers others_numbers (same_first (codes "calls") (codes "calls") (map decimal counts) (map decimal (announced book)) behind_calls.0).1 in
+    let counts_are : counts ≡ announced book = same_numbers counts (announced book) numbers others_numbers (same_first (codes "calls") (codes "calls") (map decimal counts) (map decimal (announced book)) after_calls.0).1 in
     let line = line_of Second join_operations book in
     let rest_is : head.rest ≡ map line (all_calls 0 counts) ++ end_words ∷ []
     = lines_are Counter book (has_word book w.writable) (all_calls 0 counts) head.rest twins.0 twins.2
-    (behind_calls.1 ∙ ap (λ (ns : List ℕ). map (line_of Second (others Counter) book) (all_calls 0 ns) ++ end_words ∷ []) (sym counts_are)) in
+    (after_calls.1 ∙ ap (λ (ns : List ℕ). map (line_of Second (others Counter) book) (all_calls 0 ns) ++ end_words ∷ []) (sym counts_are)) in
     let n_is : head.n ≡ length book = size ∙ ap (length {A = ℕ}) counts_are ∙ announced_wide book in
     let made : ℕ → List ℕ → List (List (List ℕ)) = λ n ns. title_words ∷ object_words ∷ callers_words n ∷ calls_words ns ∷ (map line (all_calls 0 ns) ++ end_words ∷ []) in
     let whole : lines ≡ setbook_lines book

@@ -57,8 +57,8 @@ one_join a b x y h k e = elim (cases_Bool (is_join a)) [
     | inl jb ↦
         let whole : codes "join" ∷ decimal (a - 2 ^ 32) ∷ x ≡ codes "join" ∷ decimal (b - 2 ^ 32) ∷ y =
         ap (λ (w : List (List ℕ)). w ++ x) (sym (words-join a ja)) ∙ (e ∙ ap (λ (w : List (List ℕ)). w ++ y) (words-join b jb)) in
-        let behind = (same_first (codes "join") (codes "join") (decimal (a - 2 ^ 32) ∷ x) (decimal (b - 2 ^ 32) ∷ y) whole).1 in
-        let number = (same_first (decimal (a - 2 ^ 32)) (decimal (b - 2 ^ 32)) x y behind).0 in
+        let suffix = (same_first (codes "join") (codes "join") (decimal (a - 2 ^ 32) ∷ x) (decimal (b - 2 ^ 32) ∷ y) whole).1 in
+        let number = (same_first (decimal (a - 2 ^ 32)) (decimal (b - 2 ^ 32)) x y suffix).0 in
         let low : a - 2 ^ 32 < 2 ^ 64 = omega (arith, join_small a ja) in
         let other : b - 2 ^ 32 < 2 ^ 64 = omega (arith, join_small b jb) in
         let same : a - 2 ^ 32 ≡ b - 2 ^ 32 = same_number (a - 2 ^ 32) (b - 2 ^ 32) low other number in

@@ -74,7 +74,7 @@ setbook_wanted (AtEnd book) = TheEnd
 abbrev pub setbook_rules : Rules SetBookDue
 setbook_rules = record { Passes = SetBookPasses; Fails = SetBookFails; wanted = setbook_wanted }
 
--- The rules of the head alone: its four lines. Others read on behind it.
+-- The rules of the head alone: its four lines. Others read on after it.
 abbrev pub SetHeadPasses : SetBookDue → List (List ℕ) → SetBookDue → Type 0
 SetHeadPasses TitleDue words after = SetBookPasses TitleDue words after
 SetHeadPasses ObjectDue words after = SetBookPasses ObjectDue words after

@@ -59,7 +59,7 @@ fn read_head(lines: &mut Lines) -> Result<(u32, Cut), TextFault>
     ensures says { IfOk result (λ (n, calls). AreCallers Second n × AreCalls Second n calls) }
     ensures refused { IfErr result (IsSetHeadFault lines.old) }
     ensures unchanged { IfErr result (λ _. lines.new ≡ lines.old) }
-    // A head is read as that head, and leaves what stands behind it.
+    // A head is read as that head, and leaves what stands after it.
     ensures only { (calls : List ℕ) (left : Unread) → IsSetHead calls lines.old left
         → MatchResult result (λ read. (read.1 ≡ calls) × (lines.new ≡ left)) (λ _. ⊥) }
     // Where the head has a first fault, the answer is that fault.

@@ -14,7 +14,7 @@ use Rattle.shared_log.specs.Holders.{has, only}
 use Rattle.shared_log.specs.Hands.{Hand, View}
 use Rattle.shared_log.specs.Rule.{HaveOneLog, Ruled}
 use Rattle.shared_log.specs.Seats.{caller_of, log_of, hand_of, IsSeatOf, AreSeatsOf, IsOneLog}
-use Rattle.shared_log.proofs.Logs.{ends, All-behind, whole_front}
+use Rattle.shared_log.proofs.Logs.{ends, All-suffix, whole_prefix}
 use Rattle.shared_log.proofs.Coming.{IsComing, starts_coming, split_next, next_gone, next_inside, more_coming, all_came}
 
 -- The longest of the logs of some seats.
@@ -24,7 +24,7 @@ pub record IsLongestOf (seats : List LogSeat) (longest : List Entry) : Type 0 wh
   pub stands : Contains seats from
   pub is : log_of from ≡ longest
 
--- Of the seats of n callers, those behind some front came back: a view has their hands, and this is the longest of their logs.
+-- Of the seats of n callers, those after some prefix came back: a view has their hands, and this is the longest of their logs.
 pub record IsClosing (n : ℕ) (all rest : List LogSeat) (v : View) (longest : List Entry) : Type 0 where
   pub gathered : List LogSeat
   pub coming : IsComing caller_of hand_of n all rest gathered v
@@ -61,7 +61,7 @@ module _ (l : SharedLog) (all rest rest' : List LogSeat) (s : LogSeat) (v : View
   pub comes_next : IsNext l v s
   comes_next =
       record {
-        seat = All-head (IsSeatOf l) s h.gathered (All-behind (IsSeatOf l) rest' (s ∷ h.gathered) (subst (λ (ss : List LogSeat). All (IsSeatOf l) ss) split_at seats.each));
+        seat = All-head (IsSeatOf l) s h.gathered (All-suffix (IsSeatOf l) rest' (s ∷ h.gathered) (subst (λ (ss : List LogSeat). All (IsSeatOf l) ss) split_at seats.each));
         gone = next_gone caller_of hand_of l.callers all rest rest' h.gathered s v seats.callers h.coming popped;
         inside = next_inside caller_of hand_of l.callers all rest rest' h.gathered s v seats.callers h.coming popped;
       }
@@ -110,10 +110,10 @@ module _ (n cap : ℕ) (words : List ℕ) (views : List View) (id : ℕ) (v : Vi
 
   knows : All Knows seats
   knows = All-weaker (λ s. has v (caller_of s) ≡ Some (hand_of s)) Knows
-      (λ s here. let fits = (r.hands.held (caller_of s) id v (hand_of s) at here).1 in (subst (λ (l : List Entry). BeginsWith r.log l) s.knows fits.front, fits.own ∙ ap (calls_by (caller_of s)) s.knows)) seats hands
+      (λ s here. let fits = (r.hands.held (caller_of s) id v (hand_of s) at here).1 in (subst (λ (l : List Entry). BeginsWith r.log l) s.knows fits.prefix, fits.own ∙ ap (calls_by (caller_of s)) s.knows)) seats hands
 
-  front : BeginsWith r.log longest
-  front = subst (λ (l : List Entry). BeginsWith r.log l) got.is (All-contains Knows seats got.from knows got.stands).0
+  prefix : BeginsWith r.log longest
+  prefix = subst (λ (l : List Entry). BeginsWith r.log l) got.is (All-contains Knows seats got.from knows got.stands).0
 
   long_enough : length r.log ≤ length longest
   long_enough = elim (ends r.log) [
@@ -121,11 +121,11 @@ module _ (n cap : ℕ) (words : List ℕ) (views : List View) (id : ℕ) (v : Vi
     | inr some' ↦
         let e = some'.1 in
         let low : e.caller < n =
-        All-head (λ (d : Entry). d.caller < n) e [] (All-behind (λ (d : Entry). d.caller < n) some'.0 (e ∷ []) (subst (λ (l : List Entry). All (λ d. d.caller < n) l) some'.2 r.stand.within.callers)) in
+        All-head (λ (d : Entry). d.caller < n) e [] (All-suffix (λ (d : Entry). d.caller < n) some'.0 (e ∷ []) (subst (λ (l : List Entry). All (λ d. d.caller < n) l) some'.2 r.stand.within.callers)) in
         let own = at_place n Knows 0 seats e.caller knows callers low in
         let who : caller_of own.0 ≡ e.caller = (let same = own.2 in omega arith) in
         let calls : calls_by e.caller r.log ≡ calls_by e.caller (log_of own.0) = subst (λ (i : ℕ). calls_by i r.log ≡ calls_by i (log_of own.0)) who own.1.1 in
-        let whole = whole_front r.log (log_of own.0) some'.0 e some'.2 own.1.0 calls in
+        let whole = whole_prefix r.log (log_of own.0) some'.0 e some'.2 own.1.0 calls in
         let same = ap length whole in
         let most = All-contains (λ s. length (log_of s) ≤ length longest) seats own.0 got.most own.3 in
         omega arith
@@ -133,9 +133,9 @@ module _ (n cap : ℕ) (words : List ℕ) (views : List View) (id : ℕ) (v : Vi
 
   pub longest_is : r.log ≡ longest
   longest_is =
-      let long = ap length front.1 in
-      let none : length front.0 ≡ 0 = (let enough = long_enough in omega (arith, length-append longest front.0)) in
-      front.1 ∙ ap (λ (l : List Entry). longest ++ l) (nil_from_length front.0 none) ∙ append-nil longest
+      let long = ap length prefix.1 in
+      let none : length prefix.0 ≡ 0 = (let enough = long_enough in omega (arith, length-append longest prefix.0)) in
+      prefix.1 ∙ ap (λ (l : List Entry). longest ++ l) (nil_from_length prefix.0 none) ∙ append-nil longest
 
   pub within_closed : IsWithin n cap longest
   within_closed = subst (λ (l : List Entry). IsWithin n cap l) longest_is r.stand.within
@@ -143,7 +143,7 @@ module _ (n cap : ℕ) (words : List ℕ) (views : List View) (id : ℕ) (v : Vi
   pub one_log : IsOneLog longest seats
   one_log =
       record {
-        fronts = All-weaker Knows (λ s. BeginsWith longest (log_of s)) (λ s k. subst (λ (l : List Entry). BeginsWith l (log_of s)) longest_is k.0) seats knows;
+        prefixes = All-weaker Knows (λ s. BeginsWith longest (log_of s)) (λ s k. subst (λ (l : List Entry). BeginsWith l (log_of s)) longest_is k.0) seats knows;
         calls = All-weaker Knows (λ s. calls_by (caller_of s) longest ≡ calls_by (caller_of s) (log_of s))
             (λ s k. subst (λ (l : List Entry). calls_by (caller_of s) l ≡ calls_by (caller_of s) (log_of s)) longest_is k.1) seats knows;
       }
@@ -162,7 +162,7 @@ closes n cap id v all rest longest ws homes callers h none final =
 
 -- the last seat is one of the log's
 pub last_seat : (l : SharedLog) (all rest : List LogSeat) (last : LogSeat) → AreSeatsOf l all → all ≡ rest ++ last ∷ [] → IsSeatOf l last
-last_seat l all rest last seats is = All-head (IsSeatOf l) last [] (All-behind (IsSeatOf l) rest (last ∷ []) (subst (λ (ss : List LogSeat). All (IsSeatOf l) ss) is seats.each))
+last_seat l all rest last seats is = All-head (IsSeatOf l) last [] (All-suffix (IsSeatOf l) rest (last ∷ []) (subst (λ (ss : List LogSeat). All (IsSeatOf l) ss) is seats.each))
 
 -- a closed log, under the numbers that its table was told
 pub closed : (l : SharedLog) (id : ℕ) (v : View) (all rest : List LogSeat) (longest : List Entry) (ws : List ℕ) (homes : List (Unit {0})) → AreSeatsOf l all → IsClosing l.callers all rest v longest

@@ -7,7 +7,7 @@ use Rattle.std.proofs.lemmas.List.Elements.{All-cons, All-nil, All-weaker}
 use Rattle.shared_log.specs.Holders.{has, only}
 use Rattle.shared_log.proofs.Holding.{only_here, length-only, with_here, with_else}
 
--- Of the seats of n callers, those behind some front came back: a view has what each knows, and nothing of the others.
+-- Of the seats of n callers, those after some prefix came back: a view has what each knows, and nothing of the others.
 pub record IsComing {S A : Type 0} (caller : S → ℕ) (known : S → A) (n : ℕ) (all rest gathered : List S) (v : List (Option A)) : Type 0 where
   pub split : all ≡ rest ++ gathered
   pub hands : All (λ s. has v (caller s) ≡ Some (known s)) gathered

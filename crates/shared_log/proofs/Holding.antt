@@ -30,7 +30,7 @@ unfolding moved_to
 to_else owner who seat i ne = ap (λ b. if b then seat else owner i) (ne_eqb i who ne)
 
 module _ {A : Type 0} where
-  -- a view has nothing behind its end
+  -- a view has nothing after its end
   pub inside : (v : List (Option A)) (i : ℕ) (x : A) → has v i ≡ Some x → i < length v
   inside [] i x e = absurd (none-some x e)
   inside (y ∷ v) zero x e = omega arith

@@ -5,10 +5,10 @@ use Rattle.std.proofs.lemmas.List.{append-nil, get_or-set_other, get_or-set_same
 use Rattle.book_base.specs.OperationWord.{low_of, high_of}
 use Rattle.shared_log.specs.declared.entry.Entry.{Entry}
 use Rattle.shared_log.specs.Entries.{calls_by, IsWithin, entry}
-use Rattle.shared_log.specs.Words.{number_of, number_behind, operation_index, ticket_index, IsStored, AreWordsOf}
+use Rattle.shared_log.specs.Words.{number_of, number_after, operation_index, ticket_index, IsStored, AreWordsOf}
 use Rattle.shared_log.specs.Hands.{Hand, hand, next_number, Fits}
 use Rattle.shared_log.specs.Rule.{Learns}
-use Rattle.shared_log.proofs.Logs.{ends_at, calls_by-at, calls_by-push_other, within_front, within_at, within_push, begins_more}
+use Rattle.shared_log.proofs.Logs.{ends_at, calls_by-at, calls_by-push_other, within_prefix, within_at, within_push, begins_more}
 use Rattle.shared_log.proofs.Numbers.{number_low, not_ticket, not_other, not_stored, not_others}
 
 -- a word that isn't written stays
@@ -35,11 +35,11 @@ module _ (n cap who : ℕ) (words : List ℕ) (log : List Entry) (h : Hand) (wor
   stored_stays before rest e is =
       let was = stand.stored before rest e is in
       let apart = not_stored n cap who log before rest e h stand.within is fits.own left in
-      let at_low : operation_index (number_behind cap before e) + 0 ≡ operation_index (number_behind cap before e) = omega arith in
+      let at_low : operation_index (number_after cap before e) + 0 ≡ operation_index (number_after cap before e) = omega arith in
       record {
         ticket = ticket_stays (length before) ∙ was.ticket;
-        low = ap (slice_index staged_words) (sym at_low) ∙ operation_stays (number_behind cap before e) 0 apart (omega arith) ∙ ap (slice_index words) at_low ∙ was.low;
-        high = operation_stays (number_behind cap before e) 1 apart (omega arith) ∙ was.high;
+        low = ap (slice_index staged_words) (sym at_low) ∙ operation_stays (number_after cap before e) 0 apart (omega arith) ∙ ap (slice_index words) at_low ∙ was.low;
+        high = operation_stays (number_after cap before e) 1 apart (omega arith) ∙ was.high;
       }
 
   pub stage_stands : AreWordsOf n cap staged_words log
@@ -48,7 +48,7 @@ module _ (n cap who : ℕ) (words : List ℕ) (log : List Entry) (h : Hand) (wor
         count = length-set words word x ∙ stand.count;
         within = stand.within;
         stored = stored_stays;
-        free = λ place behind low. ticket_stays place ∙ stand.free place behind low;
+        free = λ place suffix low. ticket_stays place ∙ stand.free place suffix low;
       }
 
   staged_at : (half : ℕ) → half < length (h.staged ++ x ∷ []) → slice_index staged_words (operation_index (next_number cap who h) + half) ≡ slice_index (h.staged ++ x ∷ []) half
@@ -72,7 +72,7 @@ module _ (n cap who : ℕ) (words : List ℕ) (log : List Entry) (h : Hand) (wor
   stage_fits =
       record {
         caller = fits.caller;
-        front = fits.front;
+        prefix = fits.prefix;
         own = fits.own;
         room = λ some. left;
         few = omega (arith, length-append h.staged (x ∷ []));
@@ -83,7 +83,7 @@ module _ (n cap who : ℕ) (words : List ℕ) (log : List Entry) (h : Hand) (wor
   stage_others i m ne was =
       record {
         caller = was.caller;
-        front = was.front;
+        prefix = was.prefix;
         own = was.own;
         room = was.room;
         few = was.few;
@@ -100,24 +100,24 @@ module _ (n cap who : ℕ) (words : List ℕ) (log : List Entry) (h : Hand)
 
   -- a free ticket: the caller knows the whole log
   pub known_whole : ticket_there ≡ 0 → log ≡ h.log
-  known_whole free = elim fits.front.0 as (λ rest. log ≡ h.log ++ rest → log ≡ h.log) [
+  known_whole free = elim fits.prefix.0 as (λ rest. log ≡ h.log ++ rest → log ≡ h.log) [
     | [] ↦ λ is. is ∙ append-nil h.log
     | (e ∷ rest) ↦ λ is. absurd (let ticket = (stand.stored h.log rest e is).ticket in omega arith)
-  ] fits.front.1
+  ] fits.prefix.1
 
   -- a filled ticket: the entry there is the next of the log
   pub next_entry : ticket_there ≢ 0 → (e : Entry) × (rest : List Entry) × (log ≡ h.log ++ e ∷ rest)
-  next_entry filled = elim fits.front.0 as (λ rest. log ≡ h.log ++ rest → (e : Entry) × (rest' : List Entry) × (log ≡ h.log ++ e ∷ rest')) [
+  next_entry filled = elim fits.prefix.0 as (λ rest. log ≡ h.log ++ rest → (e : Entry) × (rest' : List Entry) × (log ≡ h.log ++ e ∷ rest')) [
     | [] ↦ λ is. absurd (let long = ap length (is ∙ append-nil h.log) in filled (stand.free (length h.log) (omega arith) here))
     | (e ∷ rest) ↦ λ is. (e, rest, is)
-  ] fits.front.1
+  ] fits.prefix.1
 
   module _ (e : Entry) (rest : List Entry) (is : log ≡ h.log ++ e ∷ rest) (tried : List ℕ) where
     abbrev pub learnt : Hand
     learnt = hand (h.log ++ e ∷ []) h.staged tried
 
-    front_is : log ≡ (h.log ++ e ∷ []) ++ rest
-    front_is = is ∙ sym (append_assoc h.log (e ∷ []) rest)
+    prefix_is : log ≡ (h.log ++ e ∷ []) ++ rest
+    prefix_is = is ∙ sym (append_assoc h.log (e ∷ []) rest)
 
     other : e.caller ≢ who
     other mine =
@@ -136,7 +136,7 @@ module _ (n cap who : ℕ) (words : List ℕ) (log : List Entry) (h : Hand)
         let count : length (calls_by who (h.log ++ e ∷ [])) ≡ length (calls_by who h.log) = ap length same_calls in
         record {
           caller = fits.caller;
-          front = (rest, front_is);
+          prefix = (rest, prefix_is);
           own = fits.own ∙ sym same_calls;
           room = λ some. let was = fits.room some in omega arith;
           few = fits.few;
@@ -150,7 +150,7 @@ module _ (n cap who : ℕ) (words : List ℕ) (log : List Entry) (h : Hand)
           log = refl;
           ticket = (stand.stored h.log rest e is).ticket;
           other = same_calls;
-          within = within_front n cap (h.log ++ e ∷ []) rest (subst (λ (l : List Entry). IsWithin n cap l) front_is stand.within);
+          within = within_prefix n cap (h.log ++ e ∷ []) rest (subst (λ (l : List Entry). IsWithin n cap l) prefix_is stand.within);
         }
 
   -- the caller's own ticket goes to that place
@@ -168,7 +168,7 @@ module _ (n cap who : ℕ) (words : List ℕ) (log : List Entry) (h : Hand)
     whole : log ≡ h.log
     whole = known_whole free
 
-    same_number : number_behind cap log mine ≡ next_number cap who h
+    same_number : number_after cap log mine ≡ next_number cap who h
     same_number = ap (λ (l : List Entry). number_of cap who (length (calls_by who l))) whole
 
     left_in_log : length (calls_by who log) < cap
@@ -185,15 +185,15 @@ module _ (n cap who : ℕ) (words : List ℕ) (log : List Entry) (h : Hand)
     stored_kept before rest e is =
         let was = stand.stored before rest e is in
         let at = within_at n cap before rest e (subst (λ (l : List Entry). IsWithin n cap l) is stand.within) in
-        let low : number_behind cap before e < n * cap = number_low n cap e.caller (length (calls_by e.caller before)) at.0 at.1 in
+        let low : number_after cap before e < n * cap = number_low n cap e.caller (length (calls_by e.caller before)) at.0 at.1 in
         let all = ap length is in
         let known = ap length whole in
         let parts = length-append before (e ∷ rest) in
-        let at_low : operation_index (number_behind cap before e) + 0 ≡ operation_index (number_behind cap before e) = omega arith in
+        let at_low : operation_index (number_after cap before e) + 0 ≡ operation_index (number_after cap before e) = omega arith in
         record {
           ticket = ticket_kept (length before) (λ same. absurd (omega arith)) ∙ was.ticket;
-          low = ap (slice_index placed_words) (sym at_low) ∙ operation_kept (number_behind cap before e) 0 low (omega arith) ∙ ap (slice_index words) at_low ∙ was.low;
-          high = operation_kept (number_behind cap before e) 1 low (omega arith) ∙ was.high;
+          low = ap (slice_index placed_words) (sym at_low) ∙ operation_kept (number_after cap before e) 0 low (omega arith) ∙ ap (slice_index words) at_low ∙ was.low;
+          high = operation_kept (number_after cap before e) 1 low (omega arith) ∙ was.high;
         }
 
     stored_mine : IsStored n cap placed_words log mine
@@ -237,7 +237,7 @@ module _ (n cap who : ℕ) (words : List ℕ) (log : List Entry) (h : Hand)
           count = length-set words (ticket_index n cap (length h.log)) ticket ∙ stand.count;
           within = place_within;
           stored = stored_placed;
-          free = λ place behind low.
+          free = λ place suffix low.
               let long = length-append log (mine ∷ []) in
               let known = ap length whole in
               ticket_kept place (λ same. absurd (omega arith)) ∙ stand.free place (omega arith) low;
@@ -250,7 +250,7 @@ module _ (n cap who : ℕ) (words : List ℕ) (log : List Entry) (h : Hand)
     place_fits tried =
         record {
           caller = fits.caller;
-          front = ([], placed_is ∙ sym (append-nil (h.log ++ mine ∷ [])));
+          prefix = ([], placed_is ∙ sym (append-nil (h.log ++ mine ∷ [])));
           own = ap (calls_by who) placed_is;
           room = λ some. absurd (omega arith);
           few = omega arith;
@@ -261,7 +261,7 @@ module _ (n cap who : ℕ) (words : List ℕ) (log : List Entry) (h : Hand)
     place_others i m ne was =
         record {
           caller = was.caller;
-          front = begins_more log m.log mine was.front;
+          prefix = begins_more log m.log mine was.prefix;
           own = calls_by-push_other i log mine (λ e. ne (sym e)) ∙ was.own;
           room = was.room;
           few = was.few;

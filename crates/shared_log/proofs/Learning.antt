@@ -4,7 +4,7 @@ use Rattle.std.proofs.lemmas.Nat.{div-mul-add}
 use Rattle.std.specs.Prelude.{Some}
 use Rattle.shared_log.specs.declared.entry.Entry.{Entry}
 use Rattle.shared_log.specs.Entries.{calls_by, IsWithin}
-use Rattle.shared_log.specs.Words.{number_behind, MayHaveTried}
+use Rattle.shared_log.specs.Words.{number_after, MayHaveTried}
 use Rattle.shared_log.specs.Hands.{Hand}
 use Rattle.shared_log.specs.Rule.{Learns, Finds}
 use Rattle.shared_log.proofs.Logs.{within_at}
@@ -14,7 +14,7 @@ module _ (n cap who found : ℕ) (tried : List ℕ) (h next : Hand) (l : Learns 
   standing : (l.entry.caller < n) × (length (calls_by l.entry.caller h.log) < cap)
   standing = within_at n cap h.log [] l.entry (subst (λ (g : Hand). IsWithin n cap g.log) l.log l.within)
 
-  number_is : found - 1 ≡ number_behind cap h.log l.entry
+  number_is : found - 1 ≡ number_after cap h.log l.entry
   number_is = let ticket = l.ticket in omega arith
 
   pub learnt_low : found - 1 < n * cap
@@ -27,7 +27,7 @@ module _ (n cap who found : ℕ) (tried : List ℕ) (h next : Hand) (l : Learns 
   caller_low = subst (λ (k : ℕ). k < n) (sym learnt_caller) standing.0
 
   pub finds_entry : (word own : ℕ) (after : Hand) (op : ℕ) → MayHaveTried word h.tried tried → after ≡ next
-      → ((before rest : List Entry) (e : Entry) → next.log ≡ before ++ e ∷ rest → found - 1 ≡ number_behind cap before e → op ≡ e.op)
+      → ((before rest : List Entry) (e : Entry) → next.log ≡ before ++ e ∷ rest → found - 1 ≡ number_after cap before e → op ≡ e.op)
       → Finds n cap who word own h after (Some (record { caller = (found - 1) / cap; op = op }))
   finds_entry word own after op may is reads =
       let op_is : op ≡ l.entry.op = reads h.log [] l.entry (ap (λ (g : Hand). g.log) l.log) number_is in

@@ -37,7 +37,7 @@ ends_at log before rest last e is = elim (ends rest) [
   )
 ]
 
--- the entries of a caller in two logs, one behind the other
+-- the entries of a caller in two logs, one after the other
 pub calls_by-append : (i : ℕ) (xs ys : List Entry) → calls_by i (xs ++ ys) ≡ calls_by i xs ++ calls_by i ys
 calls_by-append i xs ys =
     ap (λ (l : List Entry). map (λ (e : Entry). e.op) l) (filter-append (λ (e : Entry). e.caller == i) xs ys)
@@ -56,7 +56,7 @@ calls_by-push_own i op xs = calls_by-append i xs (entry i op ∷ []) ∙ ap (λ 
 pub calls_by-push_other : (i : ℕ) (xs : List Entry) (e : Entry) → e.caller ≢ i → calls_by i (xs ++ e ∷ []) ≡ calls_by i xs
 calls_by-push_other i xs e other = calls_by-append i xs (e ∷ []) ∙ ap (λ (l : List ℕ). calls_by i xs ++ l) (calls_by-other i e other) ∙ append-nil (calls_by i xs)
 
--- how many entries a caller has, with one more behind them
+-- how many entries a caller has, with one more after them
 pub length-calls_by-push : (i : ℕ) (xs : List Entry) (e : Entry) → (length (calls_by i (xs ++ e ∷ [])) ≡ length (calls_by i xs)) ⊎ ((e.caller ≡ i) × (length (calls_by i (xs ++ e ∷ [])) ≡ length (calls_by i xs) + 1))
 length-calls_by-push i xs e = elim (cases_eq e.caller i) [
   | inr other ↦ inl (ap length (calls_by-push_other i xs e other))
@@ -69,42 +69,42 @@ length-calls_by-push i xs e = elim (cases_eq e.caller i) [
   )
 ]
 
--- a front has no more of them
-pub calls_by-front : (i : ℕ) (xs ys : List Entry) → length (calls_by i xs) + length (calls_by i ys) ≡ length (calls_by i (xs ++ ys))
-calls_by-front i xs ys = sym (ap length (calls_by-append i xs ys) ∙ length-append (calls_by i xs) (calls_by i ys))
+-- a prefix has no more of them
+pub calls_by-prefix : (i : ℕ) (xs ys : List Entry) → length (calls_by i xs) + length (calls_by i ys) ≡ length (calls_by i (xs ++ ys))
+calls_by-prefix i xs ys = sym (ap length (calls_by-append i xs ys) ∙ length-append (calls_by i xs) (calls_by i ys))
 
--- an entry that stands in a log is one of its caller's behind those before it
+-- an entry that stands in a log is one of its caller's after those before it
 pub calls_by-at : (xs ys : List Entry) (e : Entry) → length (calls_by e.caller xs) < length (calls_by e.caller (xs ++ e ∷ ys))
 calls_by-at xs ys e =
     let split : calls_by e.caller (xs ++ (e ∷ []) ++ ys) ≡ calls_by e.caller (xs ++ e ∷ ys) = ap (calls_by e.caller) (append_assoc xs (e ∷ []) ys) in
-    let parts = calls_by-front e.caller (xs ++ e ∷ []) ys in
-    let own = calls_by-front e.caller xs (e ∷ []) in
+    let parts = calls_by-prefix e.caller (xs ++ e ∷ []) ys in
+    let own = calls_by-prefix e.caller xs (e ∷ []) in
     let one = ap length (calls_by-own e.caller e refl) in
     let same = ap length split in
     omega arith
 
--- what holds of each element holds in a front
-pub All-front : {A : Type 0} (P : A → Type 0) (xs ys : List A) → All P (xs ++ ys) → All P xs
-All-front P [] ys h = All-nil P
-All-front P (x ∷ xs) ys h = All-cons P x xs (All-head P x (xs ++ ys) h) (All-front P xs ys (All-tail P x (xs ++ ys) h))
+-- what holds of each element holds in a prefix
+pub All-prefix : {A : Type 0} (P : A → Type 0) (xs ys : List A) → All P (xs ++ ys) → All P xs
+All-prefix P [] ys h = All-nil P
+All-prefix P (x ∷ xs) ys h = All-cons P x xs (All-head P x (xs ++ ys) h) (All-prefix P xs ys (All-tail P x (xs ++ ys) h))
 
--- and behind one
-pub All-behind : {A : Type 0} (P : A → Type 0) (xs ys : List A) → All P (xs ++ ys) → All P ys
-All-behind P [] ys h = h
-All-behind P (x ∷ xs) ys h = All-behind P xs ys (All-tail P x (xs ++ ys) h)
+-- and after one
+pub All-suffix : {A : Type 0} (P : A → Type 0) (xs ys : List A) → All P (xs ++ ys) → All P ys
+All-suffix P [] ys h = h
+All-suffix P (x ∷ xs) ys h = All-suffix P xs ys (All-tail P x (xs ++ ys) h)
 
--- a front of a log within bounds is within them
-pub within_front : (n cap : ℕ) (xs ys : List Entry) → IsWithin n cap (xs ++ ys) → IsWithin n cap xs
-within_front n cap xs ys h =
+-- a prefix of a log within bounds is within them
+pub within_prefix : (n cap : ℕ) (xs ys : List Entry) → IsWithin n cap (xs ++ ys) → IsWithin n cap xs
+within_prefix n cap xs ys h =
     record {
-      callers = All-front (λ (e : Entry). e.caller < n) xs ys h.callers;
-      calls = λ i. let all = h.calls i in let parts = calls_by-front i xs ys in omega arith;
+      callers = All-prefix (λ (e : Entry). e.caller < n) xs ys h.callers;
+      calls = λ i. let all = h.calls i in let parts = calls_by-prefix i xs ys in omega arith;
     }
 
 -- of an entry of such a log, its caller, and how many calls of it stand before
 pub within_at : (n cap : ℕ) (xs ys : List Entry) (e : Entry) → IsWithin n cap (xs ++ e ∷ ys) → (e.caller < n) × (length (calls_by e.caller xs) < cap)
 within_at n cap xs ys e h = (
-  All-head (λ (d : Entry). d.caller < n) e ys (All-behind (λ (d : Entry). d.caller < n) xs (e ∷ ys) h.callers),
+  All-head (λ (d : Entry). d.caller < n) e ys (All-suffix (λ (d : Entry). d.caller < n) xs (e ∷ ys) h.callers),
   (let all = h.calls e.caller in let here = calls_by-at xs ys e in omega arith),
 )
 
@@ -121,24 +121,24 @@ within_push n cap log e h low left =
           ];
     }
 
--- a front with all entries of the caller whose entry is the last is the whole log
-pub whole_front : (log front ys : List Entry) (e : Entry) → log ≡ ys ++ e ∷ [] → BeginsWith log front → calls_by e.caller log ≡ calls_by e.caller front → log ≡ front
-whole_front log front ys e last begins own = elim (ends begins.0) [
-  | inl none ↦ begins.1 ∙ ap (λ (l : List Entry). front ++ l) none ∙ append-nil front
+-- a prefix with all entries of the caller whose entry is the last is the whole log
+pub whole_prefix : (log prefix ys : List Entry) (e : Entry) → log ≡ ys ++ e ∷ [] → BeginsWith log prefix → calls_by e.caller log ≡ calls_by e.caller prefix → log ≡ prefix
+whole_prefix log prefix ys e last begins own = elim (ends begins.0) [
+  | inl none ↦ begins.1 ∙ ap (λ (l : List Entry). prefix ++ l) none ∙ append-nil prefix
   | inr some ↦
-      let split : log ≡ (front ++ some.0) ++ some.1 ∷ [] = begins.1 ∙ ap (λ (l : List Entry). front ++ l) some.2 ∙ sym (append_assoc front some.0 (some.1 ∷ [])) in
-      let same = same_ends ys (front ++ some.0) e some.1 (sym last ∙ split) in
+      let split : log ≡ (prefix ++ some.0) ++ some.1 ∷ [] = begins.1 ∙ ap (λ (l : List Entry). prefix ++ l) some.2 ∙ sym (append_assoc prefix some.0 (some.1 ∷ [])) in
+      let same = same_ends ys (prefix ++ some.0) e some.1 (sym last ∙ split) in
       let more = ap length (calls_by-own e.caller some.1 (ap (λ (d : Entry). d.caller) (sym same.1))) in
-      let parts = calls_by-front e.caller (front ++ some.0) (some.1 ∷ []) in
-      let fronts = calls_by-front e.caller front some.0 in
+      let parts = calls_by-prefix e.caller (prefix ++ some.0) (some.1 ∷ []) in
+      let prefixes = calls_by-prefix e.caller prefix some.0 in
       let all = ap (λ (l : List Entry). length (calls_by e.caller l)) split in
       let mine = ap length own in
       absurd (omega arith)
 ]
 
--- fronts of fronts
+-- prefixes of prefixes
 pub begins_itself : (log : List Entry) → BeginsWith log log
 begins_itself log = ([], sym (append-nil log))
 
-pub begins_more : (log front : List Entry) (e : Entry) → BeginsWith log front → BeginsWith (log ++ e ∷ []) front
-begins_more log front e h = (h.0 ++ e ∷ [], ap (λ (l : List Entry). l ++ e ∷ []) h.1 ∙ append_assoc front h.0 (e ∷ []))
+pub begins_more : (log prefix : List Entry) (e : Entry) → BeginsWith log prefix → BeginsWith (log ++ e ∷ []) prefix
+begins_more log prefix e h = (h.0 ++ e ∷ [], ap (λ (l : List Entry). l ++ e ∷ []) h.1 ∙ append_assoc prefix h.0 (e ∷ []))

@@ -5,7 +5,7 @@ use Rattle.std.proofs.lemmas.Bool.{cases_eq}
 use Rattle.std.proofs.lemmas.List.Elements.{All-head, All-tail}
 use Rattle.shared_log.specs.declared.entry.Entry.{Entry}
 use Rattle.shared_log.specs.Entries.{calls_by, IsWithin}
-use Rattle.shared_log.proofs.Logs.{calls_by-own, calls_by-other, calls_by-front}
+use Rattle.shared_log.proofs.Logs.{calls_by-own, calls_by-other, calls_by-prefix}
 
 -- the sum of a function below a bound
 abbrev total : ℕ → (ℕ → ℕ) → ℕ
@@ -51,9 +51,9 @@ entries_total n (e ∷ log) callers =
     let rest = entries_total n log (All-tail (λ (d : Entry). d.caller < n) e log callers) in
     let low : e.caller < n = All-head (λ (d : Entry). d.caller < n) e log callers in
     let own : length (calls_by e.caller (e ∷ log)) ≡ length (calls_by e.caller log) + 1 =
-    (let parts = calls_by-front e.caller (e ∷ []) log in let one = ap length (calls_by-own e.caller e refl) in omega arith) in
+    (let parts = calls_by-prefix e.caller (e ∷ []) log in let one = ap length (calls_by-own e.caller e refl) in omega arith) in
     let others : (i : ℕ) → i ≢ e.caller → length (calls_by i (e ∷ log)) ≡ length (calls_by i log) =
-    (λ i ne. let parts = calls_by-front i (e ∷ []) log in let none = ap length (calls_by-other i e (λ is. ne (sym is))) in omega arith) in
+    (λ i ne. let parts = calls_by-prefix i (e ∷ []) log in let none = ap length (calls_by-other i e (λ is. ne (sym is))) in omega arith) in
     let more = total_more n e.caller (λ i. length (calls_by i log)) (λ i. length (calls_by i (e ∷ log))) low own others in
     omega arith
 

@@ -178,7 +178,7 @@ module _ (n cap slots id who : ℕ) (me : Me (Unit {0}) View) (h : Hand) (here :
   reads word t r long at low =
       let fits = (r.hands.held who id me.0 h at here).1 in
       let stored = (λ (before rest : List Entry) (e : Entry) (is : (the (has me.0 who)).log ≡ before ++ e ∷ rest).
-      r.stand.stored before (rest ++ fits.front.0) e (fits.front.1 ∙ ap (λ (l : List Entry). l ++ fits.front.0) (sym (ap (λ (g : Hand). g.log) same_hand) ∙ is) ∙ append_assoc before (e ∷ rest) fits.front.0)) in (
+      r.stand.stored before (rest ++ fits.prefix.0) e (fits.prefix.1 ∙ ap (λ (l : List Entry). l ++ fits.prefix.0) (sym (ap (λ (g : Hand). g.log) same_hand) ∙ is) ∙ append_assoc before (e ∷ rest) fits.prefix.0)) in (
         slice_set me.0 who (Some h),
         keeps,
         tt,
@@ -229,13 +229,13 @@ opens n cap words is =
             count = ap length is ∙ length-replicate (word_count n cap) 0;
             within = record { callers = λ k d low. absurd (omega arith); calls = λ i. omega arith };
             stored = λ before rest e none. absurd (let long = ap length none in omega (arith, length-append before (e ∷ rest)));
-            free = λ place behind low.
+            free = λ place suffix low.
                 ap (λ (ws : List ℕ). slice_index ws (ticket_index n cap place)) is
                 ∙ get_or-replicate (word_count n cap) (ticket_index n cap place) 0 0 (omega arith);
           };
       hands = held_at_start (Fits n cap words []) n empty (λ i low. record {
         caller = low;
-        front = ([], refl);
+        prefix = ([], refl);
         own = refl;
         room = λ some. absurd (omega arith);
         few = omega arith;

@@ -9,7 +9,7 @@ calls_by i log = map (λ e. e.op) (filter (λ e. e.caller == i) log)
 
 -- A log begins with another.
 abbrev pub BeginsWith : List Entry → List Entry → Type 0
-BeginsWith log front = (rest : List Entry) × (log ≡ front ++ rest)
+BeginsWith log prefix = (rest : List Entry) × (log ≡ prefix ++ rest)
 
 -- Each entry is of one of n callers, and no caller has more than cap of them.
 pub record IsWithin (n cap : ℕ) (log : List Entry) : Type 0 where

@@ -34,7 +34,7 @@ next_number cap i h = number_of cap i (length (calls_by i h.log))
 -- entries of the caller; and what the caller has staged stands in the words.
 pub record Fits (n cap : ℕ) (words : List ℕ) (log : List Entry) (i : ℕ) (h : Hand) : Type 0 where
   pub caller : i < n
-  pub front : BeginsWith log h.log
+  pub prefix : BeginsWith log h.log
   pub own : calls_by i log ≡ calls_by i h.log
   pub room : 0 < length h.staged → length (calls_by i h.log) < cap
   pub few : length h.staged ≤ 2

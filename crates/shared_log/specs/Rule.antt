@@ -4,7 +4,7 @@ use Rattle.atomic_table.specs.Table.{State, Me}
 use Rattle.book_base.specs.OperationWord.{low_of, high_of}
 use Rattle.shared_log.specs.declared.entry.Entry.{Entry}
 use Rattle.shared_log.specs.Entries.{calls_by, entry, IsWithin}
-use Rattle.shared_log.specs.Words.{number_behind, operation_index, AreWordsOf, MayHaveTried}
+use Rattle.shared_log.specs.Words.{number_after, operation_index, AreWordsOf, MayHaveTried}
 use Rattle.shared_log.specs.Holders.{has, AreHeld}
 use Rattle.shared_log.specs.Hands.{Hand, View, hand, the, Fits}
 
@@ -33,7 +33,7 @@ Stages word h next = next ≡ hand h.log (h.staged ++ word ∷ []) h.tried
 pub record Learns (n cap who found : ℕ) (tried : List ℕ) (h next : Hand) : Type 0 where
   pub entry : Entry
   pub log : next ≡ hand (h.log ++ entry ∷ []) h.staged tried
-  pub ticket : found ≡ number_behind cap h.log entry + 1
+  pub ticket : found ≡ number_after cap h.log entry + 1
   pub other : calls_by who next.log ≡ calls_by who h.log
   pub within : IsWithin n cap next.log
 
@@ -58,8 +58,8 @@ pub record Tries (n cap who word found : ℕ) (h next : Hand) : Type 0 where
 -- A load of a word of an operation of which the caller knows the entry.
 pub record Reads (cap word found : ℕ) (h next : Hand) : Type 0 where
   pub same : next ≡ h
-  pub low : (before rest : List Entry) (e : Entry) → h.log ≡ before ++ e ∷ rest → word ≡ operation_index (number_behind cap before e) → found ≡ low_of e.op
-  pub high : (before rest : List Entry) (e : Entry) → h.log ≡ before ++ e ∷ rest → word ≡ operation_index (number_behind cap before e) + 1 → found ≡ high_of e.op
+  pub low : (before rest : List Entry) (e : Entry) → h.log ≡ before ++ e ∷ rest → word ≡ operation_index (number_after cap before e) → found ≡ low_of e.op
+  pub high : (before rest : List Entry) (e : Entry) → h.log ≡ before ++ e ∷ rest → word ≡ operation_index (number_after cap before e) + 1 → found ≡ high_of e.op
 
 -- What a caller that means to append an operation finds at the first place that it doesn't know: its own ticket, now, or the entry
 -- of another's call; with at most one exchange, at this word.

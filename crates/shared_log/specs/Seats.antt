@@ -69,5 +69,5 @@ HasExchanged l before after = HasTried (callers_of l) (cap_of l) (length (log_of
 
 -- The one log of some seats: it begins with what each knows, and its entries of each caller are those that this caller knows.
 pub record IsOneLog (log : List Entry) (seats : List LogSeat) : Type 0 where
-  pub fronts : All (λ s. BeginsWith log (log_of s)) seats
+  pub prefixes : All (λ s. BeginsWith log (log_of s)) seats
   pub calls : All (λ s. calls_by (caller_of s) log ≡ calls_by (caller_of s) (log_of s)) seats

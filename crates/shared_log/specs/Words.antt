@@ -20,17 +20,17 @@ ticket_index n cap place = 2 * (n * cap) + place
 abbrev pub word_count : ℕ → ℕ → ℕ
 word_count n cap = 3 * (n * cap)
 
--- The number of the call of an entry that stands behind some others: its caller's calls are numbered in their order.
-abbrev pub number_behind : ℕ → List Entry → Entry → ℕ
-number_behind cap before e = number_of cap e.caller (length (calls_by e.caller before))
+-- The number of the call of an entry that stands after some others: its caller's calls are numbered in their order.
+abbrev pub number_after : ℕ → List Entry → Entry → ℕ
+number_after cap before e = number_of cap e.caller (length (calls_by e.caller before))
 
--- An entry behind some others is in the words: its ticket, and both words of its operation.
+-- An entry after some others is in the words: its ticket, and both words of its operation.
 pub record IsStored (n cap : ℕ) (words : List ℕ) (before : List Entry) (e : Entry) : Type 0 where
-  pub ticket : slice_index words (ticket_index n cap (length before)) ≡ number_behind cap before e + 1
-  pub low : slice_index words (operation_index (number_behind cap before e)) ≡ low_of e.op
-  pub high : slice_index words (operation_index (number_behind cap before e) + 1) ≡ high_of e.op
+  pub ticket : slice_index words (ticket_index n cap (length before)) ≡ number_after cap before e + 1
+  pub low : slice_index words (operation_index (number_after cap before e)) ≡ low_of e.op
+  pub high : slice_index words (operation_index (number_after cap before e) + 1) ≡ high_of e.op
 
--- The words of a log: its entries are stored, and the tickets behind them are free.
+-- The words of a log: its entries are stored, and the tickets after them are free.
 pub record AreWordsOf (n cap : ℕ) (words : List ℕ) (log : List Entry) : Type 0 where
   pub count : length words ≡ word_count n cap
   pub within : IsWithin n cap log

@@ -116,7 +116,7 @@ impl SharedLog {
         requires number { number < self.now.callers * self.now.cap }
         ensures seat { IsPlaced self.now seat.new × (seat.new.who ≡ seat.old.who) }
         ensures hand { hand_with seat.new ≡ hand_with seat.old }
-        ensures operation { (before rest : List Item) (e : Item) → (hand_with seat.old).log ≡ before ++ e ∷ rest → number ≡ words.number_behind self.now.cap before e → result ≡ e.op }
+        ensures operation { (before rest : List Item) (e : Item) → (hand_with seat.old).log ≡ before ++ e ∷ rest → number ≡ words.number_after self.now.cap before e → result ≡ e.op }
     {
         let index = 2 * number as usize;
         let low = self.read_as::<Brand>(seat, index);

@@ -8,7 +8,7 @@ use mathlib.Core.List.{IsPrefix}
 use lib.ListN.{get_elem?}
 use Rattle.atomic_table.specs.Table.{Me, Final, Seen}
 use Rattle.shared_log.specs.Holders.{has, only}
-use Rattle.shared_log.proofs.Logs.{All-behind}
+use Rattle.shared_log.proofs.Logs.{All-suffix}
 use Rattle.shared_log.proofs.Coming.{IsComing, starts_coming, split_next, next_gone, next_inside, more_coming, all_came}
 use Rattle.shared_words.specs.declared.shared_words.SharedWords.{SharedWords}
 use Rattle.shared_words.specs.declared.words_pass.WordsPass.{WordsPass}
@@ -18,7 +18,7 @@ use Rattle.shared_words.specs.Passes.{seat_in, deeds_of, caller_of_pass, history
 use Rattle.shared_words.specs.Rule.{HaveOneHistory, Ruled}
 use Rattle.shared_words.proofs.Histories.{lawful_none}
 
--- Of the passes of n callers, those behind some front came back.
+-- Of the passes of n callers, those after some prefix came back.
 pub record IsClosing (n : ℕ) (all rest : List WordsPass) (v : View) : Type 0 where
   pub gathered : List WordsPass
   pub coming : IsComing caller_of_pass history_in n all rest gathered v
@@ -37,7 +37,7 @@ module _ {U : Type 0} (may : ℕ → Deed → Type 0) (w : SharedWords U) (all r
   pub seat_among : (back : List WordsPass) → all ≡ rest' ++ p ∷ back → IsSeatOf may w (seat_in p)
   seat_among back is =
       All-head (λ q. IsSeatOf may w (seat_in q)) p back
-      (All-behind (λ q. IsSeatOf may w (seat_in q)) rest' (p ∷ back) (subst (λ (ps : List WordsPass). All (λ q. IsSeatOf may w (seat_in q)) ps) is seats))
+      (All-suffix (λ q. IsSeatOf may w (seat_in q)) rest' (p ∷ back) (subst (λ (ps : List WordsPass). All (λ q. IsSeatOf may w (seat_in q)) ps) is seats))
 
   module _ (v : View) (callers : map caller_of_pass all ≡ range_with_len 0 w.callers) (h : IsClosing w.callers all rest v) (popped : rest ≡ rest' ++ p ∷ []) where
     pub next_seat : IsSeatOf may w (seat_in p)
@@ -63,8 +63,8 @@ knows may n count id v passes words views r at hands =
     record {
       callers = r.callers;
       lawful = r.lawful;
-      fronts = All-weaker (λ p. has v (caller_of_pass p) ≡ Some (history_in p)) (λ p. IsPrefix (history_in p) r.history)
-          (λ p here. (r.hands.held (caller_of_pass p) id v (history_in p) at here).1.front) passes hands;
+      prefixes = All-weaker (λ p. has v (caller_of_pass p) ≡ Some (history_in p)) (λ p. IsPrefix (history_in p) r.history)
+          (λ p here. (r.hands.held (caller_of_pass p) id v (history_in p) at here).1.prefix) passes hands;
       deeds = All-weaker (λ p. has v (caller_of_pass p) ≡ Some (history_in p)) (λ p. deeds_by (caller_of_pass p) r.history ≡ deeds_of p.seat)
           (λ p here. (r.hands.held (caller_of_pass p) id v (history_in p) at here).1.own) passes hands;
     }
@@ -88,7 +88,7 @@ closed_without may n passes none =
     record {
       callers = All-nil (λ (a : Access). a.caller < n);
       lawful = lawful_none may [] refl;
-      fronts = All-nil (λ (p : WordsPass). IsPrefix (history_in p) []);
+      prefixes = All-nil (λ (p : WordsPass). IsPrefix (history_in p) []);
       deeds = All-nil (λ (p : WordsPass). deeds_by (caller_of_pass p) [] ≡ deeds_of p.seat);
     } in
     ([], subst (λ (ps : List WordsPass). IsOneHistory may n [] ps) (sym (nil_from_length passes none)) no_history)

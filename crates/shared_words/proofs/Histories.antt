@@ -38,14 +38,14 @@ lawful_push may history a lawful right before rest b is = elim (ends_at history 
 ]
 
 -- in a lawful history each access may be made, a prefix is lawful, and the last access found what those before it leave
-pub lawful_allowed : (may : ℕ → Deed → Type 0) (front history : List Access) → IsLawful may (front ++ history) → All (λ (a : Access). may a.caller a.deed) history
-lawful_allowed may front [] lawful = All-nil (λ (a : Access). may a.caller a.deed)
-lawful_allowed may front (a ∷ history) lawful =
-    All-cons (λ (b : Access). may b.caller b.deed) a history (lawful front history a refl).allowed
-    (lawful_allowed may (front ++ a ∷ []) history (subst (λ (l : List Access). IsLawful may l) (sym (append_assoc front (a ∷ []) history)) lawful))
+pub lawful_allowed : (may : ℕ → Deed → Type 0) (prefix history : List Access) → IsLawful may (prefix ++ history) → All (λ (a : Access). may a.caller a.deed) history
+lawful_allowed may prefix [] lawful = All-nil (λ (a : Access). may a.caller a.deed)
+lawful_allowed may prefix (a ∷ history) lawful =
+    All-cons (λ (b : Access). may b.caller b.deed) a history (lawful prefix history a refl).allowed
+    (lawful_allowed may (prefix ++ a ∷ []) history (subst (λ (l : List Access). IsLawful may l) (sym (append_assoc prefix (a ∷ []) history)) lawful))
 
-pub lawful_prefix : (may : ℕ → Deed → Type 0) (front history : List Access) → IsLawful may (front ++ history) → IsLawful may front
-lawful_prefix may front history lawful before rest a is = lawful before (rest ++ history) a (ap (λ (l : List Access). l ++ history) is ∙ append_assoc before (a ∷ rest) history)
+pub lawful_prefix : (may : ℕ → Deed → Type 0) (prefix history : List Access) → IsLawful may (prefix ++ history) → IsLawful may prefix
+lawful_prefix may prefix history lawful before rest a is = lawful before (rest ++ history) a (ap (λ (l : List Access). l ++ history) is ∙ append_assoc before (a ∷ rest) history)
 
 pub lawful_last : (may : ℕ → Deed → Type 0) (before : List Access) (a : Access) → IsLawful may (before ++ a ∷ []) → HasFound a.deed (word_at (place_of a.deed) before)
 lawful_last may before a lawful = (lawful before [] a refl).found

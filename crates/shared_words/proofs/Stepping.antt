@@ -54,10 +54,10 @@ module _ (may : ℕ → Deed → Type 0) (n count words slots id who : ℕ) (me 
           lawful = lawful;
           hands =
               held_changed (Knows n r.history) (Knows n next) t.views id me.0 who h next r.hands at here
-              (record { caller = knows.caller; front = (_, append-nil next); own = refl })
+              (record { caller = knows.caller; prefix = (_, append-nil next); own = refl })
               (λ i z ne was. record {
                 caller = was.caller;
-                front = prefix_more z r.history a was.front;
+                prefix = prefix_more z r.history a was.prefix;
                 own = deeds_by-other i r.history a (λ e. ne (sym e)) ∙ was.own;
               });
         },
@@ -69,8 +69,8 @@ module _ (may : ℕ → Deed → Type 0) (n count words slots id who : ℕ) (me 
           moved = refl;
           made =
               record {
-                between = knows.front.0;
-                history = ap (λ (l : List Access). l ++ a ∷ []) (sym knows.front.1);
+                between = knows.prefix.0;
+                history = ap (λ (l : List Access). l ++ a ∷ []) (sym knows.prefix.1);
                 own = deeds_by-own who r.history a refl ∙ ap (λ (l : List Deed). l ++ deed x ∷ []) knows.own;
               };
           lawful = lawful;
@@ -105,5 +105,5 @@ opens may n count words is =
       left = λ place low. ap (λ (ws : List ℕ). slice_index ws place) is ∙ get_or-replicate count place 0 0 low;
       callers = All-nil (λ (a : Access). a.caller < n);
       lawful = lawful_none may [] refl;
-      hands = held_at_start (Knows n []) n [] (λ i low. record { caller = low; front = ([], refl); own = refl });
+      hands = held_at_start (Knows n []) n [] (λ i low. record { caller = low; prefix = ([], refl); own = refl });
     }

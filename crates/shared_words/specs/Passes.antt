@@ -42,7 +42,7 @@ room_of_pass p = vec_capacity p.pairs
 abbrev pub history_in : WordsPass → List Access
 history_in p = history_of p.seat
 
--- The pass has made no call, and may make so many.
+-- The pass has made no call, and may make this many.
 pub record IsFreshPass (calls : ℕ) (p : WordsPass) : Type 0 where
   pub made : made_with p ≡ 0
   pub cap : cap_of_pass p ≡ calls
@@ -53,7 +53,7 @@ pub record IsFreshPass (calls : ℕ) (p : WordsPass) : Type 0 where
 pub record IsOneHistory (may : ℕ → Deed → Type 0) (n : ℕ) (history : List Access) (passes : List WordsPass) : Type 0 where
   pub callers : All (λ a. a.caller < n) history
   pub lawful : IsLawful may history
-  pub fronts : All (λ p. IsPrefix (history_in p) history) passes
+  pub prefixes : All (λ p. IsPrefix (history_in p) history) passes
   pub deeds : All (λ p. deeds_by (caller_of_pass p) history ≡ deeds_of p.seat) passes
 
 -- The calls that some passes tell are of one history of all accesses of n callers: it is lawful, and the pairs of each pass are calls of

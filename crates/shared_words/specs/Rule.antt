@@ -9,7 +9,7 @@ use Rattle.shared_words.specs.Histories.{Access, View, deeds_by, word_at, IsLawf
 -- Caller i, one of n, knows a prefix of the history, which has all its deeds.
 pub record Knows (n : ℕ) (history : List Access) (i : ℕ) (h : List Access) : Type 0 where
   pub caller : i < n
-  pub front : IsPrefix h history
+  pub prefix : IsPrefix h history
   pub own : deeds_by i history ≡ deeds_by i h
 
 -- There is one history: it is lawful and of the callers alone, it leaves the words, and each caller knows a prefix of it.

@@ -225,15 +225,15 @@ stack_is_container = record {
 }
 
 -- the last of pushed items is taken
-last_pushed : (front : List ℕ) (y : ℕ) → last_taken (front ++ y ∷ []) ≡ (front, reply_value y)
+last_pushed : (prefix : List ℕ) (y : ℕ) → last_taken (prefix ++ y ∷ []) ≡ (prefix, reply_value y)
 last_pushed [] y = refl
-last_pushed (x ∷ front) y =
-    let whole : List ℕ = (x ∷ front) ++ y ∷ [] in
-    let n : ℕ = length (front ++ y ∷ []) in
-    let same : n ≡ length (x ∷ front) = omega (arith, length_push front y) in
-    let items : take n whole ≡ x ∷ front
-    = ap (λ (k : ℕ). take k whole) same ∙ (take-append-le (length (x ∷ front)) (x ∷ front) (y ∷ []) (omega arith) ∙ take_all (length (x ∷ front)) (x ∷ front) (omega arith)) in
-    let last : get_or whole n 0 ≡ y = get_or_push (x ∷ front) y 0 n (sym same) in
+last_pushed (x ∷ prefix) y =
+    let whole : List ℕ = (x ∷ prefix) ++ y ∷ [] in
+    let n : ℕ = length (prefix ++ y ∷ []) in
+    let same : n ≡ length (x ∷ prefix) = omega (arith, length_push prefix y) in
+    let items : take n whole ≡ x ∷ prefix
+    = ap (λ (k : ℕ). take k whole) same ∙ (take-append-le (length (x ∷ prefix)) (x ∷ prefix) (y ∷ []) (omega arith) ∙ take_all (length (x ∷ prefix)) (x ∷ prefix) (omega arith)) in
+    let last : get_or whole n 0 ≡ y = get_or_push (x ∷ prefix) y 0 n (sym same) in
     pair_is items (ap reply_value last)
 
 last_one : (p : ℕ → Bool) (list : List ℕ) → TakesOne p last_taken list
@@ -241,14 +241,14 @@ last_one p [] = inl (refl, refl)
 last_one p (x ∷ rest) =
     let list : List ℕ = x ∷ rest in
     let n : ℕ = length rest in
-    let front : List ℕ = take n list in
+    let prefix : List ℕ = take n list in
     let last : ℕ = get_or list n 0 in
-    let whole : list ≡ front ++ last ∷ [] = sym (take_all (n + 1) list (omega arith)) ∙ take_more list n 0 (omega arith) in
+    let whole : list ≡ prefix ++ last ∷ [] = sym (take_all (n + 1) list (omega arith)) ∙ take_more list n 0 (omega arith) in
     inr (
       last,
       refl,
-      λ kept. ap (λ (l : List ℕ). last_taken (filter p l)) whole ∙ (ap last_taken (pushed_kept p front last kept) ∙ last_pushed (filter p front) last),
-      λ gone. ap (filter p) whole ∙ pushed_gone p front last gone,
+      λ kept. ap (λ (l : List ℕ). last_taken (filter p l)) whole ∙ (ap last_taken (pushed_kept p prefix last kept) ∙ last_pushed (filter p prefix) last),
+      λ gone. ap (filter p) whole ∙ pushed_gone p prefix last gone,
     )
 
 stack_is_split : (p : ℕ → Bool) → IsSplitBy p any_list (λ list v. list ++ v ∷ []) last_taken

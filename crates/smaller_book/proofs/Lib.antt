@@ -1,6 +1,6 @@
 pub mod Counts
 pub mod Following
-pub mod Leaving
+pub mod ReadOnly
 pub mod Slices
 pub mod Filtering
 pub mod Evidence

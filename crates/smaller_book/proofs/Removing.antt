@@ -17,7 +17,7 @@ use Rattle.book_base.proofs.GrowthLemmas.{announced_at}
 use Rattle.book_laws.proofs.LegalOrder.{same_call}
 use Rattle.smaller_book.specs.Part.{numbers_of, AreRising, original, IsPart}
 use Rattle.smaller_book.specs.Numbers.{AreNumbersOf}
-use Rattle.smaller_book.specs.Leaving.{LeavesEveryList, LacksLeavingAlone}
+use Rattle.smaller_book.specs.ReadOnly.{IsReadOnly, LacksReadOnlyAlone}
 use Rattle.smaller_book.specs.Minimal.{numbers_except, row_but, all_but, size_of}
 use Rattle.smaller_book.proofs.LeastCuts.{range-rising}
 use Rattle.smaller_book.proofs.Building.{length-rising}
@@ -111,11 +111,11 @@ all_but_are_numbers book call inside = record {
 }
 
 -- Only this call is left out.
-pub lacks_one_alone : (next : List ℕ → ℕ → List ℕ × ℕ) (book : List Page) (call : Call) → IsCall book call → LeavesEveryList next book call → LacksLeavingAlone next book (all_but book call)
+pub lacks_one_alone : (next : List ℕ → ℕ → List ℕ × ℕ) (book : List Page) (call : Call) → IsCall book call → IsReadOnly next book call → LacksReadOnlyAlone next book (all_but book call)
 lacks_one_alone next book call inside leaves other there lacking =
     elim (cases_eq other.caller call.caller) [
       | inl e ↦ elim (cases_eq other.number call.number) [
-        | inl same ↦ subst (LeavesEveryList next book) (sym (same_call other call e same)) leaves
+        | inl same ↦ subst (IsReadOnly next book) (sym (same_call other call e same)) leaves
         | inr apart ↦
             let xs : List ℕ = numbers_except (calls_of book call.caller) call.number in
             let found = has-numbers_except (calls_of book call.caller) call.number other.number inside (subst (λ (i : ℕ). other.number < calls_of book i) e there) apart in
@@ -177,11 +177,11 @@ size-less book call part inside is =
     = ap (λ (xs : List ℕ). length xs + 1) (numbers_of-own book call inside) ∙ length-numbers_except (calls_of book i) call.number inside in
     size-less_at book (all_but book call) part i is (omega (arith, own, is.calls i))
 
--- A call that leaves every list is an answered call of the book.
-pub leaving_is_answered : (next : List ℕ → ℕ → List ℕ × ℕ) (book : List Page) (call : Call) → LeavesEveryList next book call → IsAnswered book call
-leaving_is_answered next book call leaves =
+-- A read-only call is an answered call of the book.
+pub read_only_is_answered : (next : List ℕ → ℕ → List ℕ × ℕ) (book : List Page) (call : Call) → IsReadOnly next book call → IsAnswered book call
+read_only_is_answered next book call leaves =
     let known = some_that (record_of book call) (λ (r : Record). Leaves next (unwrap_or (operation_of book call) 0) r.reply) leaves in
     slice_get_within (page_of book call.caller).records call.number known.0 known.1
 
-pub leaving_is_call : (next : List ℕ → ℕ → List ℕ × ℕ) (book : List Page) (call : Call) → IsValid book → LeavesEveryList next book call → IsCall book call
-leaving_is_call next book call valid leaves = omega (arith, valid.answers call.caller, leaving_is_answered next book call leaves)
+pub read_only_is_call : (next : List ℕ → ℕ → List ℕ × ℕ) (book : List Page) (call : Call) → IsValid book → IsReadOnly next book call → IsCall book call
+read_only_is_call next book call valid leaves = omega (arith, valid.answers call.caller, read_only_is_answered next book call leaves)

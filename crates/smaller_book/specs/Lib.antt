@@ -1,6 +1,6 @@
 pub mod Part
 pub mod Numbers
-pub mod Leaving
+pub mod ReadOnly
 pub mod Earliest
 pub mod Keys
 pub mod Minimal

@@ -8,7 +8,7 @@ use Rattle.book_base.specs.Pruning.{HasOneOpen}
 use Rattle.seq_objects.specs.declared.kind.Kind.{Kind}
 use Rattle.seq_objects.specs.Objects.{kind_init, kind_next}
 use Rattle.smaller_book.specs.Part.{numbers_of, IsPart, KeepsAnswers}
-use Rattle.smaller_book.specs.Leaving.{LeavesEveryList}
+use Rattle.smaller_book.specs.ReadOnly.{IsReadOnly}
 use Rattle.smaller_book.specs.Earliest.{IsEarliest}
 use Rattle.smaller_book.specs.Keys.{key_of_call, keys_from_to, all_without, IsEvidence}
 
@@ -41,8 +41,8 @@ IsKeyNeeded kind book key = HasOneWith kind book (all_without kind (keys_from_to
 pub record IsMinimal (kind : Kind) (book : List Page) : Type 0 where
   -- the book at each earlier cut has a legal order
   pub earliest : IsEarliest (kind_init kind) (kind_next kind) book
-  -- and so does the book without a call that leaves every list
-  pub leaving : (call : Call) → LeavesEveryList (kind_next kind) book call → IsNeeded kind book call
+  -- and so does the book without a read-only call
+  pub read_only : (call : Call) → IsReadOnly (kind_next kind) book call → IsNeeded kind book call
   -- and, where each view holds at most one unanswered call of each caller, the book without all calls of one key
   pub keys : HasOneOpen book → (call : Call) (key : ℕ) → IsCall book call → key_of_call kind book call ≡ Some key → IsKeyNeeded kind book key
 

@@ -10,7 +10,7 @@ ghost use Rattle.seq_objects.specs.Replies.{reply_done, reply_none, reply_value,
 ghost use Rattle.seq_objects.specs.Objects.{kind_next};
 ghost use Rattle.object_laws.specs.Worked.{operation};
 ghost use Rattle.smaller_book.specs.Part.{count_below};
-ghost use Rattle.smaller_book.specs.Leaving.{LeavesEveryList};
+ghost use Rattle.smaller_book.specs.ReadOnly.{IsReadOnly};
 ghost use Rattle.smaller_book.specs.Minimal.{numbers_except, all_but, composed};
 ghost use Rattle.smaller_book.specs.Keys.{key_of_step, keys_from_to, all_without, items_without};
 ghost use Rattle.smaller_book.specs.Worked.{put_twice, of_two_keys, two_open, one_open};
@@ -50,9 +50,9 @@ pub fn numbers_that_stay()
 /// list may have that first: a reply of 0 says "none" or "the item 0".
 pub fn calls_that_leave()
     // A call of an object that keeps nothing leaves every list.
-    ensures replies { LeavesEveryList tenfold_next mistaken (record { caller = 1; number = 0 }) }
+    ensures replies { IsReadOnly tenfold_next mistaken (record { caller = 1; number = 0 }) }
     // An unanswered call isn't known to leave every list.
-    ensures unanswered { ¬ LeavesEveryList line_next overtaken (record { caller = 0; number = 2 }) }
+    ensures unanswered { ¬ IsReadOnly line_next overtaken (record { caller = 0; number = 2 }) }
     // A take that shows 6 changes a list that begins with 6.
     ensures takes { ¬ Leaves line_next 0 6 }
     // A take that replies 0 changes a list that begins with 0.

@@ -73,7 +73,7 @@ fn all_records(book: &Book) -> Cut
     cut
 }
 
-// A cut at which the book has no legal order, of the records whose views hold at most so many calls: the least
+// A cut at which the book has no legal order, of the records whose views hold at most this many calls: the least
 // such number. Where no record goes with a lower number, nothing is asked.
 fn first_illegal(alloc: Global, kind: Kind, book: &Book) -> Result<Cut, NoMemory>
     requires { ¬ HasLegalOrder (kind_init kind) (kind_next kind) book.now }
@@ -98,7 +98,7 @@ fn first_illegal(alloc: Global, kind: Kind, book: &Book) -> Result<Cut, NoMemory
     Ok(cut)
 }
 
-// The cut that holds each caller's first records whose views hold at most so many calls.
+// The cut that holds each caller's first records whose views hold at most this many calls.
 fn records_up_to(book: &Book, most: u64) -> Cut
     ensures wide { length result ≡ length book.now }
     ensures within { IsWithin result (answered book.now) }
@@ -110,7 +110,7 @@ fn records_up_to(book: &Book, most: u64) -> Cut
     cut
 }
 
-// How many first records of a caller have views that hold at most so many calls.
+// How many first records of a caller have views that hold at most this many calls.
 fn count_up_to(book: &Book, caller: u32, most: u64) -> u64
     requires { caller < length book.now }
     ensures { result ≤ answers_of book.now caller }

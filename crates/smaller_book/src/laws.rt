@@ -1,12 +1,12 @@
 //! Laws of parts of a book. Each is the contract of a function with nothing in it.
 
-ghost use Rattle.smaller_book.specs.Leaving.{HasOneWithoutLeaving};
+ghost use Rattle.smaller_book.specs.ReadOnly.{HasOneWithoutReadOnly};
 ghost use Rattle.smaller_book.specs.Keys.{HasOneWithoutKeys, EvidenceTells};
 
-/// Calls that leave every list with their reply may be left out: what is left of a legal order is one of
+/// Read-only calls with their reply may be left out: what is left of a legal order is one of
 /// what is left of the book.
-pub fn leaving_calls_may_be_left_out()
-    ensures { HasOneWithoutLeaving }
+pub fn read_only_calls_may_be_left_out()
+    ensures { HasOneWithoutReadOnly }
 {}
 
 /// All calls of some keys may be left out, where each view holds at most one unanswered call of each caller:

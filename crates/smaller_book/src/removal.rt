@@ -1,11 +1,11 @@
-//! Calls that leave every list, taken out of a book.
+//! Read-only calls, taken out of a book.
 ghost use Rattle.std.specs.Prelude.{◌≡◌, ℕ, ◌+◌, ◌-◌, ◌<◌, ◌≤◌, ◌++◌, [], ◌∷◌, ◌↔◌, length, if◌then◌else◌, IfOk, IfSome, IfNone, OnOk, IsTrue};
 ghost use Rattle.std.specs.List.{range_with_len};
 ghost use Rattle.book_base.specs.declared.call.Call.{Call};
 ghost use Rattle.book_base.specs.Book.{calls_of, IsAnswered, IsCall};
 ghost use Rattle.seq_objects.specs.Objects.{kind_next};
 ghost use Rattle.smaller_book.specs.Numbers.{numbers_in};
-ghost use Rattle.smaller_book.specs.Leaving.{LeavesEveryList};
+ghost use Rattle.smaller_book.specs.ReadOnly.{IsReadOnly};
 ghost use Rattle.smaller_book.specs.Minimal.{numbers_except, row_but, all_but, IsNeeded, IsSmaller};
 
 use crate::judging::is_illegal;
@@ -32,7 +32,7 @@ pub fn without_one(
     ensures smaller { IfOk result (λ found. IfSome found (λ (smaller, caller).
         IsSmaller kind book.now (numbers_in smaller.numbers.items) smaller.book)) }
     ensures none { IfOk result (λ found. IfNone found ((call : Call) → from ≤ call.caller
-        → LeavesEveryList (kind_next kind) book.now call
+        → IsReadOnly (kind_next kind) book.now call
         → IsNeeded kind book.now call)) }
 {
     for caller in from..book.callers() {
@@ -56,12 +56,12 @@ fn without_one_of(
     ensures smaller { IfOk result (λ found. IfSome found (λ smaller.
         IsSmaller kind book.now (numbers_in smaller.numbers.items) smaller.book)) }
     ensures none { IfOk result (λ found. IfNone found ((number : ℕ)
-        → LeavesEveryList (kind_next kind) book.now (record { caller = caller; number = number })
+        → IsReadOnly (kind_next kind) book.now (record { caller = caller; number = number })
         → IsNeeded kind book.now (record { caller = caller; number = number }))) }
 {
     for number in 0..book.answers(caller) {
         let call = Call { caller, number };
-        if leaves_every_list(kind, book, call)
+        if is_read_only(kind, book, call)
             && let Some(smaller) = without(alloc, kind, book, call)?
         {
             return Ok(Some(smaller));
@@ -77,7 +77,7 @@ pub fn without(
     book: &Book,
     call: Call,
 ) -> Result<Option<Smaller>, NoMemory>
-    requires { LeavesEveryList (kind_next kind) book.now call }
+    requires { IsReadOnly (kind_next kind) book.now call }
     ensures smaller { IfOk result (λ found. IfSome found (λ smaller.
         IsSmaller kind book.now (numbers_in smaller.numbers.items) smaller.book)) }
     ensures none { IfOk result (λ found. IfNone found
@@ -97,9 +97,9 @@ pub fn without(
 }
 
 /// Whether an answered call's operation leaves every list with its reply.
-pub fn leaves_every_list(kind: Kind, book: &Book, call: Call) -> bool
+pub fn is_read_only(kind: Kind, book: &Book, call: Call) -> bool
     requires { IsAnswered book.now call }
-    ensures { IsTrue result ↔ LeavesEveryList (kind_next kind) book.now call }
+    ensures { IsTrue result ↔ IsReadOnly (kind_next kind) book.now call }
 {
     let _callers = book.callers();
     let record = book.record(call);

@@ -7,7 +7,7 @@ ghost use Rattle.book_base.specs.Pruning.{HasOneOpen};
 ghost use Rattle.seq_objects.specs.Objects.{kind_init, kind_next};
 ghost use Rattle.smaller_book.specs.Part.{IsPart};
 ghost use Rattle.smaller_book.specs.Numbers.{numbers_in};
-ghost use Rattle.smaller_book.specs.Leaving.{LeavesEveryList};
+ghost use Rattle.smaller_book.specs.ReadOnly.{IsReadOnly};
 ghost use Rattle.smaller_book.specs.Keys.{key_of_call, IsEvidence};
 ghost use Rattle.smaller_book.specs.Minimal.{IsNeeded, IsKeyNeeded, IsMinimal, IsSmaller, IsShrunk, size_of};
 
@@ -15,7 +15,7 @@ use crate::composing::{numbers_of_all, numbers_through, smaller_still};
 use crate::cuts::earliest;
 use crate::judging::is_illegal;
 use crate::keyless::without_one_key;
-use crate::leaving_calls::without_leaving;
+use crate::read_only_calls::without_read_only;
 use crate::removal::Smaller;
 use crate::thinning::thinned;
 use book_base::{Book, NoMemory};
@@ -25,7 +25,7 @@ use std::alloc::Global;
 /// Of a book without a legal order a smaller one, which no rule makes smaller still; none, where the book
 /// has a legal order.
 ///
-/// The rules are three: the book at an earlier cut, the book without an answered call that leaves every list
+/// The rules are three: the book at an earlier cut, the book without an answered read-only call
 /// of the object, and the book without all calls of one key, where each view holds at most one unanswered
 /// call of each caller. A key is a value of a queue, a stack or a priority queue, or a key of a set or a map.
 /// The numbers of the calls and their views are made anew, and the numbers that the calls had come with the
@@ -100,8 +100,8 @@ fn next_smaller(alloc: Global, kind: Kind, book: &Book) -> Result<Option<Smaller
         IsShrunk kind book.now (numbers_in smaller.numbers.items) smaller.book)) }
     ensures fewer { IfOk result (λ found. IfSome found (λ smaller.
         size_of smaller.book < size_of book.now)) }
-    ensures leaving { IfOk result (λ found. IfNone found ((call : Call)
-        → LeavesEveryList (kind_next kind) book.now call → IsNeeded kind book.now call)) }
+    ensures read_only { IfOk result (λ found. IfNone found ((call : Call)
+        → IsReadOnly (kind_next kind) book.now call → IsNeeded kind book.now call)) }
     ensures keys { IfOk result (λ found. IfNone found (HasOneOpen book.now → (call : Call) (key : ℕ)
         → IsCall book.now call → key_of_call kind book.now call ≡ Some key → IsKeyNeeded kind book.now key)) }
 {
@@ -115,14 +115,14 @@ fn next_smaller(alloc: Global, kind: Kind, book: &Book) -> Result<Option<Smaller
 fn without_calls(alloc: Global, kind: Kind, book: &Book) -> Result<Option<Smaller>, NoMemory>
     ensures smaller { IfOk result (λ found. IfSome found (λ smaller.
         IsSmaller kind book.now (numbers_in smaller.numbers.items) smaller.book)) }
-    ensures leaving { IfOk result (λ found. IfNone found ((call : Call)
-        → LeavesEveryList (kind_next kind) book.now call → IsNeeded kind book.now call)) }
+    ensures read_only { IfOk result (λ found. IfNone found ((call : Call)
+        → IsReadOnly (kind_next kind) book.now call → IsNeeded kind book.now call)) }
     ensures keys { IfOk result (λ found. IfNone found (HasOneOpen book.now → (call : Call) (key : ℕ)
         → IsCall book.now call → key_of_call kind book.now call ≡ Some key → IsKeyNeeded kind book.now key)) }
 {
     match without_one_key(alloc, kind, book)? {
         Some(smaller) => Ok(Some(smaller)),
-        None => without_leaving(alloc, kind, book),
+        None => without_read_only(alloc, kind, book),
     }
 }
 

@@ -8,13 +8,13 @@ ghost use Rattle.smaller_book.specs.Minimal.{IsSmaller};
 use crate::composing::smaller_still;
 use crate::cuts::without_later;
 use crate::keyless::without_halves;
-use crate::leaving_calls::{without_singles, without_slices};
+use crate::read_only_calls::{without_singles, without_slices};
 use crate::removal::Smaller;
 use book_base::{Book, NoMemory};
 use seq_objects::Kind;
 use std::alloc::Global;
 
-/// The book up to the first views at which it has no legal order, without keys and calls that leave every list that can
+/// The book up to the first views at which it has no legal order, without keys and read-only calls that can
 /// be left out: many at once, and then single ones (after Zeller and Hildebrandt 2002).
 ///
 /// No answer of a call that stays is dropped: while each view holds at most one unanswered call of each caller, a

@@ -22,7 +22,7 @@ use Rattle.value_pruning.specs.HoldsLast.{IsRead}
 use Rattle.value_pruning.proofs.Placing.{all-weaker, cases_deed}
 use Rattle.value_pruning.proofs.Taking.{word_at, word_is}
 use Rattle.stack_pruning.specs.LastFirst.{GivesLastFirst, EndsWith, IsKept, IsItem, HasTop}
-use Rattle.stack_pruning.proofs.Stepping.{all-append, all-front, all_next}
+use Rattle.stack_pruning.proofs.Stepping.{all-append, all-prefix, all_next}
 use Rattle.stack_levels.specs.Levels.{Layer, Nodes, IsAmong, IsOneOf, TakeLeads, DeedLeads, CallLeads, ShowsAnother, LeavesTop, ServesFor, IsFollowed, IsKeptLayer, no_calls, IsClosed}
 use Rattle.stack_levels.specs.LevelLaws.{HasNoOrder, ClosedTablesHaveNoOrder}
 
@@ -173,7 +173,7 @@ take_shows reading next bound is book layers cut [] l op layer at ends items tak
     (is.empty op takes).1 ∙ (sym ends.2 ∙ ap (λ (x : Layer). x.top.last) same)
 take_shows reading next bound is book layers cut (v ∷ below) l op layer at ends items takes =
     let same : ends.0 ≡ layer = same_Some ends.0 layer (sym ends.1 ∙ at) in
-    is.shows (upright below) v op (all-front (IsItem reading book cut bound) (upright below) v items).1.small takes
+    is.shows (upright below) v op (all-prefix (IsItem reading book cut bound) (upright below) v items).1.small takes
     ∙ (sym ends.2 ∙ ap (λ (x : Layer). x.top.last) same)
 
 -- A take that shows another value may not stand next.
@@ -197,7 +197,7 @@ nothing_taken next bound reading is layers (v ∷ below) l op layer at ends take
     let same : ends.0 ≡ layer = same_Some ends.0 layer (sym ends.1 ∙ at) in
     absurd (none-some v (sym none ∙ (sym (ap (λ (x : Layer). x.top.last) same) ∙ ends.2)))
 
--- An unanswered call that leaves the list may be left out.
+-- An unanswered read-only call may be left out.
 left_out : (reading : Reading) (next : List ℕ → ℕ → List ℕ × ℕ) (bound : ℕ) → GivesLastFirst reading next bound → (book : List Page) → HasOneOpen book → (layers : List Layer)
     (cut tops : List ℕ) (l : ℕ) (layer : Layer) (place : Place) (rest : List Place) → length book ≤ length cut → slice_get layers l ≡ Some layer → Ends layers tops l
     → LeavesTop reading book layer.top.last (call_at place) → Continues book next cut (upright tops) (place ∷ rest)

@@ -50,7 +50,7 @@ pub struct Level {
 pub enum Reached {
     /// The level begins there.
     Begins,
-    /// By a call that leaves the list, from another node of the level.
+    /// By a read-only call, from another node of the level.
     Stays(usize, Call),
     /// From a node of the level by a put, and by a take that ended the level which the put began, from this node.
     Returns(Origin, usize, Call),

@@ -20,7 +20,7 @@ use Rattle.value_pruning.proofs.Taking.{word_at, word_is, word_stands, GoesOnAft
 use Rattle.value_pruning.proofs.Putting.{word_of_call, Gives, put_is_no_take}
 use Rattle.value_pruning.proofs.Writing.{outside_before, unread_later}
 use Rattle.stack_pruning.specs.LastFirst.{GivesLastFirst, IsSmall, IsKept, IsNeverEmpty, PutsKept}
-use Rattle.stack_pruning.proofs.Stepping.{cases_end, all-front, all_next, steps_above}
+use Rattle.stack_pruning.proofs.Stepping.{cases_end, all-prefix, all_next, steps_above}
 
 -- No answered call outside a cut takes one of these items, nor finds nothing.
 record IsUnused (reading : Reading) (book : List Page) (bound : ℕ) (cut low : List ℕ) : Type 0 where
@@ -45,13 +45,13 @@ unused_taken reading next bound is book cut low op takes it = record {
 }
 
 -- A take of a kept item is unanswered.
-free_last : (reading : Reading) (next : List ℕ → ℕ → List ℕ × ℕ) (bound : ℕ) → GivesLastFirst reading next bound → (book : List Page) (cut front : List ℕ) (x : ℕ) (place : Place)
-    → x < bound → IsKept reading book cut x → reading.deed (word_at book place) ≡ Takes → MayStandNext book next cut (front ++ x ∷ []) place → IsAnswered book (call_at place) → ⊥
-free_last reading next bound is book cut front x place small kept takes stands answered =
+free_last : (reading : Reading) (next : List ℕ → ℕ → List ℕ × ℕ) (bound : ℕ) → GivesLastFirst reading next bound → (book : List Page) (cut prefix : List ℕ) (x : ℕ) (place : Place)
+    → x < bound → IsKept reading book cut x → reading.deed (word_at book place) ≡ Takes → MayStandNext book next cut (prefix ++ x ∷ []) place → IsAnswered book (call_at place) → ⊥
+free_last reading next bound is book cut prefix x place small kept takes stands answered =
     let op : ℕ = word_at book place in
     let there = answer_stands book (call_at place) answered in
     let says : reading.shown there.0.reply ≡ Some x
-    = ap reading.shown (stands.recorded there.0 there.1 ∙ sym stands.reply) ∙ is.shows front x op small takes in
+    = ap reading.shown (stands.recorded there.0 there.1 ∙ sym stands.reply) ∙ is.shows prefix x op small takes in
     kept (call_at place, ((op, there.0, word_stands book place stands.may_come.is_call, there.1, takes, says), omega (arith, stands.may_come.next)))
 
 -- A take of what lies below is unanswered.
@@ -64,8 +64,8 @@ free_below reading next bound is book cut low place unused takes stands answered
       let says = ap reading.shown (stands.recorded there.0 there.1 ∙ sym stands.reply) ∙ (ap (λ (xs : List ℕ). reading.shown (next xs op).1) none ∙ (is.empty op takes).1) in
       unused.never_empty (call_at place) (op, there.0, word_stands book place stands.may_come.is_call, there.1, takes, says) (omega (arith, stands.may_come.next))
   | inr some ↦
-      let small = (all-front (λ (x : ℕ). x < bound) some.0 some.1 (subst (λ (xs : List ℕ). IsSmall bound xs) some.2 unused.small)).1 in
-      let kept = (all-front (IsKept reading book cut) some.0 some.1 (subst (λ (xs : List ℕ). AllByRecursion (IsKept reading book cut) xs) some.2 unused.kept)).1 in
+      let small = (all-prefix (λ (x : ℕ). x < bound) some.0 some.1 (subst (λ (xs : List ℕ). IsSmall bound xs) some.2 unused.small)).1 in
+      let kept = (all-prefix (IsKept reading book cut) some.0 some.1 (subst (λ (xs : List ℕ). AllByRecursion (IsKept reading book cut) xs) some.2 unused.kept)).1 in
       free_last reading next bound is book cut some.0 some.1 place small kept takes (subst (λ (xs : List ℕ). MayStandNext book next cut xs place) some.2 stands) answered
 ]
 

@@ -24,7 +24,7 @@ use Rattle.value_pruning.proofs.Taking.{word_at, word_is, word_stands, GoesOnAft
 use Rattle.value_pruning.proofs.Listing.{one_listed}
 use Rattle.value_pruning.proofs.Putting.{word_of_call, Gives, put_is_no_take}
 use Rattle.stack_pruning.specs.LastFirst.{GivesLastFirst, IsSmall, Lacks, PutsPaired}
-use Rattle.stack_pruning.proofs.Stepping.{cases_end, all-front, all_next}
+use Rattle.stack_pruning.proofs.Stepping.{cases_end, all-prefix, all_next}
 use Rattle.stack_pruning.proofs.Taking.{IsAnother, taken_later, take_stands}
 
 -- A take doesn't show a value that isn't in the list.
@@ -33,7 +33,7 @@ shows_other : (reading : Reading) (next : List ℕ → ℕ → List ℕ × ℕ) 
 shows_other reading next bound is v op list takes all shows = elim (cases_end list) [
   | inl none ↦ none-some v (sym (is.empty op takes).1 ∙ (ap (λ (xs : List ℕ). reading.shown (next xs op).1) (sym none) ∙ shows))
   | inr some ↦
-      let last = (all-front (IsAnother bound v) some.0 some.1 (subst (λ (xs : List ℕ). AllByRecursion (IsAnother bound v) xs) some.2 all)).1 in
+      let last = (all-prefix (IsAnother bound v) some.0 some.1 (subst (λ (xs : List ℕ). AllByRecursion (IsAnother bound v) xs) some.2 all)).1 in
       last.0 (same_Some some.1 v (sym (is.shows some.0 some.1 op last.1 takes) ∙ (ap (λ (xs : List ℕ). reading.shown (next xs op).1) (sym some.2) ∙ shows)))
 ]
 

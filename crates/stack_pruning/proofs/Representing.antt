@@ -12,7 +12,7 @@ use Rattle.history_rules.specs.Calls.{PutsIn, PutsInAlone}
 use Rattle.value_pruning.proofs.Placing.{all-weaker}
 use Rattle.stack_pruning.specs.declared.top.Top.{Top}
 use Rattle.stack_pruning.specs.LastFirst.{IsSmall, Lacks, EndsWith, TakesLast, PutsPaired, IsKept, PutsKept, PutsNeedless, IsItem, HasTop, StandFor}
-use Rattle.stack_pruning.proofs.Stepping.{all-front}
+use Rattle.stack_pruning.proofs.Stepping.{all-prefix}
 
 pub takes_last : (reading : Reading) (book : List Page) (cut ends others list : List ℕ) (look : Bool) (caller : ℕ)
     → StandFor reading book cut ends others look list → TakesLast reading book cut ends caller → TakesLast reading book cut list caller
@@ -71,10 +71,10 @@ lacks_it reading book cut bound list caller v all alone =
 -- a list of one word ends with it alone, and one of none with none
 ends_with_one : (w v : ℕ) → EndsWith (w ∷ []) v → v ≡ w
 ends_with_one w v ends =
-    (all-front (λ (x : ℕ). x ≡ w) ends.0 v (subst (λ (xs : List ℕ). AllByRecursion (λ (x : ℕ). x ≡ w) xs) ends.1 (refl, tt))).1
+    (all-prefix (λ (x : ℕ). x ≡ w) ends.0 v (subst (λ (xs : List ℕ). AllByRecursion (λ (x : ℕ). x ≡ w) xs) ends.1 (refl, tt))).1
 
 ends_with_none : (v : ℕ) → EndsWith [] v → ⊥
-ends_with_none v ends = (all-front (λ (x : ℕ). ⊥) ends.0 v (subst (λ (xs : List ℕ). AllByRecursion (λ (x : ℕ). ⊥) xs) ends.1 tt)).1
+ends_with_none v ends = (all-prefix (λ (x : ℕ). ⊥) ends.0 v (subst (λ (xs : List ℕ). AllByRecursion (λ (x : ℕ). ⊥) xs) ends.1 tt)).1
 
 -- the last word stands for each list with the top
 pub stand_for_last : (reading : Reading) (book : List Page) (cut : List ℕ) (bound : ℕ) (top : Top) (list : List ℕ) (w : ℕ) → top.last ≡ Some w

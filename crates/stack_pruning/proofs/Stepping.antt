@@ -11,7 +11,7 @@ use Rattle.value_pruning.proofs.Placing.{cases_deed}
 use Rattle.stack_pruning.specs.LastFirst.{GivesLastFirst, IsSmall, EndsWith}
 
 -- a list is empty, or it has a last item
-pub cases_end : (list : List ℕ) → (list ≡ []) ⊎ ((front : List ℕ) × (x : ℕ) × (list ≡ front ++ x ∷ []))
+pub cases_end : (list : List ℕ) → (list ≡ []) ⊎ ((prefix : List ℕ) × (x : ℕ) × (list ≡ prefix ++ x ∷ []))
 cases_end [] = inl refl
 cases_end (y ∷ rest) = elim (cases_end rest) [
   | inl none ↦ inr ([], y, ap (λ (xs : List ℕ). y ∷ xs) none)
@@ -23,9 +23,9 @@ pub all-append : (P : ℕ → Type 0) (xs : List ℕ) (y : ℕ) → AllByRecursi
 all-append P [] y all it = (it, tt)
 all-append P (x ∷ xs) y all it = (all.0, all-append P xs y all.1 it)
 
-pub all-front : (P : ℕ → Type 0) (xs : List ℕ) (y : ℕ) → AllByRecursion P (xs ++ y ∷ []) → AllByRecursion P xs × P y
-all-front P [] y all = (tt, all.0)
-all-front P (x ∷ xs) y all = let rest = all-front P xs y all.1 in ((all.0, rest.0), rest.1)
+pub all-prefix : (P : ℕ → Type 0) (xs : List ℕ) (y : ℕ) → AllByRecursion P (xs ++ y ∷ []) → AllByRecursion P xs × P y
+all-prefix P [] y all = (tt, all.0)
+all-prefix P (x ∷ xs) y all = let rest = all-prefix P xs y all.1 in ((all.0, rest.0), rest.1)
 
 -- what holds at each index holds of each item
 pub all_by_index : (P : ℕ → Type 0) (list : List ℕ) → ((k : ℕ) → k < length list → P (get_or list k 0)) → AllByRecursion P list
@@ -68,20 +68,20 @@ above-put reading next bound is P op v low other above put it all =
     }
 
 above-take : (reading : Reading) (next : List ℕ → ℕ → List ℕ × ℕ) (bound : ℕ) → GivesLastFirst reading next bound → (P : ℕ → Type 0) → ((x : ℕ) → P x → x < bound)
-    → (op x : ℕ) (low other front : List ℕ) → reading.deed op ≡ Takes → AllByRecursion P (front ++ x ∷ []) → StepsAbove reading next P op low other (front ++ x ∷ [])
-above-take reading next bound is P small op x low other front takes all =
-    let parts = all-front P front x all in
-    let mine : low ++ (front ++ x ∷ []) ≡ (low ++ front) ++ x ∷ [] = sym (append_assoc low front (x ∷ [])) in
-    let its : other ++ (front ++ x ∷ []) ≡ (other ++ front) ++ x ∷ [] = sym (append_assoc other front (x ∷ [])) in
-    let shows : reading.shown (next (low ++ (front ++ x ∷ [])) op).1 ≡ Some x
-    = ap (λ (xs : List ℕ). reading.shown (next xs op).1) mine ∙ is.shows (low ++ front) x op (small x parts.1) takes in
-    let also : reading.shown (next (other ++ (front ++ x ∷ [])) op).1 ≡ Some x
-    = ap (λ (xs : List ℕ). reading.shown (next xs op).1) its ∙ is.shows (other ++ front) x op (small x parts.1) takes in
+    → (op x : ℕ) (low other prefix : List ℕ) → reading.deed op ≡ Takes → AllByRecursion P (prefix ++ x ∷ []) → StepsAbove reading next P op low other (prefix ++ x ∷ [])
+above-take reading next bound is P small op x low other prefix takes all =
+    let parts = all-prefix P prefix x all in
+    let mine : low ++ (prefix ++ x ∷ []) ≡ (low ++ prefix) ++ x ∷ [] = sym (append_assoc low prefix (x ∷ [])) in
+    let its : other ++ (prefix ++ x ∷ []) ≡ (other ++ prefix) ++ x ∷ [] = sym (append_assoc other prefix (x ∷ [])) in
+    let shows : reading.shown (next (low ++ (prefix ++ x ∷ [])) op).1 ≡ Some x
+    = ap (λ (xs : List ℕ). reading.shown (next xs op).1) mine ∙ is.shows (low ++ prefix) x op (small x parts.1) takes in
+    let also : reading.shown (next (other ++ (prefix ++ x ∷ [])) op).1 ≡ Some x
+    = ap (λ (xs : List ℕ). reading.shown (next xs op).1) its ∙ is.shows (other ++ prefix) x op (small x parts.1) takes in
     record {
-      new_above = front;
+      new_above = prefix;
       all = parts.0;
-      one = ap (λ (xs : List ℕ). (next xs op).0) mine ∙ is.take (low ++ front) x op takes;
-      two = ap (λ (xs : List ℕ). (next xs op).0) its ∙ is.take (other ++ front) x op takes;
+      one = ap (λ (xs : List ℕ). (next xs op).0) mine ∙ is.take (low ++ prefix) x op takes;
+      two = ap (λ (xs : List ℕ). (next xs op).0) its ∙ is.take (other ++ prefix) x op takes;
       reply = is.one_reply _ _ x shows also;
       shown = λ e. (x, parts.1, shows);
     }
@@ -126,7 +126,7 @@ small-taken reading next bound is P list op takes all = elim (cases_end list) [
       subst (λ (xs : List ℕ). AllByRecursion P xs) (sym nothing) tt
   | inr some ↦
       let left : (next list op).0 ≡ some.0 = ap (λ (xs : List ℕ). (next xs op).0) some.2 ∙ is.take some.0 some.1 op takes in
-      subst (λ (xs : List ℕ). AllByRecursion P xs) (sym left) (all-front P some.0 some.1 (subst (λ (xs : List ℕ). AllByRecursion P xs) some.2 all)).0
+      subst (λ (xs : List ℕ). AllByRecursion P xs) (sym left) (all-prefix P some.0 some.1 (subst (λ (xs : List ℕ). AllByRecursion P xs) some.2 all)).0
 ]
 
 -- What holds of each item holds after an operation, where it holds of what is put in.

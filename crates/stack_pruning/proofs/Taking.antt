@@ -21,7 +21,7 @@ use Rattle.value_pruning.specs.HoldsLast.{IsWritten}
 use Rattle.value_pruning.proofs.Taking.{word_at, word_is, word_stands, GoesOnAfter, goes_on_over, least_later, its_place, not_done, least_is_twin}
 use Rattle.value_pruning.proofs.Writing.{unwritten_later}
 use Rattle.stack_pruning.specs.LastFirst.{GivesLastFirst, IsSmall, TakesLast}
-use Rattle.stack_pruning.proofs.Stepping.{all-front, steps_above}
+use Rattle.stack_pruning.proofs.Stepping.{all-prefix, steps_above}
 
 -- an item below a bound that isn't this value
 abbrev pub IsAnother : ℕ → ℕ → ℕ → Type 0
@@ -108,7 +108,7 @@ last_take_suffices reading next bound is book cut list caller marks all valid on
     let v : ℕ = takes.value in
     let below : List ℕ = takes.last.0 in
     let take : Call = next_call cut caller in
-    let small : v < bound = (all-front (λ (x : ℕ). x < bound) below v (subst (λ (xs : List ℕ). IsSmall bound xs) takes.last.1 all)).1 in
+    let small : v < bound = (all-prefix (λ (x : ℕ). x < bound) below v (subst (λ (xs : List ℕ). IsSmall bound xs) takes.last.1 all)).1 in
     let on = taken_later reading next bound is book v take small valid one rest cut below [] wide may takes.takes takes.no_more tt
     (subst (λ (xs : List ℕ). Continues book next cut xs rest) (takes.last.1 ∙ sym (append-nil (below ++ v ∷ []))) goes) in
     let stands = take_stands reading next bound is book cut v below take takes.takes small cut may in

@@ -26,18 +26,18 @@ split_uncut byte bytes e =
     slice_split_none p bytes (λ k d lt. fails_before_first p bytes k d (omega arith))
 
 -- where the list is cut, the first part stands before the byte
-pub split_cut : (byte : ℕ) (bytes front rest : List ℕ) → cut_at byte bytes ≡ Some (front, rest) → slice_split (λ b. eqb b byte) bytes ≡ front ∷ slice_split (λ b. eqb b byte) rest
-split_cut byte bytes front rest e =
+pub split_cut : (byte : ℕ) (bytes prefix rest : List ℕ) → cut_at byte bytes ≡ Some (prefix, rest) → slice_split (λ b. eqb b byte) bytes ≡ prefix ∷ slice_split (λ b. eqb b byte) rest
+split_cut byte bytes prefix rest e =
     let p = λ (b : ℕ). eqb b byte in
-    let c = chosen_some (ltb (position_or_len p bytes) (length bytes)) (position_or_len p bytes) bytes (front, rest) e in
+    let c = chosen_some (ltb (position_or_len p bytes) (length bytes)) (position_or_len p bytes) bytes (prefix, rest) e in
     let lt : position_or_len p bytes < length bytes = ltb-true _ _ c.0 in
     slice_split_first p bytes 0 lt ∙ ap (λ (x : List ℕ × List ℕ). x.0 ∷ slice_split p x.1) c.1
 
 -- the parts and the byte between them are the list
-pub cut_joins : (byte : ℕ) (bytes front rest : List ℕ) → cut_at byte bytes ≡ Some (front, rest) → bytes ≡ front ++ byte ∷ rest
-cut_joins byte bytes front rest e =
+pub cut_joins : (byte : ℕ) (bytes prefix rest : List ℕ) → cut_at byte bytes ≡ Some (prefix, rest) → bytes ≡ prefix ++ byte ∷ rest
+cut_joins byte bytes prefix rest e =
     let p = λ (b : ℕ). eqb b byte in
-    let c = chosen_some (ltb (position_or_len p bytes) (length bytes)) (position_or_len p bytes) bytes (front, rest) e in
+    let c = chosen_some (ltb (position_or_len p bytes) (length bytes)) (position_or_len p bytes) bytes (prefix, rest) e in
     let lt : position_or_len p bytes < length bytes = ltb-true _ _ c.0 in
     let at : get_or bytes (position_or_len p bytes) 0 ≡ byte = eqb-true _ _ (passes_at_first p bytes 0 lt) in
     split_at_first p bytes 0 lt ∙ ap (λ b. before_first p bytes ++ b ∷ after_first p bytes) at ∙ ap (λ (x : List ℕ × List ℕ). x.0 ++ byte ∷ x.1) c.1

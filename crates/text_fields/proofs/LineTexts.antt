@@ -11,7 +11,7 @@ use Rattle.std.proofs.lemmas.List.Concat.{flat_map-cons, flat_map-append}
 use Rattle.std.proofs.lemmas.List.Splits.{join_with_byte-slice_split}
 use Rattle.book_base.specs.declared.fault.TextFault.{TextFault}
 use Rattle.text_fields.specs.Lines.{Unread, line_text, text_of, IsSolid, AreSolid, cut_at, line_from, line_at, words_of}
-use Rattle.list_laws.proofs.Splits.{Lacks, prefix_len-front, slice_split-join_with_byte}
+use Rattle.list_laws.proofs.Splits.{Lacks, prefix_len-prefix, slice_split-join_with_byte}
 use Rattle.text_fields.proofs.Cuts.{cut_joins, chosen_some}
 
 -- no byte of the list is this one
@@ -44,27 +44,27 @@ lacks-solid byte (b ∷ word) le e =
 lacks-append : (byte : ℕ) (xs ys : List ℕ) → lacks byte xs ≡ true → lacks byte ys ≡ true → lacks byte (xs ++ ys) ≡ true
 lacks-append byte xs ys a b = list_all-append (λ b. not (eqb b byte)) xs ys ∙ and_from (lacks byte xs) (lacks byte ys) a b
 
--- a list is cut behind a front that lacks the byte
-pub cut_front : (byte : ℕ) (front rest : List ℕ) → lacks byte front ≡ true → cut_at byte (front ++ byte ∷ rest) ≡ Some (front, rest)
-cut_front byte front rest h =
-    let whole = front ++ byte ∷ rest in
-    let at : prefix_len (λ b. not (eqb b byte)) whole ≡ length front = prefix_len-front (λ b. not (eqb b byte)) front byte rest h (ap not (eq-eqb byte byte refl)) in
-    let inside : ltb (length front) (length whole) ≡ true = lt-ltb _ _ (omega (arith, length-append front (byte ∷ rest))) in
-    let before : take (length front) whole ≡ front = take_at front (byte ∷ rest) (length front) refl in
-    let behind : drop (length front + 1) whole ≡ rest = ap (drop (length front + 1)) (sym (append_assoc front (byte ∷ []) rest)) ∙ drop_at (front ++ byte ∷ []) rest (length front + 1) (length-append front (byte ∷ [])) in
+-- a list is cut after a prefix that lacks the byte
+pub cut_prefix : (byte : ℕ) (prefix rest : List ℕ) → lacks byte prefix ≡ true → cut_at byte (prefix ++ byte ∷ rest) ≡ Some (prefix, rest)
+cut_prefix byte prefix rest h =
+    let whole = prefix ++ byte ∷ rest in
+    let at : prefix_len (λ b. not (eqb b byte)) whole ≡ length prefix = prefix_len-prefix (λ b. not (eqb b byte)) prefix byte rest h (ap not (eq-eqb byte byte refl)) in
+    let inside : ltb (length prefix) (length whole) ≡ true = lt-ltb _ _ (omega (arith, length-append prefix (byte ∷ rest))) in
+    let before : take (length prefix) whole ≡ prefix = take_at prefix (byte ∷ rest) (length prefix) refl in
+    let suffix : drop (length prefix + 1) whole ≡ rest = ap (drop (length prefix + 1)) (sym (append_assoc prefix (byte ∷ []) rest)) ∙ drop_at (prefix ++ byte ∷ []) rest (length prefix + 1) (length-append prefix (byte ∷ [])) in
     rw (at, inside) cc
 
 -- what stands before the first such byte is cut off so before other bytes
-pub cut_again : (byte : ℕ) (bytes front rest other : List ℕ) → cut_at byte bytes ≡ Some (front, rest) → cut_at byte (front ++ byte ∷ other) ≡ Some (front, other)
-cut_again byte bytes front rest other e =
+pub cut_again : (byte : ℕ) (bytes prefix rest other : List ℕ) → cut_at byte bytes ≡ Some (prefix, rest) → cut_at byte (prefix ++ byte ∷ other) ≡ Some (prefix, other)
+cut_again byte bytes prefix rest other e =
     let p = λ (b : ℕ). eqb b byte in
-    let c = chosen_some (ltb (position_or_len p bytes) (length bytes)) (position_or_len p bytes) bytes (front, rest) e in
-    let is : take (position_or_len p bytes) bytes ≡ front = ap (λ (x : List ℕ × List ℕ). x.0) c.1 in
+    let c = chosen_some (ltb (position_or_len p bytes) (length bytes)) (position_or_len p bytes) bytes (prefix, rest) e in
+    let is : take (position_or_len p bytes) bytes ≡ prefix = ap (λ (x : List ℕ × List ℕ). x.0) c.1 in
     let clean : list_all (λ b. not (eqb b byte)) (take (position_or_len p bytes) bytes) ≡ true
     = list_all-from_AllPass (λ b. not (eqb b byte)) (take (position_or_len p bytes) bytes) (λ k d lt.
     let before : k < position_or_len p bytes = omega (arith, length-take (position_or_len p bytes) bytes) in
     ap not (ap p (get_or-take (position_or_len p bytes) bytes k d before) ∙ fails_before_first p bytes k d before)) in
-    cut_front byte front other (subst (λ (x : List ℕ). list_all (λ b. not (eqb b byte)) x ≡ true) is clean)
+    cut_prefix byte prefix other (subst (λ (x : List ℕ). list_all (λ b. not (eqb b byte)) x ≡ true) is clean)
 
 -- ---- lines
 
@@ -105,7 +105,7 @@ line_takes text line left e = line_from_takes text.bytes text.number (cut_at 10 
 pub cut_line : (words : List (List ℕ)) (rest : List ℕ) → AreSolid words → cut_at 10 (line_text words ++ rest) ≡ Some (join_with_byte 32 words, rest)
 cut_line words rest h =
     let parts : line_text words ++ rest ≡ join_with_byte 32 words ++ 10 ∷ rest = append_assoc (join_with_byte 32 words) (10 ∷ []) rest in
-    ap (cut_at 10) parts ∙ cut_front 10 (join_with_byte 32 words) rest (clean_join words (above_words words h.each))
+    ap (cut_at 10) parts ∙ cut_prefix 10 (join_with_byte 32 words) rest (clean_join words (above_words words h.each))
 
 -- a text of one line more
 pub text_of-cons : (words : List (List ℕ)) (lines : List (List (List ℕ))) (rest : List ℕ) → text_of (words ∷ lines) ++ rest ≡ line_text words ++ (text_of lines ++ rest)

@@ -9,7 +9,7 @@ use Rattle.seq_objects.specs.Words.{IsWord}
 use Rattle.seq_objects.proofs.Texts.{IsWord-decimal}
 use Rattle.text_fields.specs.Lines.{IsSolid, cut_at}
 use Rattle.text_fields.specs.Counts.{AreAtMost, AreNumbers, AreParts, IsPair, IsNoPair, pair_word, pair_words, HasBadPair, NoPairFirst}
-use Rattle.text_fields.proofs.LineTexts.{lacks, cut_front}
+use Rattle.text_fields.proofs.LineTexts.{lacks, cut_prefix}
 
 -- the first of two words
 pub same_first : (v w : List ℕ) (x y : List (List ℕ)) → v ∷ x ≡ w ∷ y → (v ≡ w) × (x ≡ y)
@@ -41,30 +41,30 @@ some_next None P Q e h = absurd cc
 some_next (Some x) P Q e h = (x, h)
 
 -- where fewer numbers were read than there are, the next is there
-pub number_behind : (most : ℕ) (xs ys : List ℕ) (words : List (List ℕ)) → map decimal xs ++ words ≡ map decimal ys → length xs < length ys → AreAtMost most ys
-    → (n : ℕ) × (behind : List (List ℕ)) × (n ≤ most) × (words ≡ decimal n ∷ behind)
-number_behind most xs [] words e lt h = absurd (omega arith)
-number_behind most [] (y ∷ ys) words e lt h = (y, map decimal ys, h.0, e)
-number_behind most (x ∷ xs) (y ∷ ys) words e lt h = number_behind most xs ys words (same_first (decimal x) (decimal y) (map decimal xs ++ words) (map decimal ys) e).1 (omega arith) h.1
+pub number_after : (most : ℕ) (xs ys : List ℕ) (words : List (List ℕ)) → map decimal xs ++ words ≡ map decimal ys → length xs < length ys → AreAtMost most ys
+    → (n : ℕ) × (suffix : List (List ℕ)) × (n ≤ most) × (words ≡ decimal n ∷ suffix)
+number_after most xs [] words e lt h = absurd (omega arith)
+number_after most [] (y ∷ ys) words e lt h = (y, map decimal ys, h.0, e)
+number_after most (x ∷ xs) (y ∷ ys) words e lt h = number_after most xs ys words (same_first (decimal x) (decimal y) (map decimal xs ++ words) (map decimal ys) e).1 (omega arith) h.1
 
 -- where all were read, nothing is left
-pub nothing_behind : (xs ys : List ℕ) (words : List (List ℕ)) → map decimal xs ++ words ≡ map decimal ys → length xs ≡ length ys → words ≡ []
-nothing_behind [] [] words e same = e
-nothing_behind [] (y ∷ ys) words e same = absurd (omega arith)
-nothing_behind (x ∷ xs) [] words e same = absurd (omega arith)
-nothing_behind (x ∷ xs) (y ∷ ys) words e same = nothing_behind xs ys words (same_first (decimal x) (decimal y) (map decimal xs ++ words) (map decimal ys) e).1 (omega arith)
+pub nothing_after : (xs ys : List ℕ) (words : List (List ℕ)) → map decimal xs ++ words ≡ map decimal ys → length xs ≡ length ys → words ≡ []
+nothing_after [] [] words e same = e
+nothing_after [] (y ∷ ys) words e same = absurd (omega arith)
+nothing_after (x ∷ xs) [] words e same = absurd (omega arith)
+nothing_after (x ∷ xs) (y ∷ ys) words e same = nothing_after xs ys words (same_first (decimal x) (decimal y) (map decimal xs ++ words) (map decimal ys) e).1 (omega arith)
 
 -- ---- pairs
 
 -- the parts of a pair
 pub pair_parts : (j count : ℕ) → j < 2 ^ 64 → cut_at 58 (pair_word j count) ≡ Some (decimal j, decimal count)
-pair_parts j count small = cut_front 58 (decimal j) (decimal count) (lacks-decimal j small)
+pair_parts j count small = cut_prefix 58 (decimal j) (decimal count) (lacks-decimal j small)
 
--- what stands before the colon of a pair, and behind it
-pub pair_split : (n : ℕ) (front behind : List ℕ) (j count : ℕ) → n ≤ 2 ^ 64 → AreParts front behind → IsPair n (front ++ 58 ∷ behind) j count → (front ≡ decimal j) × (behind ≡ decimal count)
-pair_split n front behind j count few parts h =
-    let both : ◌≡◌ {A = Option (List ℕ × List ℕ)} (Some (front, behind)) (Some (decimal j, decimal count)) = sym parts ∙ ap (cut_at 58) h.text ∙ pair_parts j count (omega (arith, h.caller)) in
-    some_pair_parts front (decimal j) behind (decimal count) both
+-- what stands before the colon of a pair, and after it
+pub pair_split : (n : ℕ) (prefix suffix : List ℕ) (j count : ℕ) → n ≤ 2 ^ 64 → AreParts prefix suffix → IsPair n (prefix ++ 58 ∷ suffix) j count → (prefix ≡ decimal j) × (suffix ≡ decimal count)
+pair_split n prefix suffix j count few parts h =
+    let both : ◌≡◌ {A = Option (List ℕ × List ℕ)} (Some (prefix, suffix)) (Some (decimal j, decimal count)) = sym parts ∙ ap (cut_at 58) h.text ∙ pair_parts j count (omega (arith, h.caller)) in
+    some_pair_parts prefix (decimal j) suffix (decimal count) both
 
 -- a cut of zeros has no pairs
 pub pair_words-zeros : (b : ℕ) (cut : List ℕ) → ((k : ℕ) → get_or cut k 0 ≡ 0) → pair_words b cut ≡ []
@@ -103,9 +103,9 @@ pub lacks_pair : (word : List ℕ) (words all : List (List ℕ)) → all ≡ wor
 lacks_pair word words all e cut = rw e (ap is_some cut)
 
 -- words that begin with a bad pair
-pub bad_word : (n least : ℕ) (front behind : List ℕ) (words all : List (List ℕ)) → all ≡ (front ++ 58 ∷ behind) ∷ words → AreParts front behind → IsNoPair n (front ++ 58 ∷ behind) → HasBadPair n least all
-bad_word n least front behind words all e parts h = rw e (ap is_some parts, inl h)
+pub bad_word : (n least : ℕ) (prefix suffix : List ℕ) (words all : List (List ℕ)) → all ≡ (prefix ++ 58 ∷ suffix) ∷ words → AreParts prefix suffix → IsNoPair n (prefix ++ 58 ∷ suffix) → HasBadPair n least all
+bad_word n least prefix suffix words all e parts h = rw e (ap is_some parts, inl h)
 
-pub low_pair : (n least : ℕ) (front behind : List ℕ) (j count : ℕ) (words all : List (List ℕ)) → all ≡ (front ++ 58 ∷ behind) ∷ words → AreParts front behind → IsPair n (front ++ 58 ∷ behind) j count
+pub low_pair : (n least : ℕ) (prefix suffix : List ℕ) (j count : ℕ) (words all : List (List ℕ)) → all ≡ (prefix ++ 58 ∷ suffix) ∷ words → AreParts prefix suffix → IsPair n (prefix ++ 58 ∷ suffix) j count
     → (j < least) ⊎ HasBadPair n (j + 1) words → HasBadPair n least all
-low_pair n least front behind j count words all e parts h k = rw e (ap is_some parts, inr (j, count, h, k))
+low_pair n least prefix suffix j count words all e parts h k = rw e (ap is_some parts, inr (j, count, h, k))

@@ -144,7 +144,7 @@ only_test Fails what h only = record { fails = h; first = λ other lt k. let sam
 same_parts : (a b c d : List ℕ) → ◌≡◌ {A = Option (List ℕ × List ℕ)} (Some (a, b)) (Some (c, d)) → (a ≡ c) × (b ≡ d)
 same_parts a b c d e = let same : ◌≡◌ {A = List ℕ × List ℕ} (a, b) (c, d) = cc in (ap (λ (x : List ℕ × List ℕ). x.0) same, ap (λ (x : List ℕ × List ℕ). x.1) same)
 
--- lines that stand in front of one text are the same line
+-- lines that stand before one text are the same line
 pub same_line : (v w : List (List ℕ)) (x y : List ℕ) → AreSolid v → AreSolid w → line_text v ++ x ≡ line_text w ++ y → (v ≡ w) × (x ≡ y)
 same_line v w x y h k e =
     let parts = same_parts (join_with_byte 32 v) x (join_with_byte 32 w) y (sym (cut_line v x h) ∙ ap (cut_at 10) e ∙ cut_line w y k) in
@@ -233,7 +233,7 @@ module _ {Due : Type 0} (rules : Rules Due) where
             let same : ◌≡◌ {A = List ℕ × Unread} (parts.0, record { bytes = parts.1; number = text.number + 1 }) (line, left) = cc in
             is ∙ ap (λ (x : List ℕ × Unread). Some (x.0, x.1.bytes)) same
 
-  -- bytes behind the end
+  -- bytes after the end
   pub stops_rest : (due : Due) (text : Unread) → rules.wanted due ≡ TheEnd → text.bytes ≢ [] → IsFirstFault rules due text (record { line = text.number; what = Rest })
   stops_rest due text w h = record {
     reached = due;

@@ -34,7 +34,7 @@ has_colon word = is_some (cut_at 58 word)
 
 -- what stands before the first colon of a word, and what stands after it
 abbrev pub AreParts : List ℕ → List ℕ → Type 0
-AreParts front behind = cut_at 58 (front ++ 58 ∷ behind) ≡ Some (front, behind)
+AreParts prefix suffix = cut_at 58 (prefix ++ 58 ∷ suffix) ≡ Some (prefix, suffix)
 
 -- the word is a pair J:C, with J below n and C a number above 0
 pub record IsPair (n : ℕ) (word : List ℕ) (j count : ℕ) : Type 0 where
@@ -55,9 +55,9 @@ HasBadPair n least (word ∷ words) = IsTrue (has_colon word)
     × (IsNoPair n word ⊎ ((j : ℕ) × (count : ℕ) × IsPair n word j count × ((j < least) ⊎ HasBadPair n (j + 1) words)))
 
 -- a word without a colon is among these words
-abbrev pub HasWordBehindPairs : List (List ℕ) → Type 0
-HasWordBehindPairs [] = ⊥
-HasWordBehindPairs (word ∷ words) = (has_colon word ≡ false) ⊎ HasWordBehindPairs words
+abbrev pub HasWordAfterPairs : List (List ℕ) → Type 0
+HasWordAfterPairs [] = ⊥
+HasWordAfterPairs (word ∷ words) = (has_colon word ≡ false) ⊎ HasWordAfterPairs words
 
 -- the words don't begin with a word with a colon
 abbrev pub NoPairFirst : List (List ℕ) → Type 0

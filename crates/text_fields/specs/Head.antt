@@ -36,7 +36,7 @@ pub record AreCallers (version : Version) (n : ℕ) : Type 0 where
   pub some : 1 ≤ n
   pub few : n ≤ most_callers version
 
--- the numbers of calls of so many callers are those that texts have
+-- the numbers of calls of this many callers are those that texts have
 pub record AreCalls (version : Version) (n : ℕ) (calls : List ℕ) : Type 0 where
   pub count : length calls ≡ n
   pub few : AreAtMost (most_calls version) calls

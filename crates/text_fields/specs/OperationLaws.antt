@@ -46,8 +46,8 @@ one_kind_operation version kind a b x y h k e =
     let some = few_operation_words kind a in
     let other = few_operation_words kind b in
     (Spells-once kind (operation_words kind b ++ y) a b (length (operation_words kind a) - 1) (length (operation_words kind b) - 1) (small_word version a h) (small_word version b k)
-    (record { behind = x; whole = sym e; count = omega (arith, some.some) })
-    (record { behind = y; whole = refl; count = omega (arith, other.some) })).0
+    (record { suffix = x; whole = sym e; count = omega (arith, some.some) })
+    (record { suffix = y; whole = refl; count = omega (arith, other.some) })).0
 
 pub solid_kind_words : (version : Version) (kind : Kind) (op : ℕ) → IsTrue (nat_lt op (word_limit version)) → AreSolid (operation_words kind op)
 solid_kind_words version kind op h = record {

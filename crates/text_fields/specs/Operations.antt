@@ -10,11 +10,11 @@ pub record Operations : Type 0 where
   pub has : ℕ → Bool
   pub words : ℕ → List (List ℕ)
 
--- Words begin with those of an operation: a first one, and so many further ones.
+-- Words begin with those of an operation: a first one, and this many further ones.
 pub record IsSpelled (operations : Operations) (words : List (List ℕ)) (op used : ℕ) : Type 0 where
   pub has : IsTrue (operations.has op)
-  pub behind : List (List ℕ)
-  pub whole : words ≡ operations.words op ++ behind
+  pub suffix : List (List ℕ)
+  pub whole : words ≡ operations.words op ++ suffix
   pub count : length (operations.words op) ≡ used + 1
 
 -- the operations of a sequential object, in a text of a version

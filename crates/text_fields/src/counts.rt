@@ -13,7 +13,7 @@ pub fn next_number(words: &mut Words, most: u64) -> Option<u64>
     // A number that was found is at most this, and its digits were the next word, which is taken.
     ensures found { IfSome result (λ n. (n ≤ most) × (words.old ≡ decimal n ∷ words.new)) }
     // No number is found only where the next word is no number, or one above this.
-    ensures none { IfNone result ((n : ℕ) (behind : List (List ℕ)) → n ≤ most → words.old ≢ decimal n ∷ behind) }
+    ensures none { IfNone result ((n : ℕ) (suffix : List (List ℕ)) → n ≤ most → words.old ≢ decimal n ∷ suffix) }
 {
     let n = number(words.next()?)?;
     if n <= most { Some(n) } else { None }

@@ -45,12 +45,12 @@ pub fn read_pairs(words: &mut Words, n: u32) -> Option<Cut>
 /// Takes the next word, where it has a colon: what stands before its first colon, and what after
 /// it.
 fn next_parts<'a>(words: &mut Words<'a>) -> Option<(&'a [u8], &'a [u8])>
-    ensures found { IfSome result (λ (front, behind). (words.old ≡ (front.now ++ 58 ∷ behind.now) ∷ words.new) × AreParts front.now behind.now) }
+    ensures found { IfSome result (λ (prefix, suffix). (words.old ≡ (prefix.now ++ 58 ∷ suffix.now) ∷ words.new) × AreParts prefix.now suffix.now) }
     ensures none { IfNone result (NoPairFirst words.old × (words.new ≡ words.old)) }
 {
-    let mut behind = words.copy();
-    let parts = cut_at(b':', behind.next()?)?;
-    *words = behind;
+    let mut suffix = words.copy();
+    let parts = cut_at(b':', suffix.next()?)?;
+    *words = suffix;
     Some(parts)
 }
 

@@ -159,7 +159,7 @@ one_listed calls a b one at_a at_b =
 
 -- ---- places
 
--- the calls at a place, with one more place behind
+-- the calls at a place, with one more place after
 at_pushed : (f : Labelled → List Call) (xs : List Labelled) (new : Labelled) (k : ℕ) → k < length xs → get_or (map f xs) k [] ≡ get_or (map f (xs ++ new ∷ [])) k []
 at_pushed f [] new k inside = absurd (omega (arith, inside))
 at_pushed f (x ∷ xs) new zero inside = refl
@@ -193,7 +193,7 @@ length-set_ (x ∷ xs) (suc i) new = ap suc (length-set_ xs i new)
 none_listed : (c : Call) → IsListed [] c → ⊥
 none_listed c listed = omega (arith, slice_get_within {A = Call} [] listed.0 c listed.1)
 
--- what is listed at a place stays so where a new one is set behind
+-- what is listed at a place stays so where a new one is set after
 listed_on : (f : Labelled → List Call) (at : Option ℕ → List Call) (xs : List Labelled) (new : Labelled) (at_new : Option ℕ → List Call) (o : Option ℕ) (c : Call)
     → ((k : ℕ) → at (Some k) ≡ get_or (map f xs) k []) → ((k : ℕ) → at_new (Some k) ≡ get_or (map f (xs ++ new ∷ [])) k []) → at None ≡ []
     → ((k : ℕ) → o ≡ Some k → k < length xs) → IsListed (at o) c → IsListed (at_new o) c

@@ -34,7 +34,7 @@ word_stands book place is = elim (slice_get_cases (page_of book place.caller).op
   | inr past ↦ absurd (omega (arith, is, past.0))
 ]
 
--- What goes on once another caller's call has come, from a list: with so many places less than these.
+-- What goes on once another caller's call has come, from a list: with this many places less than these.
 abbrev pub GoesOnAfter : ℕ → List Page → (List ℕ → ℕ → List ℕ × ℕ) → List ℕ → ℕ → List ℕ → List Place → Type 0
 GoesOnAfter less book next cut i list rest = (other : List Place) × Continues book next (raised cut i) list other × (length other + less < length rest)
 
@@ -75,9 +75,9 @@ not_done reading book cut v take may takes held =
     omega (arith, out, may.next)
 
 -- a list is empty, or it has a first item
-cases_front : (list : List ℕ) → (list ≡ []) ⊎ ((x : ℕ) × (rest : List ℕ) × (list ≡ x ∷ rest))
-cases_front [] = inl refl
-cases_front (x ∷ rest) = inr (x, rest, refl)
+cases_prefix : (list : List ℕ) → (list ≡ []) ⊎ ((x : ℕ) × (rest : List ℕ) × (list ≡ x ∷ rest))
+cases_prefix [] = inl refl
+cases_prefix (x ∷ rest) = inr (x, rest, refl)
 
 -- A value in a list: all items before it are less, and none after it is.
 pub record Parted (low : ℕ) (before after : List ℕ) : Type 0 where
@@ -164,7 +164,7 @@ steps_alike : (reading : Reading) (next : List ℕ → ℕ → List ℕ × ℕ) 
 steps_alike reading next bound is low op before after small parted = elim (cases_deed (reading.deed op)) [
   | inl put ↦ inl (alike-put reading next bound is low op put.0 before after put.1 parted)
   | inr other ↦ elim other [
-    | inl takes ↦ elim (cases_front before) [
+    | inl takes ↦ elim (cases_prefix before) [
       | inl none ↦ inr (takes, none)
       | inr some ↦
           inl (subst (λ (xs : List ℕ). StepsAlike reading next low op xs after) (sym some.2)

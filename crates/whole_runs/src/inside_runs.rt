@@ -62,7 +62,7 @@ const SIZES: [Size; 6] = [
     },
 ];
 
-// Sixteen callers with all the calls that a table may have: a log of them is full behind the last one.
+// Sixteen callers with all the calls that a table may have: a log of them is full after the last one.
 const WHOLE: Size = Size {
     callers: 16,
     calls: 256,

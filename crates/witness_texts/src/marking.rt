@@ -16,7 +16,7 @@ use seq_objects::Kind;
 use smaller_book::shrink;
 use std::alloc::Global;
 
-/// A smaller book is sought of a book of at most so many calls, since each try is a whole check.
+/// A smaller book is sought of a book of at most this many calls, since each try is a whole check.
 const MOST_CALLS: u64 = 1024;
 
 /// The calls that are marked in the picture of a book, of which this is the verdict: none where it has a

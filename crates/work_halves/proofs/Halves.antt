@@ -2,14 +2,14 @@
 use Rattle.std.proofs.Common.{◌≡◌, List, [], ◌∷◌, ◌++◌}
 use Rattle.std.specs.List.{AllZip}
 
-all_zip-append : {X Y : Type 0} (R : X → Y → Type 0) (front behind : List X) (front' behind' : List Y)
-    → AllZip R front front' → AllZip R behind behind' → AllZip R (front ++ behind) (front' ++ behind')
-all_zip-append R [] behind [] behind' at_front at_behind = at_behind
-all_zip-append R [] behind (y ∷ ys) behind' at_front at_behind = absurd at_front
-all_zip-append R (x ∷ xs) behind [] behind' at_front at_behind = absurd at_front
-all_zip-append R (x ∷ xs) behind (y ∷ ys) behind' at_front at_behind = (at_front.0, all_zip-append R xs behind ys behind' at_front.1 at_behind)
+all_zip-append : {X Y : Type 0} (R : X → Y → Type 0) (prefix suffix : List X) (prefix' suffix' : List Y)
+    → AllZip R prefix prefix' → AllZip R suffix suffix' → AllZip R (prefix ++ suffix) (prefix' ++ suffix')
+all_zip-append R [] suffix [] suffix' at_prefix at_after = at_after
+all_zip-append R [] suffix (y ∷ ys) suffix' at_prefix at_after = absurd at_prefix
+all_zip-append R (x ∷ xs) suffix [] suffix' at_prefix at_after = absurd at_prefix
+all_zip-append R (x ∷ xs) suffix (y ∷ ys) suffix' at_prefix at_after = (at_prefix.0, all_zip-append R xs suffix ys suffix' at_prefix.1 at_after)
 
 -- so it is where the whole is said to be the two parts
-pub all_zip-of_parts : {X Y : Type 0} (R : X → Y → Type 0) (whole front behind : List X) (front' behind' : List Y) → whole ≡ front ++ behind
-    → AllZip R front front' → AllZip R behind behind' → AllZip R whole (front' ++ behind')
-all_zip-of_parts R whole front behind front' behind' is at_front at_behind = rw is (all_zip-append R front behind front' behind' at_front at_behind)
+pub all_zip-of_parts : {X Y : Type 0} (R : X → Y → Type 0) (whole prefix suffix : List X) (prefix' suffix' : List Y) → whole ≡ prefix ++ suffix
+    → AllZip R prefix prefix' → AllZip R suffix suffix' → AllZip R whole (prefix' ++ suffix')
+all_zip-of_parts R whole prefix suffix prefix' suffix' is at_prefix at_after = rw is (all_zip-append R prefix suffix prefix' suffix' at_prefix at_after)

@@ -37,8 +37,8 @@ pub fn work_all<R: Threads + Sync, C: Sync, W: Work<C>>(rt: &R, shared: &C, all:
         0 => {}
         1 => all[0].work(shared),
         count => {
-            let (front, behind) = all.split_at_mut(count / 2);
-            work_beside(rt, shared, front, behind);
+            let (prefix, suffix) = all.split_at_mut(count / 2);
+            work_beside(rt, shared, prefix, suffix);
         }
     }
 }
@@ -48,24 +48,24 @@ pub fn work_all<R: Threads + Sync, C: Sync, W: Work<C>>(rt: &R, shared: &C, all:
 fn work_beside<R: Threads + Sync, C: Sync, W: Work<C>>(
     rt: &R,
     shared: &C,
-    front: &mut [W],
-    behind: &mut [W],
+    prefix: &mut [W],
+    suffix: &mut [W],
 )
-    requires both { (0 < length front.old) × (0 < length behind.old) }
-    requires front { All (λ w. W.ready w shared.now) front.old }
-    requires behind { All (λ w. W.ready w shared.now) behind.old }
-    ensures front { AllZip (λ before after. W.done before shared.now after) front.old front.new }
-    ensures behind { AllZip (λ before after. W.done before shared.now after) behind.old behind.new }
+    requires both { (0 < length prefix.old) × (0 < length suffix.old) }
+    requires prefix { All (λ w. W.ready w shared.now) prefix.old }
+    requires suffix { All (λ w. W.ready w shared.now) suffix.old }
+    ensures prefix { AllZip (λ before after. W.done before shared.now after) prefix.old prefix.new }
+    ensures suffix { AllZip (λ before after. W.done before shared.now after) suffix.old suffix.new }
 {
-    let mut in_front = ||
-        requires { IsSync R.row × IsSync C.row × IsSend W.row × All (λ w. W.ready w shared.now) front.now }
-        ensures { AllZip (λ before after. W.done before shared.entry.now after) front.entry.now front.exit.now }
-    { work_all(rt, shared, front) };
-    let mut from_behind = ||
-        requires { IsSync R.row × IsSync C.row × IsSend W.row × All (λ w. W.ready w shared.now) behind.now }
-        ensures { AllZip (λ before after. W.done before shared.entry.now after) behind.entry.now behind.exit.now }
-    { work_all(rt, shared, behind) };
-    join_mut(rt, &mut in_front, &mut from_behind);
+    let mut in_prefix = ||
+        requires { IsSync R.row × IsSync C.row × IsSend W.row × All (λ w. W.ready w shared.now) prefix.now }
+        ensures { AllZip (λ before after. W.done before shared.entry.now after) prefix.entry.now prefix.exit.now }
+    { work_all(rt, shared, prefix) };
+    let mut from_suffix = ||
+        requires { IsSync R.row × IsSync C.row × IsSend W.row × All (λ w. W.ready w shared.now) suffix.now }
+        ensures { AllZip (λ before after. W.done before shared.entry.now after) suffix.entry.now suffix.exit.now }
+    { work_all(rt, shared, suffix) };
+    join_mut(rt, &mut in_prefix, &mut from_suffix);
 }
 
 /// The workers of a list work, and beside them two workers of another kind, each kind over what its own share.

@@ -26,7 +26,7 @@ use Rattle.world_books.proofs.Validity.{all_lengths, book_long, books_are_valid,
 use Rattle.world_books.proofs.LegalOrders.{stands, contained, linearizations_are_legal_orders}
 use Rattle.world_books.proofs.Recording.{steps_carry, invoked_is_announced, invoked_since, ReturnStep, returned_since, history_from-append, reply_stands}
 
--- what stands behind a list
+-- what stands after a list
 slice_get-append_add : {X : Type 0} (xs ys : List X) (k : ℕ) → slice_get (xs ++ ys) (length xs + k) ≡ slice_get ys k
 slice_get-append_add [] ys k = let none : 0 + k ≡ k = omega arith in ap (slice_get ys) none
 slice_get-append_add (x ∷ xs) ys k =
@@ -47,21 +47,21 @@ module _ (s : Shape) (before later : List Step) (i x reply : ℕ) (run : IsRun s
   abbrev number : ℕ
   number = length (local_of here i).replies
 
-  abbrev front : List Happening
-  front = history_of s before
+  abbrev prefix : List Happening
+  prefix = history_of s before
 
   abbrev rest : List Happening
   rest = history_from s (after s here back) later
 
-  split : history_of s whole ≡ front ++ Returned (call_of i number) reply ∷ rest
+  split : history_of s whole ≡ prefix ++ Returned (call_of i number) reply ∷ rest
   split = history_from-append s (start s) before (back ∷ later)
 
-  return_at : slice_get (history_of s whole) (length front + 0) ≡ Some (Returned (call_of i number) reply)
-  return_at = ap (λ (hs : List Happening). slice_get hs (length front + 0)) split ∙ slice_get-append_add front (Returned (call_of i number) reply ∷ rest) 0
+  return_at : slice_get (history_of s whole) (length prefix + 0) ≡ Some (Returned (call_of i number) reply)
+  return_at = ap (λ (hs : List Happening). slice_get hs (length prefix + 0)) split ∙ slice_get-append_add prefix (Returned (call_of i number) reply ∷ rest) 0
 
   -- the call returned with this reply, which stands to the end
   returns : Contains (history_of s whole) (Returned (call_of i number) reply)
-  returns = contained (history_of s whole) (length front + 0) (Returned (call_of i number) reply) return_at
+  returns = contained (history_of s whole) (length prefix + 0) (Returned (call_of i number) reply) return_at
 
   reply_is : slice_get (local_of (end_of s whole) i).replies number ≡ Some reply
   reply_is =
@@ -72,17 +72,17 @@ module _ (s : Shape) (before later : List Step) (i x reply : ℕ) (run : IsRun s
       ((steps_carry s (after s here back) later i (step_kept s here back on.kept parts.0) parts.1).replies number reply stood)
 
   -- a call that wasn't announced then was invoked afterwards
-  behind : (b : Call) (op : ℕ) → Contains (Returned (call_of i number) reply ∷ rest) (Invoked b op) → ReturnsBefore (history_of s whole) (call_of i number) b
-  behind b op (zero, low, is) = absurd cc
-  behind b op (suc q, low, is) =
+  suffix : (b : Call) (op : ℕ) → Contains (Returned (call_of i number) reply ∷ rest) (Invoked b op) → ReturnsBefore (history_of s whole) (call_of i number) b
+  suffix b op (zero, low, is) = absurd cc
+  suffix b op (suc q, low, is) =
       let there = stands (Returned (call_of i number) reply ∷ rest) (Invoked b op) (suc q, low, is) in (
-        length front + 0,
-        length front + suc q,
+        length prefix + 0,
+        length prefix + suc q,
         reply,
         op,
         omega arith,
         return_at,
-        ap (λ (hs : List Happening). slice_get hs (length front + suc q)) split ∙ slice_get-append_add front (Returned (call_of i number) reply ∷ rest) (suc q) ∙ there,
+        ap (λ (hs : List Happening). slice_get hs (length prefix + suc q)) split ∙ slice_get-append_add prefix (Returned (call_of i number) reply ∷ rest) (suc q) ∙ there,
       )
 
   before_later : (b : Call) → length (local_of here b.caller).operations ≤ b.number → b.number < length (local_of (end_of s whole) b.caller).operations
@@ -92,7 +92,7 @@ module _ (s : Shape) (before later : List Step) (i x reply : ℕ) (run : IsRun s
       let found =
       invoked_since s here (back ∷ later) b.caller b.number on.kept on.may new
       (subst (λ (w : World). b.number < length (local_of w b.caller).operations) on.at now) in
-      behind b found.0 found.1
+      suffix b found.0 found.1
 
 -- The call of a caller that has a reply at the end of a run, by its return.
 module _ (s : Shape) (steps : List Step) (run : IsRun s steps) where

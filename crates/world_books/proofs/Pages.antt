@@ -6,7 +6,7 @@ use Rattle.std.proofs.lemmas.List.Folds.{flat_map-map}
 use Rattle.std.proofs.lemmas.List.FromFn.{length-map-range_with_len, get_or-map-range_with_len}
 use Rattle.std.proofs.lemmas.Option.{slice_get_past, slice_get-get_or, slice_get_within, same_Some}
 use Rattle.std.proofs.lemmas.Simd.{map-map}
-use Rattle.list_laws.proofs.Fronts.{same_from_places}
+use Rattle.list_laws.proofs.Prefixes.{same_from_places}
 use Rattle.book_base.specs.declared.call.Call.{Call}
 use Rattle.book_base.specs.declared.call.Record.{Record}
 use Rattle.book_base.specs.Book.{Page, page_of, calls_of, answers_of, operation_of, record_of}

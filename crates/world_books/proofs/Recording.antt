@@ -9,7 +9,7 @@ use Rattle.world_core.specs.declared.region.Region.{Region}
 use Rattle.world_core.specs.declared.region.Region.TheVariants.{N, M}
 use Rattle.world_core.specs.Shape.{Shape}
 use Rattle.world_core.specs.Local.{Asking, Local}
-use Rattle.world_core.specs.Event.{Event, Stage, Announce, Object, Look, Peek, Publish, Begins_none, Begins_scan, Begins_view, may_happen, may_begin, local_after, with_peek, is_asking, is_peek_wanted, staged_operation}
+use Rattle.world_core.specs.Event.{Event, Stage, Announce, Object, Look, Peek, Publish, Begins_none, Begins_scan, Begins_view, is_enabled, may_begin, local_after, with_peek, is_asking, is_peek_wanted, staged_operation}
 use Rattle.world_core.specs.World.{World, Step, local_of, after, is_possible, after_all, are_possible}
 use Rattle.world_core.specs.History.{Happening, Invoked, Returned, happenings, history_from, call_of}
 use Rattle.world_laws.specs.Views.{return_of}
@@ -33,7 +33,7 @@ told_view s me l N j x reply may =
     Answered x reply (ap (λ (i : ℕ). Look N i x (Begins_view reply)) (eqb-true j 0 a.0)) refl h.operations h.replies (asking_is l.phase (and_parts (is_asking l.phase) _ a.1).0)
 told_view s me l M j x reply may = let never : false ≡ true = (and_parts (j == 0) false may).1 in absurd cc
 
-told_by : (s : Shape) (me : ℕ) (l : Local) (e : Event) → IsTrue (may_happen s me l e) → Told me l (local_after s.callers l e) e (happenings me l e)
+told_by : (s : Shape) (me : ℕ) (l : Local) (e : Event) → IsTrue (is_enabled s me l e) → Told me l (local_after s.callers l e) e (happenings me l e)
 told_by s me l (Stage q t x) may = Nothing refl refl refl
 told_by s me l Announce may = Called (staged_operation l.staged) refl refl refl
 told_by s me l Publish may = Nothing refl refl refl

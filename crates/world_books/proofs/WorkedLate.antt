@@ -87,11 +87,11 @@ missed_error (places, h) =
     let mine : Place = record { caller = 1; number = 0; reply = 1 } in
     let at : 1 ≡ 0 + found.0 = numbered missed_part [] places found.0 mine h.run found.1 in
     let some : 0 < length places = omega (arith, at, slice_get_within places found.0 mine found.1) in
-    let front : Place = slice_index_or places 0 mine in
-    let there : slice_get places 0 ≡ Some front = slice_get-get_or places 0 mine some in
-    let is : call_at front ≡ call_of 1 0 =
-    one_call (call_at front) (only_call front.caller front.number (h.calls 0 (call_at front) (front, there, refl))) in
-    let same : 0 ≡ found.0 = h.once 0 found.0 (call_of 1 0) (front, there, is) (mine, found.1, refl) in
+    let prefix : Place = slice_index_or places 0 mine in
+    let there : slice_get places 0 ≡ Some prefix = slice_get-get_or places 0 mine some in
+    let is : call_at prefix ≡ call_of 1 0 =
+    one_call (call_at prefix) (only_call prefix.caller prefix.number (h.calls 0 (call_at prefix) (prefix, there, refl))) in
+    let same : 0 ≡ found.0 = h.once 0 found.0 (call_of 1 0) (prefix, there, is) (mine, found.1, refl) in
     omega (arith, same, at)
 
 pub missed_unlawful : IsLinearizable [] numbering (history_of pair missed) → ⊥

@@ -10,21 +10,21 @@ use Rattle.world_core.specs.Scan.{round, last_of, open_round, course, course_aft
 
 -- What a scan did after a whole round hangs on the words up to its end alone.
 module _ (n : ℕ) (xs ys : List ℕ) where
-  round_front : (k : ℕ) → k * n + n ≤ length xs → round n (xs ++ ys) k ≡ round n xs k
-  round_front k fits =
+  round_prefix : (k : ℕ) → k * n + n ≤ length xs → round n (xs ++ ys) k ≡ round n xs k
+  round_prefix k fits =
       ap (take n) (drop-append-le (k * n) xs ys (omega arith)) ∙ take-append-le n (drop (k * n) xs) ys (omega (arith, length-drop (k * n) xs))
 
-  last_front : (k : ℕ) → k * n ≤ length xs → last_of n (xs ++ ys) k ≡ last_of n xs k
-  last_front zero fits = refl
-  last_front (suc k) fits = ap Some (round_front k (omega arith))
+  last_prefix : (k : ℕ) → k * n ≤ length xs → last_of n (xs ++ ys) k ≡ last_of n xs k
+  last_prefix zero fits = refl
+  last_prefix (suc k) fits = ap Some (round_prefix k (omega arith))
 
-  course_front : (k : ℕ) → k * n ≤ length xs → course_after n (xs ++ ys) k ≡ course_after n xs k
-  course_front zero fits = refl
-  course_front (suc k) fits =
-      let before : course_after n (xs ++ ys) k ≡ course_after n xs k = course_front k (omega arith) in
-      let f : round n (xs ++ ys) 0 ≡ round n xs 0 = round_front 0 (omega (arith, fits)) in
-      let l : last_of n (xs ++ ys) k ≡ last_of n xs k = last_front k (omega arith) in
-      let r : round n (xs ++ ys) k ≡ round n xs k = round_front k (omega arith) in
+  course_prefix : (k : ℕ) → k * n ≤ length xs → course_after n (xs ++ ys) k ≡ course_after n xs k
+  course_prefix zero fits = refl
+  course_prefix (suc k) fits =
+      let before : course_after n (xs ++ ys) k ≡ course_after n xs k = course_prefix k (omega arith) in
+      let f : round n (xs ++ ys) 0 ≡ round n xs 0 = round_prefix 0 (omega (arith, fits)) in
+      let l : last_of n (xs ++ ys) k ≡ last_of n xs k = last_prefix k (omega arith) in
+      let r : round n (xs ++ ys) k ≡ round n xs k = round_prefix k (omega arith) in
       cc (before, f, l, r)
 
 -- What is wanted is a look in a collect, and a peek while the scan borrows.
@@ -103,9 +103,9 @@ module _ (n me : ℕ) (xs : List ℕ) (low : me < n) where
   -- the course after some of the words
   course_at : (p : ℕ) → p ≤ length xs → course n (take p xs) ≡ course_after n xs (p / n)
   course_at p le =
-      let front : length (take p xs) ≡ p = length-take-le p xs le in
-      ap (λ (m : ℕ). course_after n (take p xs) (m / n)) front
-      ∙ sym (course_front n (take p xs) (drop p xs) (p / n) (omega (arith, front, row_starts p)))
+      let prefix : length (take p xs) ≡ p = length-take-le p xs le in
+      ap (λ (m : ℕ). course_after n (take p xs) (m / n)) prefix
+      ∙ sym (course_prefix n (take p xs) (drop p xs) (p / n) (omega (arith, prefix, row_starts p)))
       ∙ ap (λ (ws : List ℕ). course_after n ws (p / n)) (take-append-drop p xs)
 
   look_at : (p : ℕ) → p ≤ length xs → is_look (wanted n (take p xs)) ≡ is_collecting (course_after n xs (p / n))
@@ -122,7 +122,7 @@ module _ (n me : ℕ) (xs : List ℕ) (low : me < n) where
   round_long k fits = length-take-le n (drop (k * n) xs) (omega (arith, length-drop (k * n) xs))
 
   module _ (steady : IsSteady n me xs) where
-    -- a look of a collect behind the first
+    -- a look of a collect after the first
     look_in : (k t : ℕ) → t < n → k * n + t + n < length xs → course_after n xs (suc k) ≡ Collects → is_look (wanted n (take (k * n + t + n) xs)) ≡ true
     look_in k t below fits going =
         look_at (k * n + t + n) (omega arith)
@@ -147,7 +147,7 @@ module _ (n me : ℕ) (xs : List ℕ) (low : me < n) where
         let there : suc k * n + me ≡ k * n + me + n = omega arith in
         word_at (suc k) me low ∙ ap (slice_index xs) there ∙ same ∙ sym (word_at k me low) ∙ own_stays k (omega arith) before
 
-    -- after each collect behind the first, after which the scan makes another
+    -- after each collect after the first, after which the scan makes another
     went_on : (k : ℕ) → course_after n xs (suc (suc k)) ≡ Collects → GoesOn (round n xs 0) (round n xs k) (round n xs (suc k))
     went_on k going =
         let before : course_after n xs (suc k) ≡ Collects = collects_before (round n xs 0) (Some (round n xs k)) (round n xs (suc k)) (course_after n xs (suc k)) going in

@@ -4,7 +4,7 @@ use Rattle.std.proofs.lemmas.List.{length-set}
 use Rattle.world_core.specs.declared.region.Region.TheVariants.{N}
 use Rattle.world_core.specs.Shape.{Shape}
 use Rattle.world_core.specs.Local.{Local, fresh}
-use Rattle.world_core.specs.Event.{Announce, Look, Begins_none, may_happen, is_loaded, local_after}
+use Rattle.world_core.specs.Event.{Announce, Look, Begins_none, is_enabled, is_loaded, local_after}
 use Rattle.world_core.specs.World.{World, Step, start, local_of, after, after_all, are_possible, end_of, IsRun, IsReachable}
 use Rattle.world_core.specs.Calls.{AreTogether, IsLocalOf}
 use Rattle.world_core.specs.Schedules.{pair, by, two_calls, local_at}
@@ -25,7 +25,7 @@ not_reachable ([], run, ends) = let words : 0 ≡ 7 = ap (λ (w : World). slice_
 not_reachable (step ∷ steps, run, ends) =
     let none : nat_lt step.who 0 ≡ false = grind arith in
     let w : World = start nobody in
-    fails (sym (ap (λ (b : Bool). ((b && may_happen nobody step.who (local_of w step.who) step.event) && is_loaded nobody w.words step.event) && are_possible nobody (after nobody w step) steps) none) ∙ run)
+    fails (sym (ap (λ (b : Bool). ((b && is_enabled nobody step.who (local_of w step.who) step.event) && is_loaded nobody w.words step.event) && are_possible nobody (after nobody w step) steps) none) ∙ run)
 
 -- a step and a run leave as many locals as there were
 locals_kept : (s : Shape) (w : World) (steps : List Step) → length (after_all s w steps).locals ≡ length w.locals

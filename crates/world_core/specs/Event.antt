@@ -113,19 +113,19 @@ knows_row n l region j k =
 
 -- Where an event of caller number me is allowed. The condition speaks of the shape, the caller's number and its own local, and
 -- the loaded word alone.
-abbrev pub may_happen : Shape → ℕ → Local → Event → Bool
-may_happen s me l (Stage region place x) =
+abbrev pub is_enabled : Shape → ℕ → Local → Event → Bool
+is_enabled s me l (Stage region place x) =
     is_staging l.phase region && (nat_lt (own_count l region) s.cap && (nat_lt place (places s.callers region) && is_due l (content s.callers region place) x))
-may_happen s me l Announce = is_row_staged s.callers l N
-may_happen s me l (Object step) =
+is_enabled s me l Announce = is_row_staged s.callers l N
+is_enabled s me l (Object step) =
     is_asking l.phase && (nat_lt step.place s.program.objects && (is_word step.new && s.program.may_step me l step))
-may_happen s me l (Look region j x opening) = nat_lt j s.callers && may_begin s me l region j opening
-may_happen s me l (Peek region j k place x) = nat_lt j s.callers && (nat_lt place (places s.callers region) && knows_row s.callers l region j k)
-may_happen s me l Publish = is_row_staged s.callers l M
+is_enabled s me l (Look region j x opening) = nat_lt j s.callers && may_begin s me l region j opening
+is_enabled s me l (Peek region j k place x) = nat_lt j s.callers && (nat_lt place (places s.callers region) && knows_row s.callers l region j k)
+is_enabled s me l Publish = is_row_staged s.callers l M
 
 -- The caller is one of the callers, and the event is allowed.
 abbrev pub is_allowed : Shape → ℕ → Local → Event → Bool
-is_allowed s me l event = nat_lt me s.callers && may_happen s me l event
+is_allowed s me l event = nat_lt me s.callers && is_enabled s me l event
 
 -- The loaded word of a look or a peek, and the old word of an object step, is the one that stands there. The other events
 -- load none.

@@ -18,9 +18,9 @@ abbrev pub places : ℕ → Region → ℕ
 places n N = 2 + n
 places n M = 1 + (n + n)
 
--- The entry that stands at number j behind the reply: the view's entries stand before those of the embedded cut.
-abbrev pub entry_behind_reply : ℕ → ℕ → Content
-entry_behind_reply n j = if nat_lt j n then View_entry j else Embedded_entry M (j - n)
+-- The entry that stands at number j after the reply: the view's entries stand before those of the embedded cut.
+abbrev pub entry_after_reply : ℕ → ℕ → Content
+entry_after_reply n j = if nat_lt j n then View_entry j else Embedded_entry M (j - n)
 
 -- What a place of a region is for. A region has the places below its number of places: no event names another.
 abbrev pub content : ℕ → Region → ℕ → Content
@@ -28,7 +28,7 @@ content n N zero = Low
 content n N (suc zero) = High
 content n N (suc (suc j)) = Embedded_entry N j
 content n M zero = Reply
-content n M (suc j) = entry_behind_reply n j
+content n M (suc j) = entry_after_reply n j
 
 -- The place for the entry of caller j of the cut that a row embeds in a region.
 abbrev pub embedded_place : ℕ → Region → ℕ → ℕ

@@ -1,4 +1,4 @@
--- How a scan lies in its fields: the words of the round under way stand first in a cut, behind which the rest doesn't matter.
+-- How a scan lies in its fields: the words of the round under way stand first in a cut, after which the rest doesn't matter.
 use Rattle.std.specs.Prelude.{◌≡◌, ◌<◌, ℕ, List, length, take, Option, MatchOption}
 use Rattle.world_core.specs.declared.course.Course.{Course}
 use Rattle.world_core.specs.declared.course.Course.TheVariants.{Collects, Borrows, Ends}

@@ -16,6 +16,6 @@ pub record Shape : Type 0 where
   pub cap : ℕ
   pub program : Meaning
 
--- How many words the table has: the counts and the rows, and behind them the object words.
+-- How many words the table has: the counts and the rows, and after them the object words.
 abbrev pub words_of : Shape → ℕ
 words_of s = row_words s.callers s.cap + s.program.objects

@@ -44,7 +44,7 @@ after s w step =
       locals = slice_set w.locals step.who (local_after s.callers (local_of w step.who) step.event);
     }
 
--- A step may happen in a world where its caller is allowed it and it loads the word that stands there.
+-- A step is enabled in a world where its caller is allowed it and it loads the word that stands there.
 abbrev pub is_possible : Shape → World → Step → Bool
 is_possible s w step = is_allowed s step.who (local_of w step.who) step.event && is_loaded s w.words step.event
 
@@ -53,7 +53,7 @@ abbrev pub after_all : Shape → World → List Step → World
 after_all s w [] = w
 after_all s w (step ∷ steps) = after_all s (after s w step) steps
 
--- Each of these steps may happen where it stands.
+-- Each of these steps is enabled where it stands.
 abbrev pub are_possible : Shape → World → List Step → Bool
 are_possible s w [] = true
 are_possible s w (step ∷ steps) = is_possible s w step && are_possible s (after s w step) steps

@@ -10,7 +10,7 @@ ghost use Rattle.world_core.specs.Programs.{scrap};
 ghost use Rattle.world_core.specs.Scan.{FitsCallers, has_ended, is_done, is_look, is_peek, IsSteady, AreWanted, IsShort, course};
 ghost use Rattle.world_core.specs.Standing.{standing};
 ghost use Rattle.world_core.specs.Local.{Announcing, Asking, Viewing, Publishing, Judging, IsIdle, fresh};
-ghost use Rattle.world_core.specs.Event.{Stage, Announce, Object, Look, Peek, Publish, Begins_none, Begins_scan, Begins_view, For_row, For_view, For_seen, For_nothing, is_same_region, is_staging, is_asking, is_view_entry, is_look_wanted, is_peek_wanted, may_happen};
+ghost use Rattle.world_core.specs.Event.{Stage, Announce, Object, Look, Peek, Publish, Begins_none, Begins_scan, Begins_view, For_row, For_view, For_seen, For_nothing, is_same_region, is_staging, is_asking, is_view_entry, is_look_wanted, is_peek_wanted, is_enabled};
 ghost use Rattle.world_core.specs.World.{start, end_of, IsRun, IsReachable};
 ghost use Rattle.world_core.specs.Snapshot.{GivesCut, is_opening, is_first_look, begins_scan, gives_up, keeps_scan};
 ghost use Rattle.world_core.specs.History.{call_of};
@@ -72,17 +72,17 @@ pub fn tests_tell_apart()
     // A peek in M is wanted at the place for the entry of the embedded cut.
     ensures peeks_of_M { map (is_peek_wanted 2 M 1 3 4) (Wants_peek 1 3 1 ∷ Wants_peek 1 3 2 ∷ []) ≡ true ∷ false ∷ [] }
     // A caller may peek a row that an older look of it has counted.
-    ensures older_look { may_happen pair 1 with_looks (Peek N 0 1 0 0) ≡ true }
+    ensures older_look { is_enabled pair 1 with_looks (Peek N 0 1 0 0) ≡ true }
     // A caller may not peek a row beyond all counts that it has looked at.
-    ensures beyond_all_looks { may_happen pair 1 with_looks (Peek N 0 2 0 0) ≡ false }
+    ensures beyond_all_looks { is_enabled pair 1 with_looks (Peek N 0 2 0 0) ≡ false }
     // A caller may peek a row that an older cut of it has counted.
-    ensures older_cut { may_happen pair 1 with_cuts (Peek N 0 1 0 0) ≡ true }
+    ensures older_cut { is_enabled pair 1 with_cuts (Peek N 0 1 0 0) ≡ true }
     // A caller may peek a row of M that a later cut of it has counted.
-    ensures later_cut { may_happen pair 1 with_cuts (Peek M 1 0 0 0) ≡ true }
+    ensures later_cut { is_enabled pair 1 with_cuts (Peek M 1 0 0 0) ≡ true }
     // A caller may not peek a row that only a cut of the other region has counted.
-    ensures cut_of_another { may_happen pair 1 with_cuts (Peek M 0 1 0 0) ≡ false }
+    ensures cut_of_another { is_enabled pair 1 with_cuts (Peek M 0 1 0 0) ≡ false }
     // A caller may not stage a word of a row of M that the cap doesn't have.
-    ensures no_row_of_M { may_happen pair 0 rowless (Stage M 0 0) ≡ false }
+    ensures no_row_of_M { is_enabled pair 0 rowless (Stage M 0 0) ≡ false }
 {}
 
 /// What an event begins and gives up.
@@ -118,7 +118,7 @@ pub fn scans_give_cuts_in_spans()
     ensures other_time { ¬ GivesCut single 0 (given_since 1) span_after_announcement }
 {}
 
-/// Runs and the worlds that they reach: each step of a run may happen where it stands; a world that no run ends in
+/// Runs and the worlds that they reach: each step of a run is enabled where it stands; a world that no run ends in
 /// isn't reachable; and as many locals are together as there are callers.
 #[tactic(auto, using(crate::proofs::Together::first_impossible, crate::proofs::Together::later_impossible, crate::proofs::Together::not_reachable, crate::proofs::Together::one_local, crate::proofs::Together::both_locals, crate::proofs::Together::second_local, crate::proofs::Together::third_local))]
 pub fn worlds_are_reached_by_runs()

@@ -8,7 +8,7 @@ ghost use Rattle.world_core.specs.Shape.{words_of};
 ghost use Rattle.world_core.specs.Programs.{outside, scrap};
 ghost use Rattle.world_core.specs.Scan.{wanted, looks, peeks};
 ghost use Rattle.world_core.specs.Local.{Announcing, Asking, Viewing, Publishing, Judging, IsIdle};
-ghost use Rattle.world_core.specs.Event.{Stage, Announce, Object, Look, Peek, Publish, Begins_view, may_happen};
+ghost use Rattle.world_core.specs.Event.{Stage, Announce, Object, Look, Peek, Publish, Begins_view, is_enabled};
 ghost use Rattle.world_core.specs.World.{IsRun, end_of, object_word};
 ghost use Rattle.world_core.specs.Snapshot.{GivesCut, IsInstantaneous, through_last};
 ghost use Rattle.world_core.specs.History.{history_of, call_of, Invoked, Returned, IsLinearizable};
@@ -216,9 +216,9 @@ pub fn counts_rise_over_whole_rows()
     // A caller with all places of M staged may publish.
     ensures whole_in_M { IsTrue (allows staged_five (by 0 Publish ∷ [])) }
     // A caller in the phase announce may not publish.
-    ensures early { may_happen pair 0 staged_early Publish ≡ false }
+    ensures early { is_enabled pair 0 staged_early Publish ≡ false }
     // A caller in the phase announce with all places staged may announce.
-    ensures in_time { may_happen pair 0 staged_early Announce ≡ true }
+    ensures in_time { is_enabled pair 0 staged_early Announce ≡ true }
 {}
 
 /// Where a look is allowed: at a caller's count, with the word that stands there, and where it begins a
@@ -251,50 +251,50 @@ pub fn peeks_are_conditional()
     // A caller that peeked the entry of a view may peek no other row.
     ensures refused_by_view { IsTrue (refuses entry_peeked refused_as_entry_peeked) }
     // A caller may not peek a row of a caller that isn't there.
-    ensures no_caller { may_happen pair 0 looked_past (Peek N 2 0 0 0) ≡ false }
+    ensures no_caller { is_enabled pair 0 looked_past (Peek N 2 0 0 0) ≡ false }
 {}
 
 /// How a caller knows that a row is counted: from a count that it looked at, from a cut that a scan gave
 /// it, each of the row's own region, and in the region of announcements from a view that it peeked.
 pub fn rows_are_known()
     // A count of N that was looked at makes the row below it known in N.
-    ensures count_of_N { may_happen pair 1 looked_in_N (Peek N 0 0 0 5) ≡ true }
+    ensures count_of_N { is_enabled pair 1 looked_in_N (Peek N 0 0 0 5) ≡ true }
     // A count of N that was looked at makes no row beyond it known.
-    ensures count_of_N_beyond { may_happen pair 1 looked_in_N (Peek N 0 1 0 5) ≡ false }
+    ensures count_of_N_beyond { is_enabled pair 1 looked_in_N (Peek N 0 1 0 5) ≡ false }
     // A count of N that was looked at makes no row of another caller known.
-    ensures count_of_N_beside { may_happen pair 1 looked_in_N (Peek N 1 0 0 5) ≡ false }
+    ensures count_of_N_beside { is_enabled pair 1 looked_in_N (Peek N 1 0 0 5) ≡ false }
     // A count of N that was looked at makes no row of M known.
-    ensures count_of_N_alone { may_happen pair 1 looked_in_N (Peek M 0 0 0 5) ≡ false }
+    ensures count_of_N_alone { is_enabled pair 1 looked_in_N (Peek M 0 0 0 5) ≡ false }
     // A count of M that was looked at makes the row below it known in M.
-    ensures count_of_M { may_happen pair 1 looked_in_M (Peek M 0 0 0 5) ≡ true }
+    ensures count_of_M { is_enabled pair 1 looked_in_M (Peek M 0 0 0 5) ≡ true }
     // A count of M that was looked at makes no row of N known.
-    ensures count_of_M_alone { may_happen pair 1 looked_in_M (Peek N 0 0 0 5) ≡ false }
+    ensures count_of_M_alone { is_enabled pair 1 looked_in_M (Peek N 0 0 0 5) ≡ false }
     // A cut of N makes the rows below its counts known in N.
-    ensures cut_of_N { may_happen pair 1 cut_of_N (Peek N 0 0 0 5) ≡ true }
+    ensures cut_of_N { is_enabled pair 1 cut_of_N (Peek N 0 0 0 5) ≡ true }
     // A cut of N makes no row beyond its counts known.
-    ensures cut_of_N_beyond { may_happen pair 1 cut_of_N (Peek N 0 1 0 5) ≡ false }
+    ensures cut_of_N_beyond { is_enabled pair 1 cut_of_N (Peek N 0 1 0 5) ≡ false }
     // A cut of N makes no row of a caller with count 0 known.
-    ensures cut_of_N_beside { may_happen pair 1 cut_of_N (Peek N 1 0 0 5) ≡ false }
+    ensures cut_of_N_beside { is_enabled pair 1 cut_of_N (Peek N 1 0 0 5) ≡ false }
     // A cut of N makes no row of M known.
-    ensures cut_of_N_alone { may_happen pair 1 cut_of_N (Peek M 0 0 0 5) ≡ false }
+    ensures cut_of_N_alone { is_enabled pair 1 cut_of_N (Peek M 0 0 0 5) ≡ false }
     // A cut of M makes the rows below its counts known in M.
-    ensures cut_of_M { may_happen pair 1 cut_of_M (Peek M 0 0 0 5) ≡ true }
+    ensures cut_of_M { is_enabled pair 1 cut_of_M (Peek M 0 0 0 5) ≡ true }
     // A cut of M makes no row of N known.
-    ensures cut_of_M_alone { may_happen pair 1 cut_of_M (Peek N 0 0 0 5) ≡ false }
+    ensures cut_of_M_alone { is_enabled pair 1 cut_of_M (Peek N 0 0 0 5) ≡ false }
     // A peeked entry of a view makes the row below it known in N.
-    ensures view { may_happen pair 1 view_peeked (Peek N 0 0 0 5) ≡ true }
+    ensures view { is_enabled pair 1 view_peeked (Peek N 0 0 0 5) ≡ true }
     // A peeked entry of a view makes no row beyond it known.
-    ensures view_beyond { may_happen pair 1 view_peeked (Peek N 0 1 0 5) ≡ false }
+    ensures view_beyond { is_enabled pair 1 view_peeked (Peek N 0 1 0 5) ≡ false }
     // A peeked entry of a view makes no row of another caller known.
-    ensures view_beside { may_happen pair 1 view_peeked (Peek N 1 0 0 5) ≡ false }
+    ensures view_beside { is_enabled pair 1 view_peeked (Peek N 1 0 0 5) ≡ false }
     // A row that a view alone names is known in the region of announcements and not in that of answers.
-    ensures view_of_announcements { may_happen pair 1 view_peeked (Peek M 0 0 0 5) ≡ false }
+    ensures view_of_announcements { is_enabled pair 1 view_peeked (Peek M 0 0 0 5) ≡ false }
     // A peeked word of an announcement makes no row known.
-    ensures announcement { may_happen pair 1 announcement_peeked (Peek N 0 0 0 5) ≡ false }
+    ensures announcement { is_enabled pair 1 announcement_peeked (Peek N 0 0 0 5) ≡ false }
     // A peeked entry of an embedded cut makes no row of N known.
-    ensures embedded { may_happen pair 1 embedded_peeked (Peek N 0 0 0 5) ≡ false }
+    ensures embedded { is_enabled pair 1 embedded_peeked (Peek N 0 0 0 5) ≡ false }
     // A peeked entry of an embedded cut makes no row of M known.
-    ensures embedded_in_M { may_happen pair 1 embedded_peeked (Peek M 0 0 0 5) ≡ false }
+    ensures embedded_in_M { is_enabled pair 1 embedded_peeked (Peek M 0 0 0 5) ≡ false }
 {}
 
 /// What a scan wants after the words that it has taken.
@@ -417,19 +417,19 @@ pub fn object_steps_are_conditional()
     // An object step isn't allowed in the phase view.
     ensures viewed { IsTrue (refuses_in scrap_pair viewing (by 0 (Object (object_step 0 0 3)) ∷ [])) }
     // The step that the program allows is allowed to the caller that it allows it to.
-    ensures step { may_happen narrow 1 asking (Object (object_step 0 0 7)) ≡ true }
+    ensures step { is_enabled narrow 1 asking (Object (object_step 0 0 7)) ≡ true }
     // Another step isn't allowed.
-    ensures other_step { may_happen narrow 1 asking (Object (object_step 0 0 8)) ≡ false }
+    ensures other_step { is_enabled narrow 1 asking (Object (object_step 0 0 8)) ≡ false }
     // The step isn't allowed to another caller.
-    ensures others_step { may_happen narrow 0 asking (Object (object_step 0 0 7)) ≡ false }
+    ensures others_step { is_enabled narrow 0 asking (Object (object_step 0 0 7)) ≡ false }
     // The step isn't allowed in the phase view.
-    ensures step_in_view { may_happen narrow 1 viewing_local (Object (object_step 0 0 7)) ≡ false }
+    ensures step_in_view { is_enabled narrow 1 viewing_local (Object (object_step 0 0 7)) ≡ false }
     // The reply that the program allows is allowed to the caller that it allows it to.
-    ensures reply { may_happen narrow 1 asking (Look N 0 0 (Begins_view 7)) ≡ true }
+    ensures reply { is_enabled narrow 1 asking (Look N 0 0 (Begins_view 7)) ≡ true }
     // Another reply isn't allowed.
-    ensures other_reply { may_happen narrow 1 asking (Look N 0 0 (Begins_view 8)) ≡ false }
+    ensures other_reply { is_enabled narrow 1 asking (Look N 0 0 (Begins_view 8)) ≡ false }
     // The reply isn't allowed to another caller.
-    ensures others_reply { may_happen narrow 0 asking (Look N 0 0 (Begins_view 7)) ≡ false }
+    ensures others_reply { is_enabled narrow 0 asking (Look N 0 0 (Begins_view 7)) ≡ false }
 {}
 
 /// The object history of the two whole calls is linearizable for an object that gives their replies, and

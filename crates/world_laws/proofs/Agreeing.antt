@@ -10,7 +10,7 @@ use Rattle.world_core.specs.Layout.{places, count_index, place_index, object_ind
 use Rattle.world_core.specs.Shape.{Shape, words_of}
 use Rattle.world_core.specs.Local.{Phase, Announcing, Asking, Viewing, Publishing, Judging, Staged, Scan, Given, Looked, Peeked, Object_step, Local, own_count, word_of, with_step}
 use Rattle.world_core.specs.Scan.{wanted}
-use Rattle.world_core.specs.Event.{Event, Stage, Announce, Object, Look, Peek, Publish, Opening, Begins_none, Begins_scan, Begins_view, may_happen, may_begin, words_after, local_after, opened, begun, fed, went_on, given_by, with_word, with_look, with_peek, served, purpose_of, Purpose, For_row, For_view, For_seen, For_nothing, is_staged, is_unstaged, staged_at, is_due, is_view_under_way, is_asking, is_same_region, is_look_wanted, is_peek_wanted}
+use Rattle.world_core.specs.Event.{Event, Stage, Announce, Object, Look, Peek, Publish, Opening, Begins_none, Begins_scan, Begins_view, is_enabled, may_begin, words_after, local_after, opened, begun, fed, went_on, given_by, with_word, with_look, with_peek, served, purpose_of, Purpose, For_row, For_view, For_seen, For_nothing, is_staged, is_unstaged, staged_at, is_due, is_view_under_way, is_asking, is_same_region, is_look_wanted, is_peek_wanted}
 use Rattle.world_core.specs.Agreement.{Agrees, IsInRow, FitsPhase, IsStagedIn, IsKeptIn, unpublished_calls, unpublished_replies, unpublished_views, unseen_records}
 use Rattle.world_core.proofs.Indices.{count_or_object, row_or_object}
 use Rattle.world_laws.proofs.RowWords.{same_row}
@@ -287,7 +287,7 @@ opened_agrees s me words i l M j (Begins_view reply) h may =
     let never : false ≡ true = (and_parts (j == 0) false may).1 in absurd cc
 
 -- a look keeps the agreement of its own caller
-look_agrees : (s : Shape) (me : ℕ) (l : Local) (words : List ℕ) (q : Region) (j x : ℕ) (o : Opening) → IsTrue (may_happen s me l (Look q j x o)) → Agrees s words me l
+look_agrees : (s : Shape) (me : ℕ) (l : Local) (words : List ℕ) (q : Region) (j x : ℕ) (o : Opening) → IsTrue (is_enabled s me l (Look q j x o)) → Agrees s words me l
     → Agrees s words me (local_after s.callers l (Look q j x o))
 look_agrees s me l words q j x o may h =
     let begins : Local = opened l q o in
@@ -337,7 +337,7 @@ object_agrees s me l words o low h =
 
 -- an event keeps the agreement of its own caller
 pub own_agrees : (s : Shape) (me : ℕ) (l : Local) (words : List ℕ) (e : Event) → me < s.callers → words_of s ≤ length words
-    → IsTrue (may_happen s me l e) → Agrees s words me l → Agrees s (words_after s me l words e) me (local_after s.callers l e)
+    → IsTrue (is_enabled s me l e) → Agrees s words me l → Agrees s (words_after s me l words e) me (local_after s.callers l e)
 own_agrees s me l words (Stage q t x) low long may h = stage_agrees s me l words q t x low long may h
 own_agrees s me l words Announce low long may h = announce_agrees s me l words low long may h
 own_agrees s me l words Publish low long may h = publish_agrees s me l words low long may h

@@ -13,7 +13,7 @@ use Rattle.world_core.specs.declared.want.Want.TheVariants.{Look as Wants_look, 
 use Rattle.world_core.specs.Shape.{Shape}
 use Rattle.world_core.specs.Local.{Scan, Given, Looked, Peeked, Local, own_count}
 use Rattle.world_core.specs.Scan.{rounds, open_round, course, wanted, wanted_by, is_look, has_ended, IsSteady, AreWanted}
-use Rattle.world_core.specs.Event.{Event, Stage, Announce, Object, Look, Peek, Publish, Opening, Begins_none, Begins_scan, Begins_view, may_happen, may_begin, is_loaded, words_after, local_after, opened, begun, fed, went_on, given_by, with_word, with_look, with_peek, served, purpose_of, Purpose, For_row, For_view, For_seen, For_nothing, is_same_region, is_look_wanted, is_peek_wanted}
+use Rattle.world_core.specs.Event.{Event, Stage, Announce, Object, Look, Peek, Publish, Opening, Begins_none, Begins_scan, Begins_view, is_enabled, may_begin, is_loaded, words_after, local_after, opened, begun, fed, went_on, given_by, with_word, with_look, with_peek, served, purpose_of, Purpose, For_row, For_view, For_seen, For_nothing, is_same_region, is_look_wanted, is_peek_wanted}
 use Rattle.world_core.specs.World.{World, Step, local_of, count_of, after, is_possible}
 use Rattle.world_core.specs.Agreement.{Agrees}
 use Rattle.world_core.specs.Snapshot.{gives_up, keeps_scan}
@@ -368,7 +368,7 @@ module _ (s : Shape) (w : World) (sound : Sound s w) (me : ℕ) (low : me < s.ca
   opened_begun q j x (Begins_view reply) old new =
       begun_like s w me P mine (opened mine q (Begins_view reply)) (Some (begun mine q true)) refl refl (λ r. refl) (begins_now q true (new refl))
 
-  own_outcome : (e : Event) → IsTrue (may_happen s me mine e) → IsTrue (is_loaded s w.words e)
+  own_outcome : (e : Event) → IsTrue (is_enabled s me mine e) → IsTrue (is_loaded s w.words e)
       → (gives_up e ≡ false → IsBegun s w me P mine mine.scan) → (gives_up e ≡ true → P w)
       → Outcome s w me P mine.cuts (local_after s.callers mine e) (scan_at mine e)
   own_outcome (Stage q t x) may loaded old new =

@@ -89,15 +89,15 @@ peek_is n region j k place (Borrows i row) words h =
     record { borrows = cc (caller, row_is); at = sym (eqb-true (embedded_place n region (length words)) place b.1) }
 
 -- what stands at the place of an embedded entry
-behind : (n e i : ℕ) (b : Bool) → nat_lt (n + e) n ≡ b → i ≡ e → (if b then View_entry (n + e) else Embedded_entry M i) ≡ Embedded_entry M e
-behind n e i true less same = absurd (let h : n + e < n = ltb-true (n + e) n less in omega (arith, h))
-behind n e i false less same = ap (Embedded_entry M) same
+suffix : (n e i : ℕ) (b : Bool) → nat_lt (n + e) n ≡ b → i ≡ e → (if b then View_entry (n + e) else Embedded_entry M i) ≡ Embedded_entry M e
+suffix n e i true less same = absurd (let h : n + e < n = ltb-true (n + e) n less in omega (arith, h))
+suffix n e i false less same = ap (Embedded_entry M) same
 
 pub content_embedded : (n : ℕ) (region : Region) (e : ℕ) → content n region (embedded_place n region e) ≡ Embedded_entry region e
 content_embedded n N e = ap (content n N) (let h : 2 + e ≡ suc (suc e) = omega arith in h)
 content_embedded n M e =
     ap (content n M) (let h : 1 + (n + e) ≡ suc (n + e) = omega arith in h)
-    ∙ behind n e (n + e - n) (nat_lt (n + e) n) refl (omega arith)
+    ∙ suffix n e (n + e - n) (nat_lt (n + e) n) refl (omega arith)
 
 pub embedded_fits : (n : ℕ) (region : Region) (e : ℕ) → e < n → embedded_place n region e < places n region
 embedded_fits n N e low = omega arith

@@ -12,7 +12,7 @@ use Rattle.world_core.specs.Layout.{embedded_place}
 use Rattle.world_core.specs.Shape.{Shape}
 use Rattle.world_core.specs.Local.{Phase, Announcing, Asking, Viewing, Publishing, Judging, Scan, Given, Local, fresh, own_count, embedded_in}
 use Rattle.world_core.specs.Scan.{wanted}
-use Rattle.world_core.specs.Event.{Event, Stage, Announce, Object, Look, Peek, Publish, Opening, Begins_none, Begins_scan, Begins_view, may_happen, may_begin, local_after, opened, fed, went_on, given_by, with_word, with_look, with_peek, cut_to_embed, served, purpose_of, Purpose, For_row, For_view, For_seen, For_nothing, is_staging, is_unstaged, is_row_staged, is_entry_to_embed, staged_at, is_same_region, is_look_wanted, is_peek_wanted}
+use Rattle.world_core.specs.Event.{Event, Stage, Announce, Object, Look, Peek, Publish, Opening, Begins_none, Begins_scan, Begins_view, is_enabled, may_begin, local_after, opened, fed, went_on, given_by, with_word, with_look, with_peek, cut_to_embed, served, purpose_of, Purpose, For_row, For_view, For_seen, For_nothing, is_staging, is_unstaged, is_row_staged, is_entry_to_embed, staged_at, is_same_region, is_look_wanted, is_peek_wanted}
 use Rattle.world_core.specs.World.{World, Step, start, local_of, after, is_possible, after_all, are_possible}
 use Rattle.world_core.specs.Agreement.{Agrees, IsKeptIn}
 use Rattle.world_core.specs.Calls.{AreTogether, local_at}
@@ -170,15 +170,15 @@ module _ (s : Shape) (w : World) (sound : Sound s w) (me : ℕ) (low : me < s.ca
       given_there r mine.to_embed (staged_at mine.staged (embedded_place s.callers r 0)) (embedded_due s w sound me low r whole)
       (h.to_embed r (staging_of s w sound me low r whole))
 
-  announced_given : IsTrue (may_happen s me mine Announce) → (r : Region) → Each (IsGivenIn mine.cuts r) (embedded_in (local_after s.callers mine Announce) r)
+  announced_given : IsTrue (is_enabled s me mine Announce) → (r : Region) → Each (IsGivenIn mine.cuts r) (embedded_in (local_after s.callers mine Announce) r)
   announced_given may N = each_push (IsGivenIn mine.cuts N) mine.embedded_in_N (cut_to_embed mine) (h.embedded N) (staged_given N may)
   announced_given may M = h.embedded M
 
-  published_given : IsTrue (may_happen s me mine Publish) → (r : Region) → Each (IsGivenIn mine.cuts r) (embedded_in (local_after s.callers mine Publish) r)
+  published_given : IsTrue (is_enabled s me mine Publish) → (r : Region) → Each (IsGivenIn mine.cuts r) (embedded_in (local_after s.callers mine Publish) r)
   published_given may N = h.embedded N
   published_given may M = each_push (IsGivenIn mine.cuts M) mine.embedded_in_M (cut_to_embed mine) (h.embedded M) (staged_given M may)
 
-  own_given : (e : Event) → IsTrue (may_happen s me mine e) → Keeps (local_after s.callers mine e).cuts (local_after s.callers mine e)
+  own_given : (e : Event) → IsTrue (is_enabled s me mine e) → Keeps (local_after s.callers mine e).cuts (local_after s.callers mine e)
   own_given (Stage q t x) may = record { views = h.views; seen = h.seen; embedded = λ r. h.embedded r; to_embed = λ r staging. h.to_embed r staging }
   own_given (Object o) may = record { views = h.views; seen = h.seen; embedded = λ r. h.embedded r; to_embed = λ r staging. h.to_embed r staging }
   own_given Announce may = record { views = h.views; seen = h.seen; embedded = announced_given may; to_embed = λ r staging. tt }

@@ -15,7 +15,7 @@ use Rattle.world_core.specs.Layout.{Content, embedded_place, places}
 use Rattle.world_core.specs.Shape.{Shape}
 use Rattle.world_core.specs.Local.{Phase, Announcing, Asking, Viewing, Publishing, Judging, Scan, Given, Looked, Peeked, Local, fresh, own_count, embedded_in, word_of}
 use Rattle.world_core.specs.Scan.{rounds, round, open_round, course, wanted}
-use Rattle.world_core.specs.Event.{Event, Stage, Announce, Object, Look, Peek, Publish, Opening, Begins_none, Begins_scan, Begins_view, may_happen, may_begin, is_loaded, local_after, opened, begun, fed, went_on, given_by, with_word, with_look, with_peek, cut_to_embed, served, purpose_of, Purpose, For_row, For_view, For_seen, For_nothing, is_staging, is_unstaged, is_row_staged, is_entry_to_embed, staged_at, is_same_region, is_look_wanted, is_peek_wanted, knows_row}
+use Rattle.world_core.specs.Event.{Event, Stage, Announce, Object, Look, Peek, Publish, Opening, Begins_none, Begins_scan, Begins_view, is_enabled, may_begin, is_loaded, local_after, opened, begun, fed, went_on, given_by, with_word, with_look, with_peek, cut_to_embed, served, purpose_of, Purpose, For_row, For_view, For_seen, For_nothing, is_staging, is_unstaged, is_row_staged, is_entry_to_embed, staged_at, is_same_region, is_look_wanted, is_peek_wanted, knows_row}
 use Rattle.world_core.specs.World.{World, Step, start, local_of, count_of, row_word, after, is_possible, after_all, are_possible, IsRun, end_of}
 use Rattle.world_core.specs.Agreement.{Agrees, IsKeptIn}
 use Rattle.world_core.specs.Snapshot.{counts_in}
@@ -278,7 +278,7 @@ module _ (s : Shape) (steps : List Step) (w : World) (sound : Sound s w) (run : 
       let next = word_low s w some q taken x words below in
       (word_scanned s steps w some q taken x (rise q) ends (rows q) next scanned found, word_done s steps w some q taken x (rise q) ends (rows q) next scanned found)
 
-  look_was : (q : Region) (j x : ℕ) (o : Opening) → IsTrue (may_happen s me mine (Look q j x o)) → IsTrue (is_loaded s w.words (Look q j x o))
+  look_was : (q : Region) (j x : ℕ) (o : Opening) → IsTrue (is_enabled s me mine (Look q j x o)) → IsTrue (is_loaded s w.words (Look q j x o))
       → Momentary s steps w (local_after s.callers mine (Look q j x o))
   look_was q j x o may loaded =
       let begins = (and_parts (nat_lt j s.callers) (may_begin s me mine q j o) may).1 in
@@ -294,7 +294,7 @@ module _ (s : Shape) (steps : List Step) (w : World) (sound : Sound s w) (run : 
       let here : x ≡ count_of s w q (length (open_round s.callers taken)) = found ∙ ap (count_of s w q) at.1 in
       take_word q x taken scanned words (omega (arith, here)) (Count at.0 here))
 
-  peek_was : (q : Region) (j k t x : ℕ) → IsTrue (may_happen s me mine (Peek q j k t x)) → IsTrue (is_loaded s w.words (Peek q j k t x))
+  peek_was : (q : Region) (j k t x : ℕ) → IsTrue (is_enabled s me mine (Peek q j k t x)) → IsTrue (is_loaded s w.words (Peek q j k t x))
       → Momentary s steps w (local_after s.callers mine (Peek q j k t x))
   peek_was q j k t x may loaded =
       let was = all me low in
@@ -322,15 +322,15 @@ module _ (s : Shape) (steps : List Step) (w : World) (sound : Sound s w) (run : 
       was_there r mine.to_embed (staged_at mine.staged (embedded_place s.callers r 0)) (embedded_due s w sound me low r whole)
       ((all me low).to_embed r (staging_of s w sound me low r whole))
 
-  announced_was : IsTrue (may_happen s me mine Announce) → (r : Region) → Each (Was s steps r) (embedded_in (local_after s.callers mine Announce) r)
+  announced_was : IsTrue (is_enabled s me mine Announce) → (r : Region) → Each (Was s steps r) (embedded_in (local_after s.callers mine Announce) r)
   announced_was may N = each_push (Was s steps N) mine.embedded_in_N (cut_to_embed mine) ((all me low).embedded N) (staged_was N may)
   announced_was may M = (all me low).embedded M
 
-  published_was : IsTrue (may_happen s me mine Publish) → (r : Region) → Each (Was s steps r) (embedded_in (local_after s.callers mine Publish) r)
+  published_was : IsTrue (is_enabled s me mine Publish) → (r : Region) → Each (Was s steps r) (embedded_in (local_after s.callers mine Publish) r)
   published_was may N = (all me low).embedded N
   published_was may M = each_push (Was s steps M) mine.embedded_in_M (cut_to_embed mine) ((all me low).embedded M) (staged_was M may)
 
-  own_was : (e : Event) → IsTrue (may_happen s me mine e) → IsTrue (is_loaded s w.words e) → Momentary s steps w (local_after s.callers mine e)
+  own_was : (e : Event) → IsTrue (is_enabled s me mine e) → IsTrue (is_loaded s w.words e) → Momentary s steps w (local_after s.callers mine e)
   own_was (Look q j x o) may loaded = look_was q j x o may loaded
   own_was (Peek q j k t x) may loaded = peek_was q j k t x may loaded
   own_was (Stage q t x) may loaded =
@@ -396,10 +396,10 @@ was_within : (s : Shape) (steps : List Step) (r : Region) (a b : List ℕ) → I
 was_within s steps r a b run p q between longer i = elim (cases_lt i s.callers) [
   | inl low ↦
       let all : steps ≡ p.early ++ (between ++ q.later) = q.parts ∙ ap (λ (xs : List Step). xs ++ q.later) longer ∙ append_assoc p.early between q.later in
-      let front : IsRun s (p.early ++ between) =
+      let prefix : IsRun s (p.early ++ between) =
       (let on = sym (are_possible-append s (start s) (p.early ++ between) q.later) ∙ (subst (λ (xs : List Step). IsRun s xs) (q.parts ∙ ap (λ (xs : List Step). xs ++ q.later) longer) run) in
       (and_parts (are_possible s (start s) (p.early ++ between)) _ on).0) in
-      let on = goes_on s p.early between front in
+      let on = goes_on s p.early between prefix in
       let grown : count_of s (end_of s p.early) r i ≤ count_of s (after_all s (end_of s p.early) between) r i = steps_grow s (end_of s p.early) between on.kept on.may r i low in
       let there : count_of s (after_all s (end_of s p.early) between) r i ≡ count_of s (end_of s q.early) r i = ap (λ (v : World). count_of s v r i) (sym on.at ∙ ap (end_of s) (sym longer)) in
       omega (arith, grown, there, p.same i low, q.same i low)
@@ -473,12 +473,12 @@ seen_cuts_are_comparable s locals i j k m (w, (steps, run, at), are) low low' =
 was_own : (s : Shape) (steps : List Step) (locals : List Local) (r : Region) (cut : List ℕ) → IsRun s steps → (end_of s steps).locals ≡ locals → Was s steps r cut
     → WereOwnCounts s locals r cut
 was_own s steps locals r cut run ends was =
-    let front : IsRun s (was.early ++ was.later) = subst (λ (xs : List Step). IsRun s xs) was.parts run in
-    let on = goes_on s was.early was.later front in
+    let prefix : IsRun s (was.early ++ was.later) = subst (λ (xs : List Step). IsRun s xs) was.parts run in
+    let on = goes_on s was.early was.later prefix in
     record {
       early = was.early;
       later = was.later;
-      run = front;
+      run = prefix;
       ends = ap (λ (xs : List Step). (end_of s xs).locals) (sym was.parts) ∙ ends;
       wide = was.wide;
       counts = λ j fits. sym ((on.kept.agree j fits).counts r) ∙ was.same j fits;

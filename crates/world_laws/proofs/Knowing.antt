@@ -11,7 +11,7 @@ use Rattle.world_core.specs.Layout.{Content, Low as Low_word, High, Reply, View_
 use Rattle.world_core.specs.Shape.{Shape}
 use Rattle.world_core.specs.Local.{Phase, Given, Looked, Peeked, Local, fresh, own_count, embedded_in, word_of}
 use Rattle.world_core.specs.Scan.{open_round, course}
-use Rattle.world_core.specs.Event.{Event, Stage, Announce, Object, Look, Peek, Publish, Opening, Begins_none, Begins_scan, Begins_view, may_happen, may_begin, is_loaded, local_after, opened, with_look, with_peek, cut_to_embed, is_staging, is_row_staged, are_staged, is_entry_to_embed, staged_at, is_due, is_asking, is_same_region, is_look_wanted, is_peek_wanted, knows_row, is_view_entry}
+use Rattle.world_core.specs.Event.{Event, Stage, Announce, Object, Look, Peek, Publish, Opening, Begins_none, Begins_scan, Begins_view, is_enabled, may_begin, is_loaded, local_after, opened, with_look, with_peek, cut_to_embed, is_staging, is_row_staged, are_staged, is_entry_to_embed, staged_at, is_due, is_asking, is_same_region, is_look_wanted, is_peek_wanted, knows_row, is_view_entry}
 use Rattle.world_core.specs.World.{World, Step, start, local_of, count_of, row_word, after, is_possible, after_all, are_possible}
 use Rattle.world_core.specs.Agreement.{Agrees, IsKeptIn}
 use Rattle.world_core.proofs.Scans.{open_lacks}
@@ -173,7 +173,7 @@ module _ (s : Shape) (w : World) (kept : Kept s w) (all : AllLow s w) (me : ℕ)
   keeps_open q j Begins_scan may = agrees.kept_in
   keeps_open q j (Begins_view reply) may = none_asked q j (Begins_view reply) may reply refl
 
-  look_low : (q : Region) (j x : ℕ) (o : Opening) → IsTrue (may_happen s me mine (Look q j x o)) → IsTrue (is_loaded s w.words (Look q j x o))
+  look_low : (q : Region) (j x : ℕ) (o : Opening) → IsTrue (is_enabled s me mine (Look q j x o)) → IsTrue (is_loaded s w.words (Look q j x o))
       → Low s w (local_after s.callers mine (Look q j x o))
   look_low q j x o may loaded =
       let parts = and_parts (nat_lt j s.callers) (may_begin s me mine q j o) may in
@@ -198,7 +198,7 @@ module _ (s : Shape) (w : World) (kept : Kept s w) (all : AllLow s w) (me : ℕ)
       let same : count_of s w q j ≡ count_of s w q (length (open_round s.callers taken)) = ap (count_of s w q) there in
       omega (arith, found, same))
 
-  peek_low : (q : Region) (j k t x : ℕ) → IsTrue (may_happen s me mine (Peek q j k t x)) → IsTrue (is_loaded s w.words (Peek q j k t x))
+  peek_low : (q : Region) (j k t x : ℕ) → IsTrue (is_enabled s me mine (Peek q j k t x)) → IsTrue (is_loaded s w.words (Peek q j k t x))
       → Low s w (local_after s.callers mine (Peek q j k t x))
   peek_low q j k t x may loaded =
       let parts = and_parts (nat_lt j s.callers) (nat_lt t (places s.callers q) && knows_row s.callers mine q j k) may in
@@ -234,15 +234,15 @@ module _ (s : Shape) (w : World) (kept : Kept s w) (all : AllLow s w) (me : ℕ)
       subst (λ (part : Content). is_due mine part (staged_at mine.staged place) ≡ true) (content_embedded s.callers r 0) here.due in
       entry_there s w r mine.to_embed 0 (staged_at mine.staged place) due (was.to_embed r staging)
 
-  announced_embedded : IsTrue (may_happen s me mine Announce) → (r : Region) → Each (IsLowCut s w r) (embedded_in (local_after s.callers mine Announce) r)
+  announced_embedded : IsTrue (is_enabled s me mine Announce) → (r : Region) → Each (IsLowCut s w r) (embedded_in (local_after s.callers mine Announce) r)
   announced_embedded may N = each_push (IsLowCut s w N) mine.embedded_in_N (cut_to_embed mine) (was.embedded N) (staged_low N may)
   announced_embedded may M = was.embedded M
 
-  published_embedded : IsTrue (may_happen s me mine Publish) → (r : Region) → Each (IsLowCut s w r) (embedded_in (local_after s.callers mine Publish) r)
+  published_embedded : IsTrue (is_enabled s me mine Publish) → (r : Region) → Each (IsLowCut s w r) (embedded_in (local_after s.callers mine Publish) r)
   published_embedded may N = was.embedded N
   published_embedded may M = each_push (IsLowCut s w M) mine.embedded_in_M (cut_to_embed mine) (was.embedded M) (staged_low M may)
 
-  announce_low : IsTrue (may_happen s me mine Announce) → Low s w (local_after s.callers mine Announce)
+  announce_low : IsTrue (is_enabled s me mine Announce) → Low s w (local_after s.callers mine Announce)
   announce_low may =
       record {
         looked = was.looked;
@@ -255,7 +255,7 @@ module _ (s : Shape) (w : World) (kept : Kept s w) (all : AllLow s w) (me : ℕ)
         peeked = was.peeked;
       }
 
-  publish_low : IsTrue (may_happen s me mine Publish) → Low s w (local_after s.callers mine Publish)
+  publish_low : IsTrue (is_enabled s me mine Publish) → Low s w (local_after s.callers mine Publish)
   publish_low may =
       record {
         looked = was.looked;
@@ -269,7 +269,7 @@ module _ (s : Shape) (w : World) (kept : Kept s w) (all : AllLow s w) (me : ℕ)
       }
 
   -- a stage and an object step change nothing of it
-  own_low : (e : Event) → IsTrue (may_happen s me mine e) → IsTrue (is_loaded s w.words e) → Low s w (local_after s.callers mine e)
+  own_low : (e : Event) → IsTrue (is_enabled s me mine e) → IsTrue (is_loaded s w.words e) → Low s w (local_after s.callers mine e)
   own_low (Stage q t x) may loaded =
       record {
         looked = was.looked;

@@ -7,7 +7,7 @@ use Rattle.world_core.specs.declared.region.Region.TheVariants.{N, M}
 use Rattle.world_core.specs.Layout.{places, content, count_index, place_index, object_index}
 use Rattle.world_core.specs.Shape.{Shape}
 use Rattle.world_core.specs.Local.{Local, Object_step, own_count, with_step}
-use Rattle.world_core.specs.Event.{Event, Stage, Announce, Object, Look, Peek, Publish, Opening, Begins_none, Begins_scan, Begins_view, may_happen, is_staging, is_due, local_after, opened, with_peek, is_peek_wanted, staged_operation}
+use Rattle.world_core.specs.Event.{Event, Stage, Announce, Object, Look, Peek, Publish, Opening, Begins_none, Begins_scan, Begins_view, is_enabled, is_staging, is_due, local_after, opened, with_peek, is_peek_wanted, staged_operation}
 use Rattle.world_core.specs.World.{World, Step, object_word, local_of, after, is_possible}
 use Rattle.world_core.proofs.Indices.{count_or_object, row_or_object}
 use Rattle.world_laws.proofs.Running.{Kept, possible, own_local}
@@ -56,7 +56,7 @@ step_adds s w step kept may =
     subst (λ (m : Local). Adds l m step.event) (sym (own_local s w step kept.locals_long (possible s w step may).caller)) (adds s.callers l step.event)
 
 module _ (s : Shape) (w : World) where
-  leaves_objects : (who : ℕ) (e : Event) (place : ℕ) → who < s.callers → IsTrue (may_happen s who (local_of w who) e) → IsNoObjectStep e
+  leaves_objects : (who : ℕ) (e : Event) (place : ℕ) → who < s.callers → IsTrue (is_enabled s who (local_of w who) e) → IsNoObjectStep e
       → object_word s (after s w (record { who = who; event = e })) place ≡ object_word s w place
   leaves_objects who (Stage q t x) place low may no_step =
       let l : Local = local_of w who in

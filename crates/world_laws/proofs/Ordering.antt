@@ -28,7 +28,7 @@ pub record Ordered (l : Local) : Type 0 where
       → length l.looked ≤ p + given.since → look.region ≡ given.region → look.count ≤ slice_index given.cut look.caller
   pub few : (q : ℕ) (given : Given) → slice_get l.cuts q ≡ Some given → given.since ≤ length l.looked
 
--- What was looked at stands behind what is looked at later.
+-- What was looked at stands after what is looked at later.
 abbrev pub LooksGrow : Local → Local → Type 0
 LooksGrow l m = (more : List Looked) × (m.looked ≡ more ++ l.looked)
 
@@ -70,11 +70,11 @@ step_looks s w step i sound may =
     ]
 
 -- one of the first counts that were looked at is one of them still
-looked_behind : (more xs : List Looked) (p since : ℕ) (look : Looked) → slice_get (more ++ xs) p ≡ Some look → since ≤ length xs → length (more ++ xs) ≤ p + since
+looked_after : (more xs : List Looked) (p since : ℕ) (look : Looked) → slice_get (more ++ xs) p ≡ Some look → since ≤ length xs → length (more ++ xs) ≤ p + since
     → (k : ℕ) × (slice_get xs k ≡ Some look) × (length xs ≤ k + since)
-looked_behind [] xs p since look is few late = (p, is, late)
-looked_behind (y ∷ more) xs zero since look is few late = absurd (omega (arith, few, late, length-append more xs))
-looked_behind (y ∷ more) xs (suc p) since look is few late = looked_behind more xs p since look is few (omega (arith, late))
+looked_after [] xs p since look is few late = (p, is, late)
+looked_after (y ∷ more) xs zero since look is few late = absurd (omega (arith, few, late, length-append more xs))
+looked_after (y ∷ more) xs (suc p) since look is few late = looked_after more xs p since look is few (omega (arith, late))
 
 -- a local with more looks, and the same cuts or one more
 module _ (l m : Local) (h : Ordered l) (grows : LooksGrow l m) where
@@ -84,7 +84,7 @@ module _ (l m : Local) (h : Ordered l) (grows : LooksGrow l m) where
   old_looked : (p q : ℕ) (look : Looked) (given : Given) → slice_get m.looked p ≡ Some look → slice_get l.cuts q ≡ Some given
       → length m.looked ≤ p + given.since → look.region ≡ given.region → look.count ≤ slice_index given.cut look.caller
   old_looked p q look given is there late same =
-      let back = looked_behind grows.0 l.looked p given.since look (sym (ap (λ (xs : List Looked). slice_get xs p) grows.1) ∙ is) (h.few q given there)
+      let back = looked_after grows.0 l.looked p given.since look (sym (ap (λ (xs : List Looked). slice_get xs p) grows.1) ∙ is) (h.few q given there)
       (omega (arith, late, ap length grows.1)) in
       h.looked back.0 q look given back.1 there back.2 same
 

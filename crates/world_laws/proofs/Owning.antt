@@ -12,7 +12,7 @@ use Rattle.world_core.specs.Layout.{embedded_place, places}
 use Rattle.world_core.specs.Shape.{Shape}
 use Rattle.world_core.specs.Local.{Phase, Announcing, Asking, Viewing, Publishing, Judging, Scan, Looked, Peeked, Object_step, Local, fresh, own_count, embedded_in}
 use Rattle.world_core.specs.Scan.{open_round, course, wanted}
-use Rattle.world_core.specs.Event.{Event, Stage, Announce, Object, Look, Peek, Publish, Opening, Begins_none, Begins_scan, Begins_view, may_happen, may_begin, is_loaded, local_after, opened, fed, went_on, given_by, with_word, with_look, with_peek, cut_to_embed, served, purpose_of, Purpose, For_row, For_view, For_seen, For_nothing, is_staging, is_unstaged, is_row_staged, is_entry_to_embed, staged_at, is_same_region, is_look_wanted, is_peek_wanted, knows_row}
+use Rattle.world_core.specs.Event.{Event, Stage, Announce, Object, Look, Peek, Publish, Opening, Begins_none, Begins_scan, Begins_view, is_enabled, may_begin, is_loaded, local_after, opened, fed, went_on, given_by, with_word, with_look, with_peek, cut_to_embed, served, purpose_of, Purpose, For_row, For_view, For_seen, For_nothing, is_staging, is_unstaged, is_row_staged, is_entry_to_embed, staged_at, is_same_region, is_look_wanted, is_peek_wanted, knows_row}
 use Rattle.world_core.specs.World.{World, Step, start, local_of, count_of, row_word, after, is_possible, after_all, are_possible}
 use Rattle.world_core.specs.Agreement.{Agrees, IsKeptIn, HasPhase, unpublished_calls, unpublished_views, unseen_records}
 use Rattle.world_core.proofs.Scans.{open_lacks}
@@ -288,7 +288,7 @@ module _ (s : Shape) (w : World) (sound : Sound s w) (me : ℕ) (low : me < s.ca
       owns_there me mine.to_embed (own_count mine r) (staged_at mine.staged (embedded_place s.callers r 0)) (embedded_due s w sound me low r whole)
       (h.to_embed r (staging_of s w sound me low r whole))
 
-  announced_owns : IsTrue (may_happen s me mine Announce) → Owns me mine → (r : Region) (k : ℕ) → k < length (embedded_in (local_after s.callers mine Announce) r)
+  announced_owns : IsTrue (is_enabled s me mine Announce) → Owns me mine → (r : Region) (k : ℕ) → k < length (embedded_in (local_after s.callers mine Announce) r)
       → slice_index (slice_index_or (embedded_in (local_after s.callers mine Announce) r) k []) me ≡ k
   announced_owns may h N k below =
       let new : slice_index (cut_to_embed mine) me ≡ mine.announced = staged_owns N may h in
@@ -296,7 +296,7 @@ module _ (s : Shape) (w : World) (sound : Sound s w) (me : ℕ) (low : me < s.ca
       omega (arith, all)
   announced_owns may h M k below = h.embedded M k below
 
-  published_owns : IsTrue (may_happen s me mine Publish) → Owns me mine → (r : Region) (k : ℕ) → k < length (embedded_in (local_after s.callers mine Publish) r)
+  published_owns : IsTrue (is_enabled s me mine Publish) → Owns me mine → (r : Region) (k : ℕ) → k < length (embedded_in (local_after s.callers mine Publish) r)
       → slice_index (slice_index_or (embedded_in (local_after s.callers mine Publish) r) k []) me ≡ k
   published_owns may h N k below = h.embedded N k below
   published_owns may h M k below =
@@ -307,7 +307,7 @@ module _ (s : Shape) (w : World) (sound : Sound s w) (me : ℕ) (low : me < s.ca
   opened_phase : (q : Region) (j : ℕ) (o : Opening) → may_begin s me mine q j o ≡ true → HasPhase (opened mine q o)
   opened_phase q j o begins = (opened_agrees s me w.words me mine q j o agrees begins).phase
 
-  look_owned : (q : Region) (j x : ℕ) (o : Opening) → IsTrue (may_happen s me mine (Look q j x o)) → IsTrue (is_loaded s w.words (Look q j x o)) → Owned s w me mine mine.scan
+  look_owned : (q : Region) (j x : ℕ) (o : Opening) → IsTrue (is_enabled s me mine (Look q j x o)) → IsTrue (is_loaded s w.words (Look q j x o)) → Owned s w me mine mine.scan
       → Owned s w me (local_after s.callers mine (Look q j x o)) (local_after s.callers mine (Look q j x o)).scan
   look_owned q j x o may loaded h =
       let begins = (and_parts (nat_lt j s.callers) (may_begin s me mine q j o) may).1 in
@@ -326,7 +326,7 @@ module _ (s : Shape) (w : World) (sound : Sound s w) (me : ℕ) (low : me < s.ca
       omega (arith, found, same))
       (λ from all. found_look s w sound me low from all q j x o loaded)
 
-  peek_owned : (q : Region) (j k t x : ℕ) → IsTrue (may_happen s me mine (Peek q j k t x)) → IsTrue (is_loaded s w.words (Peek q j k t x)) → Owned s w me mine mine.scan
+  peek_owned : (q : Region) (j k t x : ℕ) → IsTrue (is_enabled s me mine (Peek q j k t x)) → IsTrue (is_loaded s w.words (Peek q j k t x)) → Owned s w me mine mine.scan
       → Owned s w me (local_after s.callers mine (Peek q j k t x)) (local_after s.callers mine (Peek q j k t x)).scan
   peek_owned q j k t x may loaded h =
       let peek : Peeked = record { region = q; caller = j; row = k; place = t; word = x } in
@@ -345,7 +345,7 @@ module _ (s : Shape) (w : World) (sound : Sound s w) (me : ℕ) (low : me < s.ca
       (found ∙ ap (λ (p : ℕ). row_word s w q j k p) at.at))
       (λ from all. found_peek s w sound me low from all q j k t x may loaded)
 
-  own_owned : (e : Event) → IsTrue (may_happen s me mine e) → IsTrue (is_loaded s w.words e) → Owned s w me mine mine.scan
+  own_owned : (e : Event) → IsTrue (is_enabled s me mine e) → IsTrue (is_loaded s w.words e) → Owned s w me mine mine.scan
       → Owned s w me (local_after s.callers mine e) (local_after s.callers mine e).scan
   own_owned (Stage q t x) may loaded h =
       record {

@@ -11,7 +11,7 @@ use Rattle.world_core.specs.Layout.{row_words, count_index, place_index, object_
 use Rattle.world_core.specs.Shape.{Shape}
 use Rattle.world_core.specs.Local.{Local, Scan, Object_step, fresh, own_count}
 use Rattle.world_core.specs.Scan.{wanted}
-use Rattle.world_core.specs.Event.{Event, Stage, Announce, Object, Look, Peek, Publish, Opening, Begins_none, Begins_scan, Begins_view, may_happen, may_begin, is_allowed, is_loaded, words_after, local_after, opened, fed, went_on, with_word, with_look, with_peek, looked_at, given_by, served, purpose_of, Purpose, For_row, For_view, For_seen, For_nothing, is_asking, is_word, is_same_region, is_look_wanted, is_peek_wanted, knows_row}
+use Rattle.world_core.specs.Event.{Event, Stage, Announce, Object, Look, Peek, Publish, Opening, Begins_none, Begins_scan, Begins_view, is_enabled, may_begin, is_allowed, is_loaded, words_after, local_after, opened, fed, went_on, with_word, with_look, with_peek, looked_at, given_by, served, purpose_of, Purpose, For_row, For_view, For_seen, For_nothing, is_asking, is_word, is_same_region, is_look_wanted, is_peek_wanted, knows_row}
 use Rattle.world_core.specs.World.{World, Step, start, local_of, after, after_all, is_possible, are_possible}
 use Rattle.world_core.specs.History.{Happening, happenings, history_from}
 use Rattle.book_base.specs.Book.{Page}
@@ -22,12 +22,12 @@ use Rattle.world_laws.proofs.Words.{own_few}
 use Rattle.world_laws.proofs.Knowing.{Sound, start_sound, sound_after, known_counted}
 use Rattle.world_laws.proofs.Running.{possible}
 
--- a front of a list with an item set
-take-set_front : (n : ℕ) (xs : List ℕ) (i x : ℕ) → take n (slice_set xs i x) ≡ slice_set (take n xs) i x
-take-set_front zero xs i x = refl
-take-set_front (suc n) [] i x = refl
-take-set_front (suc n) (y ∷ ys) zero x = refl
-take-set_front (suc n) (y ∷ ys) (suc i) x = ap (λ (zs : List ℕ). y ∷ zs) (take-set_front n ys i x)
+-- a prefix of a list with an item set
+take-set_prefix : (n : ℕ) (xs : List ℕ) (i x : ℕ) → take n (slice_set xs i x) ≡ slice_set (take n xs) i x
+take-set_prefix zero xs i x = refl
+take-set_prefix (suc n) [] i x = refl
+take-set_prefix (suc n) (y ∷ ys) zero x = refl
+take-set_prefix (suc n) (y ∷ ys) (suc i) x = ap (λ (zs : List ℕ). y ∷ zs) (take-set_prefix n ys i x)
 
 get_or-map_default : {X Y : Type 0} (f : X → Y) (xs : List X) (i : ℕ) (d : X) → slice_index_or (map f xs) i (f d) ≡ f (slice_index_or xs i d)
 get_or-map_default f [] i d = refl
@@ -105,7 +105,7 @@ may_begin_outside s me l q j (Begins_view reply) h =
     let d = and_parts (is_word reply) (s.program.may_reply me l reply) c.1 in
     and_from (j == 0) _ a.0 (and_from (is_same_region q N) _ b.0 (and_from (is_asking l.phase) _ c.0 (and_from (is_word reply) true d.0 refl)))
 
-may_outside : (s : Shape) (me : ℕ) (l : Local) (e : Event) → is_object e ≡ false → may_happen s me l e ≡ true → may_happen (outside_of s) me (without_steps l) e ≡ true
+may_outside : (s : Shape) (me : ℕ) (l : Local) (e : Event) → is_object e ≡ false → is_enabled s me l e ≡ true → is_enabled (outside_of s) me (without_steps l) e ≡ true
 may_outside s me l (Stage q t x) is h = h
 may_outside s me l Announce is h = h
 may_outside s me l Publish is h = h
@@ -127,17 +127,17 @@ same_happenings who l (Peek q j k t x) = refl
 
 -- A world and the plain world that is it without its object words and object steps.
 module _ (s : Shape) (w v : World) (h : Sound s w) (p : IsPlain s w v) where
-  abbrev front : ℕ
-  front = row_words s.callers s.cap
+  abbrev prefix : ℕ
+  prefix = row_words s.callers s.cap
 
-  word_same : (i : ℕ) → i < front → slice_index v.words i ≡ slice_index w.words i
-  word_same i low = ap (λ (ws : List ℕ). slice_index ws i) p.words ∙ get_or-take front w.words i 0 low
+  word_same : (i : ℕ) → i < prefix → slice_index v.words i ≡ slice_index w.words i
+  word_same i low = ap (λ (ws : List ℕ). slice_index ws i) p.words ∙ get_or-take prefix w.words i 0 low
 
   local_same : (i : ℕ) → local_of v i ≡ without_steps (local_of w i)
   local_same i = ap (λ (ls : List Local). slice_index_or ls i fresh) p.locals ∙ get_or-map_default without_steps w.locals i fresh
 
   -- what is loaded is the same
-  loaded_outside : (me : ℕ) → me < s.callers → (e : Event) → is_object e ≡ false → may_happen s me (local_of w me) e ≡ true → is_loaded s w.words e ≡ true
+  loaded_outside : (me : ℕ) → me < s.callers → (e : Event) → is_object e ≡ false → is_enabled s me (local_of w me) e ≡ true → is_loaded s w.words e ≡ true
       → is_loaded (outside_of s) v.words e ≡ true
   loaded_outside me low (Stage q t x) is may load = refl
   loaded_outside me low Announce is may load = refl
@@ -159,32 +159,32 @@ module _ (s : Shape) (w v : World) (h : Sound s w) (p : IsPlain s w v) where
       ∙ sym (word_same (place_index s.callers s.cap q j k t) (row_within s.callers s.cap q j k t row.0 fits (ltb-true t (places s.callers q) b.0))))
 
   words_outside : (me : ℕ) (e : Event) → is_object e ≡ false
-      → words_after (outside_of s) me (without_steps (local_of w me)) v.words e ≡ take front (words_after s me (local_of w me) w.words e)
+      → words_after (outside_of s) me (without_steps (local_of w me)) v.words e ≡ take prefix (words_after s me (local_of w me) w.words e)
   words_outside me (Stage q t x) is =
       ap (λ (ws : List ℕ). slice_set ws (place_index s.callers s.cap q me (own_count (local_of w me) q) t) x) p.words
-      ∙ sym (take-set_front front w.words (place_index s.callers s.cap q me (own_count (local_of w me) q) t) x)
+      ∙ sym (take-set_prefix prefix w.words (place_index s.callers s.cap q me (own_count (local_of w me) q) t) x)
   words_outside me Announce is =
       ap (λ (ws : List ℕ). slice_set ws (count_index s.callers N me) ((local_of w me).announced + 1)) p.words
-      ∙ sym (take-set_front front w.words (count_index s.callers N me) ((local_of w me).announced + 1))
+      ∙ sym (take-set_prefix prefix w.words (count_index s.callers N me) ((local_of w me).announced + 1))
   words_outside me Publish is =
       ap (λ (ws : List ℕ). slice_set ws (count_index s.callers M me) ((local_of w me).published + 1)) p.words
-      ∙ sym (take-set_front front w.words (count_index s.callers M me) ((local_of w me).published + 1))
+      ∙ sym (take-set_prefix prefix w.words (count_index s.callers M me) ((local_of w me).published + 1))
   words_outside me (Object o) is = absurd cc
   words_outside me (Look q j x o) is = p.words
   words_outside me (Peek q j k t x) is = p.words
 
-  -- a step that is no object step may happen there too, and leads to the plain world of the world that it leads to
+  -- a step that is no object step is enabled there too, and leads to the plain world of the world that it leads to
   step_outside : (step : Step) → is_object step.event ≡ false → is_possible s w step ≡ true
       → (is_possible (outside_of s) v step ≡ true) × IsPlain s (after s w step) (after (outside_of s) v step)
   step_outside step is may =
       let q = possible s w step may in
-      let low = (and_parts (nat_lt step.who s.callers) (may_happen s step.who (local_of w step.who) step.event)
+      let low = (and_parts (nat_lt step.who s.callers) (is_enabled s step.who (local_of w step.who) step.event)
       (and_parts (is_allowed s step.who (local_of w step.who) step.event) (is_loaded s w.words step.event) may).0).0 in
-      let allowed : may_happen (outside_of s) step.who (local_of v step.who) step.event ≡ true =
-      subst (λ (l : Local). may_happen (outside_of s) step.who l step.event ≡ true) (sym (local_same step.who)) (may_outside s step.who (local_of w step.who) step.event is q.allowed) in
+      let allowed : is_enabled (outside_of s) step.who (local_of v step.who) step.event ≡ true =
+      subst (λ (l : Local). is_enabled (outside_of s) step.who l step.event ≡ true) (sym (local_same step.who)) (may_outside s step.who (local_of w step.who) step.event is q.allowed) in
       let loads = loaded_outside step.who q.caller step.event is q.allowed q.loaded in (
         and_from (is_allowed (outside_of s) step.who (local_of v step.who) step.event) (is_loaded (outside_of s) v.words step.event)
-            (and_from (nat_lt step.who s.callers) (may_happen (outside_of s) step.who (local_of v step.who) step.event) low allowed) loads,
+            (and_from (nat_lt step.who s.callers) (is_enabled (outside_of s) step.who (local_of v step.who) step.event) low allowed) loads,
         record {
           words =
               ap (λ (l : Local). words_after (outside_of s) step.who l v.words step.event) (local_same step.who) ∙ words_outside step.who step.event is;
@@ -200,7 +200,7 @@ module _ (s : Shape) (w v : World) (h : Sound s w) (p : IsPlain s w v) where
   object_outside : (who : ℕ) (o : Object_step) → IsPlain s (after s w (record { who = who; event = Object o })) v
   object_outside who o =
       record {
-        words = p.words ∙ sym (take-set-le front w.words (object_index s.callers s.cap o.place) o.new (omega arith));
+        words = p.words ∙ sym (take-set-le prefix w.words (object_index s.callers s.cap o.place) o.new (omega arith));
         locals = p.locals
             ∙ sym (map-set_same without_steps w.locals who (local_after s.callers (local_of w who) (Object o)) fresh (object_nothing s.callers (local_of w who) o));
       }

@@ -9,7 +9,7 @@ use Rattle.world_core.specs.declared.region.Region.TheVariants.{N, M}
 use Rattle.world_core.specs.Layout.{places, count_index, place_index, content, Reply, View_entry, Embedded_entry}
 use Rattle.world_core.specs.Shape.{Shape, words_of}
 use Rattle.world_core.specs.Local.{Phase, Announcing, Asking, Viewing, Publishing, Judging, Staged, Local, own_count, word_of}
-use Rattle.world_core.specs.Event.{Announce, Publish, may_happen, words_after, local_after, cut_to_embed, is_staging, is_staged, are_staged, staged_at, staged_operation, is_due, is_entry_to_embed, is_row_staged, is_word}
+use Rattle.world_core.specs.Event.{Announce, Publish, is_enabled, words_after, local_after, cut_to_embed, is_staging, is_staged, are_staged, staged_at, staged_operation, is_due, is_entry_to_embed, is_row_staged, is_word}
 use Rattle.world_core.specs.Agreement.{Agrees, IsInRow, HasPhase, unpublished_calls, unpublished_replies, unpublished_views, unseen_records}
 use Rattle.world_core.proofs.Indices.{count_apart, count_or_row, count_within}
 use Rattle.world_laws.proofs.RowWords.{SameRow, same_row, low_joined, high_joined}
@@ -91,7 +91,7 @@ announced_before n l N k h below =
 announced_before n l M k h below = record { reply = refl; view = refl; embedded = refl }
 
 -- the rows after an announcement
-announced_rows : (s : Shape) (me : ℕ) (l : Local) (words : List ℕ) → me < s.callers → IsTrue (may_happen s me l Announce) → Agrees s words me l
+announced_rows : (s : Shape) (me : ℕ) (l : Local) (words : List ℕ) → me < s.callers → IsTrue (is_enabled s me l Announce) → Agrees s words me l
     → (r : Region) (k p : ℕ) → k < own_count (local_after s.callers l Announce) r → p < places s.callers r
     → slice_index (words_after s me l words Announce) (place_index s.callers s.cap r me k p) ≡ word_of (local_after s.callers l Announce) k (content s.callers r p)
 announced_rows s me l words low may h N k p below fits =
@@ -114,7 +114,7 @@ announced_rows s me l words low may h M k p below fits =
 
 -- an announcement keeps the agreement of its own caller
 pub announce_agrees : (s : Shape) (me : ℕ) (l : Local) (words : List ℕ) → me < s.callers → words_of s ≤ length words
-    → IsTrue (may_happen s me l Announce) → Agrees s words me l
+    → IsTrue (is_enabled s me l Announce) → Agrees s words me l
     → Agrees s (words_after s me l words Announce) me (local_after s.callers l Announce)
 announce_agrees s me l words low long may h =
     let first : IsInRow s words me l N 0 = row_staged s words me l N may h 0 (omega arith) in
@@ -172,7 +172,7 @@ published_before n l N k h below = record { operation = refl; embedded = refl }
 published_before n l M k h below =
     record { reply = refl; view = refl; embedded = sym (get_or_append_left l.embedded_in_M (cut_to_embed l ∷ []) [] k (omega (arith, h.embedded_in_M))) }
 
-published_rows : (s : Shape) (me : ℕ) (l : Local) (words : List ℕ) → me < s.callers → IsTrue (may_happen s me l Publish) → Agrees s words me l
+published_rows : (s : Shape) (me : ℕ) (l : Local) (words : List ℕ) → me < s.callers → IsTrue (is_enabled s me l Publish) → Agrees s words me l
     → (r : Region) (k p : ℕ) → k < own_count (local_after s.callers l Publish) r → p < places s.callers r
     → slice_index (words_after s me l words Publish) (place_index s.callers s.cap r me k p) ≡ word_of (local_after s.callers l Publish) k (content s.callers r p)
 published_rows s me l words low may h N k p below fits =
@@ -194,7 +194,7 @@ published_rows s me l words low may h M k p below fits =
 
 -- a publication keeps the agreement of its own caller
 pub publish_agrees : (s : Shape) (me : ℕ) (l : Local) (words : List ℕ) → me < s.callers → words_of s ≤ length words
-    → IsTrue (may_happen s me l Publish) → Agrees s words me l
+    → IsTrue (is_enabled s me l Publish) → Agrees s words me l
     → Agrees s (words_after s me l words Publish) me (local_after s.callers l Publish)
 publish_agrees s me l words low long may h =
     let phase : l.phase ≡ Publishing = staging_M l.phase (and_parts (is_staging l.phase M) (are_staged l.staged (places s.callers M)) may).0 in

@@ -9,7 +9,7 @@ use Rattle.world_core.specs.Layout.{Content, embedded_place, places}
 use Rattle.world_core.specs.Shape.{Shape}
 use Rattle.world_core.specs.Local.{Scan, Looked, Peeked, Local, own_count, embedded_in}
 use Rattle.world_core.specs.Scan.{open_round, wanted}
-use Rattle.world_core.specs.Event.{Event, Stage, Announce, Object, Look, Peek, Publish, Opening, may_happen, may_begin, is_loaded, local_after, opened, with_look, with_peek, cut_to_embed, is_staging, is_row_staged, are_staged, is_entry_to_embed, staged_at, is_due, is_look_wanted, is_peek_wanted, knows_row}
+use Rattle.world_core.specs.Event.{Event, Stage, Announce, Object, Look, Peek, Publish, Opening, is_enabled, may_begin, is_loaded, local_after, opened, with_look, with_peek, cut_to_embed, is_staging, is_row_staged, are_staged, is_entry_to_embed, staged_at, is_due, is_look_wanted, is_peek_wanted, knows_row}
 use Rattle.world_core.specs.World.{World, Step, local_of, count_of, row_word, after, is_possible}
 use Rattle.world_core.specs.Agreement.{Agrees}
 use Rattle.world_laws.proofs.Endings.{content_embedded, embedded_fits}
@@ -75,7 +75,7 @@ module _ (s : Shape) (w : World) (sound : Sound s w) (me : ℕ) (low : me < s.ca
     published_grows N = was.grows N
     published_grows M = let old : count_of s from M me ≤ mine.published = was.grows M in omega (arith, old)
 
-    announced_rows : IsTrue (may_happen s me mine Announce) → (r : Region) (k : ℕ) → count_of s from r me < k → k < own_count (local_after s.callers mine Announce) r
+    announced_rows : IsTrue (is_enabled s me mine Announce) → (r : Region) (k : ℕ) → count_of s from r me < k → k < own_count (local_after s.callers mine Announce) r
         → IsHighCut s from r (slice_index_or (embedded_in (local_after s.callers mine Announce) r) k [])
     announced_rows may N k since below = elim (cases_eq k mine.announced) [
       | inl here ↦
@@ -88,7 +88,7 @@ module _ (s : Shape) (w : World) (sound : Sound s w) (me : ℕ) (low : me < s.ca
     ]
     announced_rows may M k since below = was.rows M k since below
 
-    published_rows : IsTrue (may_happen s me mine Publish) → (r : Region) (k : ℕ) → count_of s from r me < k → k < own_count (local_after s.callers mine Publish) r
+    published_rows : IsTrue (is_enabled s me mine Publish) → (r : Region) (k : ℕ) → count_of s from r me < k → k < own_count (local_after s.callers mine Publish) r
         → IsHighCut s from r (slice_index_or (embedded_in (local_after s.callers mine Publish) r) k [])
     published_rows may N k since below = was.rows N k since below
     published_rows may M k since below = elim (cases_eq k mine.published) [
@@ -106,7 +106,7 @@ module _ (s : Shape) (w : World) (sound : Sound s w) (me : ℕ) (low : me < s.ca
         → is_look_wanted j (wanted s.callers taken) ≡ true → count_of s from q (length (open_round s.callers taken)) ≤ x
     found_look q j x o loaded taken h wants = look_high s from some w sound all q j x taken (eqb-true x (count_of s w q j) loaded) wants
 
-    pub found_peek : (q : Region) (j k t x : ℕ) → IsTrue (may_happen s me mine (Peek q j k t x)) → IsTrue (is_loaded s w.words (Peek q j k t x))
+    pub found_peek : (q : Region) (j k t x : ℕ) → IsTrue (is_enabled s me mine (Peek q j k t x)) → IsTrue (is_loaded s w.words (Peek q j k t x))
         → (taken : List ℕ) → AreHigh s from q taken → is_peek_wanted s.callers q j k t (wanted s.callers taken) ≡ true
         → count_of s from q (length (open_round s.callers taken)) ≤ x
     found_peek q j k t x may loaded taken h wants =
@@ -115,7 +115,7 @@ module _ (s : Shape) (w : World) (sound : Sound s w) (me : ℕ) (low : me < s.ca
         let row = known_counted s w sound.kept sound.low mine (sound.low me low) q j k more.1 in
         peek_high s from some w sound all q j k t x taken row.0 row.1 (eqb-true x (row_word s w q j k t) loaded) h wants
 
-    own_high : (e : Event) → IsTrue (may_happen s me mine e) → IsTrue (is_loaded s w.words e) → High s from me (local_after s.callers mine e)
+    own_high : (e : Event) → IsTrue (is_enabled s me mine e) → IsTrue (is_loaded s w.words e) → High s from me (local_after s.callers mine e)
     own_high (Stage q t x) may loaded =
         record { grows = λ r. was.grows r; rows = λ r k since below. was.rows r k since below; to_embed = λ r staging since. was.to_embed r staging since; scan = was.scan }
     own_high (Object o) may loaded =

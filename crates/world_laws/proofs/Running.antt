@@ -9,7 +9,7 @@ use Rattle.world_core.specs.declared.region.Region.TheVariants.{N, M}
 use Rattle.world_core.specs.Layout.{places, count_index, place_index, object_index}
 use Rattle.world_core.specs.Shape.{Shape, words_of}
 use Rattle.world_core.specs.Local.{Local, fresh, own_count}
-use Rattle.world_core.specs.Event.{Event, Stage, Announce, Object, Look, Peek, Publish, may_happen, is_allowed, is_loaded, words_after, local_after}
+use Rattle.world_core.specs.Event.{Event, Stage, Announce, Object, Look, Peek, Publish, is_enabled, is_allowed, is_loaded, words_after, local_after}
 use Rattle.world_core.specs.World.{World, Step, start, local_of, count_of, row_word, after, is_possible, after_all, are_possible, IsRun, end_of}
 use Rattle.world_core.specs.Agreement.{Agrees}
 use Rattle.world_laws.specs.Runs.{are_of_others, CountsNeverFall, CountedRowsStay, CountsAreOwn, RowsAreOwn, LocalsAreOwn, LocalsAgree, StartIsReachable, StepsReach}
@@ -27,13 +27,13 @@ pub record Kept (s : Shape) (w : World) : Type 0 where
 -- What a possible step has.
 pub record Possible (s : Shape) (w : World) (step : Step) : Type 0 where
   pub caller : step.who < s.callers
-  pub allowed : IsTrue (may_happen s step.who (local_of w step.who) step.event)
+  pub allowed : IsTrue (is_enabled s step.who (local_of w step.who) step.event)
   pub loaded : IsTrue (is_loaded s w.words step.event)
 
 pub possible : (s : Shape) (w : World) (step : Step) → IsTrue (is_possible s w step) → Possible s w step
 possible s w step h =
     let both = and_parts (is_allowed s step.who (local_of w step.who) step.event) (is_loaded s w.words step.event) h in
-    let parts = and_parts (nat_lt step.who s.callers) (may_happen s step.who (local_of w step.who) step.event) both.0 in
+    let parts = and_parts (nat_lt step.who s.callers) (is_enabled s step.who (local_of w step.who) step.event) both.0 in
     record { caller = ltb-true step.who s.callers parts.0; allowed = parts.1; loaded = both.1 }
 
 words_long : (s : Shape) (me : ℕ) (l : Local) (words : List ℕ) (e : Event) → length (words_after s me l words e) ≡ length words

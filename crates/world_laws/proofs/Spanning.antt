@@ -56,8 +56,8 @@ first_words region s me l words (Object o) h = absurd cc
 first_words region s me l words (Peek r j k t x) h = absurd cc
 first_words region s me l words Publish h = absurd cc
 
-pub front_runs : (s : Shape) (before later : List Step) → IsRun s (before ++ later) → IsRun s before
-front_runs s before later run =
+pub prefix_runs : (s : Shape) (before later : List Step) → IsRun s (before ++ later) → IsRun s before
+prefix_runs s before later run =
     (and_parts (are_possible s (start s) before) (are_possible s (end_of s before) later) (sym (are_possible-append s (start s) before later) ∙ run)).0
 
 -- the counts of a region, as a cut
@@ -83,8 +83,8 @@ spanned s who given r h =
     let up : List Step = up_to_last r in
     let w : World = end_of s r.before in
     let u : World = end_of s up in
-    let up_run : IsRun s up = front_runs s up (r.last ∷ []) h.run in
-    let run : IsRun s r.before = front_runs s r.before (r.first ∷ r.between) up_run in
+    let up_run : IsRun s up = prefix_runs s up (r.last ∷ []) h.run in
+    let run : IsRun s r.before = prefix_runs s r.before (r.first ∷ r.between) up_run in
     let sound : Sound s w = steps_sound s (start s) r.before (start_sound s) run in
     let on = goes_on s r.before (r.first ∷ r.between) up_run in
     let parts = and_parts (is_possible s w r.first) (are_possible s (after s w r.first) r.between) on.may in
@@ -170,9 +170,9 @@ module _ (s : Shape) (who : ℕ) (given : Given) (r : Span) (h : GivesCut s who 
     sym (append-nil r.between),
     counts_are s (up_to_last r) given.region given.cut was.wide
         (λ j fits.
-        let front : IsRun s (up_to_last r ++ more) = subst (λ (xs : List Step). IsRun s xs) longer (front_runs s was.early was.later (subst (λ (xs : List Step). IsRun s xs) was.parts h.run)) in
+        let prefix : IsRun s (up_to_last r ++ more) = subst (λ (xs : List Step). IsRun s xs) longer (prefix_runs s was.early was.later (subst (λ (xs : List Step). IsRun s xs) was.parts h.run)) in
         let up : count_of s (end_of s (up_to_last r)) given.region j ≤ count_of s (end_of s (up_to_last r ++ more)) given.region j =
-        counts_never_fall s (up_to_last r) more given.region j front fits in
+        counts_never_fall s (up_to_last r) more given.region j prefix fits in
         let here : count_of s (end_of s was.early) given.region j ≡ count_of s (end_of s (up_to_last r ++ more)) given.region j =
         ap (λ (xs : List Step). count_of s (end_of s xs) given.region j) longer in
         let down : count_of s (end_of s was.early) given.region j ≤ count_of s (end_of s (was.early ++ was.later)) given.region j =
@@ -190,7 +190,7 @@ module _ (s : Shape) (who : ℕ) (given : Given) (r : Span) (h : GivesCut s who 
     refl,
     counts_are s (r.before ++ r.first ∷ []) given.region given.cut was.wide
         (λ j fits.
-        let run : IsRun s r.before = front_runs s r.before (r.first ∷ r.between) (front_runs s (up_to_last r) (r.last ∷ []) h.run) in
+        let run : IsRun s r.before = prefix_runs s r.before (r.first ∷ r.between) (prefix_runs s (up_to_last r) (r.last ∷ []) h.run) in
         let up : count_of s (end_of s was.early) given.region j ≤ count_of s (end_of s (was.early ++ more)) given.region j =
         counts_never_fall s was.early more given.region j (subst (λ (xs : List Step). IsRun s xs) longer run) fits in
         let here : count_of s (end_of s r.before) given.region j ≡ count_of s (end_of s (was.early ++ more)) given.region j =

@@ -7,7 +7,7 @@ use Rattle.world_core.specs.declared.region.Region.TheVariants.{N, M}
 use Rattle.world_core.specs.Layout.{places, count_index, place_index, content}
 use Rattle.world_core.specs.Shape.{Shape, words_of}
 use Rattle.world_core.specs.Local.{Phase, Announcing, Asking, Viewing, Publishing, Judging, Staged, Local, own_count}
-use Rattle.world_core.specs.Event.{Stage, may_happen, words_after, local_after, is_staging, is_staged, staged_at, is_due}
+use Rattle.world_core.specs.Event.{Stage, is_enabled, words_after, local_after, is_staging, is_staged, staged_at, is_due}
 use Rattle.world_core.specs.Agreement.{Agrees, IsInRow, IsStagedIn}
 use Rattle.world_core.proofs.Indices.{count_or_row, row_apart, row_within}
 use Rattle.world_laws.proofs.Words.{MayStage, may_stage, one_staged, row_kept, own_few}
@@ -65,7 +65,7 @@ at_stage s me l words q t x low long m r p region place =
 
 -- a stage keeps the agreement of its own caller
 pub stage_agrees : (s : Shape) (me : ℕ) (l : Local) (words : List ℕ) (q : Region) (t x : ℕ) → me < s.callers → words_of s ≤ length words
-    → IsTrue (may_happen s me l (Stage q t x)) → Agrees s words me l
+    → IsTrue (is_enabled s me l (Stage q t x)) → Agrees s words me l
     → Agrees s (words_after s me l words (Stage q t x)) me (local_after s.callers l (Stage q t x))
 stage_agrees s me l words q t x low long may h =
     let m = may_stage s me l q t x may in

@@ -10,7 +10,7 @@ use Rattle.world_core.specs.declared.want.Want.TheVariants.{Look as Wants_look, 
 use Rattle.world_core.specs.Shape.{Shape}
 use Rattle.world_core.specs.Local.{Phase, Viewing, Scan, Looked, Peeked, Local}
 use Rattle.world_core.specs.Scan.{open_round, wanted}
-use Rattle.world_core.specs.Event.{Event, Stage, Announce, Object, Look, Peek, Publish, Opening, Begins_none, Begins_scan, Begins_view, may_happen, may_begin, is_loaded, local_after, opened, begun, fed, went_on, given_by, with_word, with_look, with_peek, served, purpose_of, Purpose, For_row, For_view, For_seen, For_nothing, is_staging, is_asking, is_view_under_way, is_same_region, is_look_wanted, is_peek_wanted}
+use Rattle.world_core.specs.Event.{Event, Stage, Announce, Object, Look, Peek, Publish, Opening, Begins_none, Begins_scan, Begins_view, is_enabled, may_begin, is_loaded, local_after, opened, begun, fed, went_on, given_by, with_word, with_look, with_peek, served, purpose_of, Purpose, For_row, For_view, For_seen, For_nothing, is_staging, is_asking, is_view_under_way, is_same_region, is_look_wanted, is_peek_wanted}
 use Rattle.world_core.specs.World.{World, Step, start, local_of, count_of, after, is_possible, after_all, are_possible, end_of}
 use Rattle.world_laws.specs.Views.{return_of, ViewsHoldEarlier, ViewsHoldNoLater}
 use Rattle.world_laws.proofs.Each.{each_at}
@@ -90,15 +90,15 @@ steps_views s w (step ∷ steps) i sound may k below =
 run_sound : (s : Shape) (steps : List Step) → IsTrue (are_possible s (start s) steps) → Sound s (end_of s steps)
 run_sound s steps run = steps_sound s (start s) steps (start_sound s) run
 
-front_runs : (s : Shape) (before later : List Step) → IsTrue (are_possible s (start s) (before ++ later)) → IsTrue (are_possible s (start s) before)
-front_runs s before later run =
+prefix_runs : (s : Shape) (before later : List Step) → IsTrue (are_possible s (start s) (before ++ later)) → IsTrue (are_possible s (start s) before)
+prefix_runs s before later run =
     (and_parts (are_possible s (start s) before) (are_possible s (end_of s before) later) (sym (are_possible-append s (start s) before later) ∙ run)).0
 
 pub views_hold_no_later : ViewsHoldNoLater
 unfolding KeepsViews
 views_hold_no_later s before later who k j run low fits below =
     let on = goes_on s before later run in
-    let sound = run_sound s before (front_runs s before later run) in
+    let sound = run_sound s before (prefix_runs s before later run) in
     let kept = steps_views s (end_of s before) later who sound on.may k below in
     let entry : IsLowCut s (end_of s before) N (slice_index_or (local_of (end_of s before) who).views k []) =
     each_at (IsLowCut s (end_of s before) N) (local_of (end_of s before) who).views k [] (sound.low who low).views below in
@@ -192,7 +192,7 @@ module _ (s : Shape) (from w : World) (k : ℕ) (sound : Sound s w) (all : AllHi
       absurd (no_asking mine.phase h.phase (and_parts (is_asking mine.phase) _ (and_parts (j == 0) _ begins).1).0)
   look_waits M j x (Begins_view reply) begins loaded h = let never : false ≡ true = (and_parts (j == 0) false begins).1 in absurd cc
 
-  own_waits : (e : Event) → IsTrue (may_happen s me mine e) → IsTrue (is_loaded s w.words e) → Waiting s from k mine → Waits s from k (local_after s.callers mine e)
+  own_waits : (e : Event) → IsTrue (is_enabled s me mine e) → IsTrue (is_loaded s w.words e) → Waiting s from k mine → Waits s from k (local_after s.callers mine e)
   own_waits (Stage q t x) may loaded h = absurd (no_viewing mine.phase q h.phase (and_parts (is_staging mine.phase q) _ may).0)
   own_waits Announce may loaded h = absurd (no_viewing mine.phase N h.phase (and_parts (is_staging mine.phase N) _ may).0)
   own_waits Publish may loaded h = absurd (no_viewing mine.phase M h.phase (and_parts (is_staging mine.phase M) _ may).0)
@@ -248,7 +248,7 @@ views_hold_earlier s before later who x reply k j run fits number below =
     let step : Step = return_of who x reply in
     let w : World = end_of s before in
     let on = goes_on s before (step ∷ later) run in
-    let sound = run_sound s before (front_runs s before (step ∷ later) run) in
+    let sound = run_sound s before (prefix_runs s before (step ∷ later) run) in
     let parts = and_parts (is_possible s w step) (are_possible s (after s w step) later) on.may in
     let p = possible s w step parts.0 in
     let first : Waits s w (length (local_of w who).views) (local_of (after s w step) who) =

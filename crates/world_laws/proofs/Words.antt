@@ -7,7 +7,7 @@ use Rattle.world_core.specs.declared.region.Region.TheVariants.{N, M}
 use Rattle.world_core.specs.Layout.{places, count_index, place_index, object_index, content}
 use Rattle.world_core.specs.Shape.{Shape}
 use Rattle.world_core.specs.Local.{Phase, Announcing, Asking, Viewing, Publishing, Judging, Local, own_count}
-use Rattle.world_core.specs.Event.{Event, Stage, Announce, Object, Look, Peek, Publish, may_happen, words_after, is_staging, is_due}
+use Rattle.world_core.specs.Event.{Event, Stage, Announce, Object, Look, Peek, Publish, is_enabled, words_after, is_staging, is_due}
 use Rattle.world_core.specs.Agreement.{Agrees, HasPhase}
 use Rattle.world_core.proofs.Indices.{count_apart, count_or_row, row_apart, count_or_object, row_or_object}
 
@@ -18,7 +18,7 @@ pub record MayStage (s : Shape) (l : Local) (r : Region) (p x : ℕ) : Type 0 wh
   pub place : p < places s.callers r
   pub due : is_due l (content s.callers r p) x ≡ true
 
-pub may_stage : (s : Shape) (me : ℕ) (l : Local) (r : Region) (p x : ℕ) → IsTrue (may_happen s me l (Stage r p x)) → MayStage s l r p x
+pub may_stage : (s : Shape) (me : ℕ) (l : Local) (r : Region) (p x : ℕ) → IsTrue (is_enabled s me l (Stage r p x)) → MayStage s l r p x
 may_stage s me l r p x h =
     let a = and_parts (is_staging l.phase r) _ h in
     let b = and_parts (nat_lt (own_count l r) s.cap) _ a.1 in
@@ -41,7 +41,7 @@ one_staged Publishing M N a b = absurd (cc)
 one_staged Judging M N a b = absurd (cc)
 
 -- an event leaves each row word but those of its caller's row under way
-pub row_kept : (s : Shape) (me : ℕ) (l : Local) (words : List ℕ) (e : Event) → me < s.callers → IsTrue (may_happen s me l e)
+pub row_kept : (s : Shape) (me : ℕ) (l : Local) (words : List ℕ) (e : Event) → me < s.callers → IsTrue (is_enabled s me l e)
     → (r : Region) (i k p : ℕ) → i < s.callers → k < s.cap → p < places s.callers r → (i ≡ me → k < own_count l r)
     → slice_index (words_after s me l words e) (place_index s.callers s.cap r i k p) ≡ slice_index words (place_index s.callers s.cap r i k p)
 row_kept s me l words (Stage q t x) low may r i k p low' a b below =
@@ -83,7 +83,7 @@ own_few s words i l h N = h.few
 own_few s words i l h M = omega (arith, h.few, published_few l h.phase)
 
 -- an event of another caller keeps the agreement
-pub others_agree : (s : Shape) (me : ℕ) (l : Local) (words : List ℕ) (e : Event) → me < s.callers → IsTrue (may_happen s me l e)
+pub others_agree : (s : Shape) (me : ℕ) (l : Local) (words : List ℕ) (e : Event) → me < s.callers → IsTrue (is_enabled s me l e)
     → (i : ℕ) (other : Local) → i < s.callers → i ≢ me → Agrees s words i other → Agrees s (words_after s me l words e) i other
 others_agree s me l words e low may i other a ne h =
     record {

@@ -11,7 +11,7 @@ use Rattle.world_core.specs.Agreement.{Agrees}
 abbrev pub are_of_others : ℕ → List Step → Bool
 are_of_others i steps = list_all (λ (step : Step). not (step.who == i)) steps
 
--- The start is reachable, and so is the world after each step that may happen in a reachable world.
+-- The start is reachable, and so is the world after each step that is enabled in a reachable world.
 abbrev pub StartIsReachable : Type 0
 StartIsReachable = (s : Shape) → IsReachable s (start s)
 

@@ -9,7 +9,7 @@ use Rattle.object_orders.specs.OneWord.{OneWord}
 abbrev pub take : ℕ
 take = 2 ^ 32
 
--- The reply that gives the ticket behind so many taken ones.
+-- The reply that gives the ticket after this many taken ones.
 abbrev pub ticket : ℕ → ℕ → ℕ
 ticket first taken = reply_value (first + taken)
 

@@ -58,7 +58,7 @@ fn each_ticket_is_given_once(rt: HostRuntime) -> Result<(), Fail> {
     Ok(())
 }
 
-// A word that is no taking of a ticket gets `bad` and takes none; behind the last number comes 0.
+// A word that is no taking of a ticket gets `bad` and takes none; after the last number comes 0.
 #[test]
 fn an_unknown_operation_takes_no_ticket(rt: HostRuntime) -> Result<(), Fail> {
     let script = read_script(rt.alloc(), THREE_CALLS)?;

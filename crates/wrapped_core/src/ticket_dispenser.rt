@@ -20,7 +20,7 @@ pub struct TicketDispenser {
 }
 
 impl TicketDispenser {
-    // The reply that gives the ticket behind so many taken ones.
+    // The reply that gives the ticket after this many taken ones.
     fn ticket(&self, taken: u64) -> u64
         ensures { result ≡ ticket self.now.first taken }
     {

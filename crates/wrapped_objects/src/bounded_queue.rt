@@ -31,7 +31,7 @@ pub(crate) fn reply_of<R: Wait>(rt: &R, items: &ArrayQueue<u32>, op: OpWord) -> 
 }
 
 impl<R: Wait + Copy> BoundedQueue<R> {
-    /// A queue with room for so many values.
+    /// A queue with room for this many values.
     pub(crate) fn new(rt: R, alloc: Global, room: usize) -> Result<BoundedQueue<R>, NoMemory>
         requires { 0 < room }
     {

@@ -66,7 +66,7 @@ fn right_uses_are_not_caught(rt: HostRuntime) -> Result<(), Fail> {
     Ok(())
 }
 
-// How a replay of a script's turns over two queues in place of one ends, and what it writes.
+// How a replay of a script's turns over two queues instead of one ends, and what it writes.
 fn replay_twins<R: Wait + Copy>(
     rt: &R,
     alloc: Global,
@@ -119,7 +119,7 @@ fn increment_often<C: Increments>(counter: &C) {
     }
 }
 
-// What a counter says behind two threads that increment it 20,000 times each, side by side.
+// What a counter says after two threads that increment it 20,000 times each, side by side.
 fn counted<R: Threads, C: Increments + Sync>(rt: &R, counter: &C) -> u64 {
     join_mut(
         rt,

@@ -8,7 +8,7 @@ use object_kit::CountingPass;
 use std::alloc::Global;
 use std::sync::Wait;
 
-/// Two of the kit's queues in place of one, and each caller keeps to one of them. So what a caller enqueues is
+/// Two of the kit's queues instead of one, and each caller keeps to one of them. So what a caller enqueues is
 /// never found by the half of the callers that keep to the other.
 #[derive(Drop)]
 pub(crate) struct TwinQueues<R> {
@@ -18,7 +18,7 @@ pub(crate) struct TwinQueues<R> {
 }
 
 impl<R: Wait + Copy> TwinQueues<R> {
-    /// Two queues with room for so many values each.
+    /// Two queues with room for this many values each.
     pub(crate) fn new(rt: R, alloc: Global, room: usize) -> Result<TwinQueues<R>, NoMemory>
         requires { 0 < room }
     {

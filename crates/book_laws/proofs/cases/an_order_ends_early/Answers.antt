@@ -7,8 +7,8 @@ returns-clause-whole c = overtaking_is_legal
 pub returns-clause-too_long : goal.returns-clause-too_long
 returns-clause-too_long c = overtaking_is_too_long
 
-pub returns-clause-front : goal.returns-clause-front
-returns-clause-front c = overtaking_ends_early
+pub returns-clause-prefix : goal.returns-clause-prefix
+returns-clause-prefix c = overtaking_ends_early
 
 pub returns-clause-too_short : goal.returns-clause-too_short
 returns-clause-too_short c = one_is_too_short

@@ -7,7 +7,7 @@ use Rattle.call_intervals.specs.Intervals.{rows_of}
 use Rattle.book_picture.specs.Sheets.{AreAllDrawable}
 use Rattle.book_picture.specs.Rows.{AreFolded}
 use Rattle.book_picture.specs.Titles.{first_lines}
-use Rattle.book_picture.specs.Values.{values_behind, class_of_call}
+use Rattle.book_picture.specs.Values.{values_after, class_of_call}
 use Rattle.book_picture.specs.Elements.{AreLanesElements}
 use Rattle.book_picture.proofs.DrawingLemmas.{told_is_drawable}
 use Rattle.book_picture.proofs.PlainTexts.{says_more}
@@ -47,7 +47,7 @@ returns-clause-calls c =
       rows = c.deref-4.result.now;
       folded = subst (λ (n : ℕ). AreFolded n c.deref-4.result.now) count (subst (AreFolded c.len.result) (sym c.deref-4.ensures.value) c.in_ok-rows.ensures);
       values = c.deref-5.result.now;
-      appear = c.deref-5.ensures.value ∙ (c.in_ok-values.ensures ∙ ap (values_behind kind book []) (c.deref-2.ensures.value ∙ sym c.deref.ensures.value));
+      appear = c.deref-5.ensures.value ∙ (c.in_ok-values.ensures ∙ ap (values_after kind book []) (c.deref-2.ensures.value ∙ sym c.deref.ensures.value));
       head = string_bytes c.in_ok-out.out;
       plain = c.in_ok-out.ensures.plain;
       elements = put.0;

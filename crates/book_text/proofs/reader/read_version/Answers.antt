@@ -6,7 +6,7 @@ use Rattle.text_fields.specs.Head.{TitleDue, HeadRead, head_rules}
 use Rattle.text_fields.specs.Faults.{GoesTo, IsFirstFault}
 use Rattle.text_fields.proofs.Sharp.{goes_then, stops_later}
 use Rattle.book_text.specs.CallLines.{no_call_read}
-use Rattle.book_text.specs.BookRules.{InHead, InCalls, AtEnd, behind_head, book_rules, whole_text}
+use Rattle.book_text.specs.BookRules.{InHead, InCalls, AtEnd, after_head, book_rules, whole_text}
 use Rattle.book_text.proofs.CallTexts.{stops_then}
 use Rattle.book_text.proofs.Lifts.{few_calls, head_goes, head_fault, calls_goes, calls_stop}
 use Rattle.book_text.proofs.Readings.{book_ends, book_no_end}
@@ -28,7 +28,7 @@ returns-in_err-book-clause-refused c =
     let calls = c.in_ok-head.head.calls in
     let head = subst (λ (t : Unread). GoesTo (head_rules c.args.version (codes "book")) TitleDue t (HeadRead kind calls) c.read_head_of.new.lines) c.new-lines.ensures c.in_ok-head.ensures.found in
     let start = head_goes c.args.version TitleDue (HeadRead kind calls) (whole_text c.args.bytes.now) c.read_head_of.new.lines head in
-    rw (p.1, p.2) (stops_then (book_rules c.args.version) (InHead TitleDue) (behind_head (HeadRead kind calls)) (whole_text c.args.bytes.now) c.read_head_of.new.lines c.in_err-book.field-0.0 start
+    rw (p.1, p.2) (stops_then (book_rules c.args.version) (InHead TitleDue) (after_head (HeadRead kind calls)) (whole_text c.args.bytes.now) c.read_head_of.new.lines c.in_err-book.field-0.0 start
     (calls_stop c.args.version kind (no_call_read calls) c.read_head_of.new.lines c.in_err-book.field-0.0 c.in_err-book.ensures.refused))
 
 pub returns-in_err-read_end-clause-refused : goal.returns-in_err-read_end-clause-refused
@@ -40,7 +40,7 @@ returns-in_err-read_end-clause-refused c =
     let head = subst (λ (t : Unread). GoesTo (head_rules version (codes "book")) TitleDue t (HeadRead kind calls) c.read_head_of.new.lines) c.new-lines.ensures c.in_ok-head.ensures.found in
     let start = head_goes version TitleDue (HeadRead kind calls) (whole_text c.args.bytes.now) c.read_head_of.new.lines head in
     let lines = calls_goes version kind (no_call_read calls) (record { book = c.in_ok-book.book; due = [] }) c.read_head_of.new.lines c.read_calls_of.new.lines c.in_ok-book.ensures.found in
-    let both = goes_then (book_rules version) (InHead TitleDue) (behind_head (HeadRead kind calls)) (InCalls kind c.in_ok-book.book []) (whole_text c.args.bytes.now) c.read_head_of.new.lines c.read_calls_of.new.lines start lines in
+    let both = goes_then (book_rules version) (InHead TitleDue) (after_head (HeadRead kind calls)) (InCalls kind c.in_ok-book.book []) (whole_text c.args.bytes.now) c.read_head_of.new.lines c.read_calls_of.new.lines start lines in
     rw (p.1, p.2) (stops_later (book_rules version) (InHead TitleDue) (InCalls kind c.in_ok-book.book []) (whole_text c.args.bytes.now) c.read_calls_of.new.lines c.in_err-read_end.field-0.0 both (book_no_end version kind c.in_ok-book.book c.read_calls_of.new.lines c.in_err-read_end.field-0.0 c.in_err-read_end.ensures.refused))
 
 pub returns-clause-found : goal.returns-clause-found
@@ -51,6 +51,6 @@ returns-clause-found c =
     let head = subst (λ (t : Unread). GoesTo (head_rules version (codes "book")) TitleDue t (HeadRead kind calls) c.read_head_of.new.lines) c.new-lines.ensures c.in_ok-head.ensures.found in
     let start = head_goes version TitleDue (HeadRead kind calls) (whole_text c.args.bytes.now) c.read_head_of.new.lines head in
     let lines = calls_goes version kind (no_call_read calls) (record { book = c.in_ok-book.book; due = [] }) c.read_head_of.new.lines c.read_calls_of.new.lines c.in_ok-book.ensures.found in
-    let both = goes_then (book_rules version) (InHead TitleDue) (behind_head (HeadRead kind calls)) (InCalls kind c.in_ok-book.book []) (whole_text c.args.bytes.now) c.read_head_of.new.lines c.read_calls_of.new.lines start lines in
+    let both = goes_then (book_rules version) (InHead TitleDue) (after_head (HeadRead kind calls)) (InCalls kind c.in_ok-book.book []) (whole_text c.args.bytes.now) c.read_head_of.new.lines c.read_calls_of.new.lines start lines in
     let all = goes_then (book_rules version) (InHead TitleDue) (InCalls kind c.in_ok-book.book []) (AtEnd kind c.in_ok-book.book) (whole_text c.args.bytes.now) c.read_calls_of.new.lines c.read_end.new.lines both (book_ends version kind c.in_ok-book.book c.read_calls_of.new.lines c.read_end.new.lines c.in_ok-read_end.ensures.found) in
     (c.read_end.new.lines, record { goes = all; through = c.in_ok-read_end.ensures.found.whole })

@@ -3,7 +3,7 @@ use Rattle.book_base.specs.declared.call.Call.{Call}
 use Rattle.book_base.specs.Book.{IsCall}
 use Rattle.call_intervals.specs.declared.interval.Interval.{Interval}
 use Rattle.call_intervals.proofs.IntervalLemmas.{invoked_from, ends_before}
-use Rattle.call_intervals.proofs.LaneLemmas.{IsFrontOf, front_none, front_more, front_whole}
+use Rattle.call_intervals.proofs.LaneLemmas.{IsPrefixOf, prefix_none, prefix_more, prefix_whole}
 use Rattle.call_intervals.proofs.lanes.lane.Goals as goal
 
 pub loop-number-init : goal.loop-number-init
@@ -12,7 +12,7 @@ loop-number-init c =
     let events = c.args.events.now in
     record {
       count = omega (arith, ap (length {A = Interval}) c.new-lane.ensures.items);
-      front = front_none book events c.args.caller c.new-lane.result.items c.new-lane.ensures.items;
+      prefix = prefix_none book events c.args.caller c.new-lane.result.items c.new-lane.ensures.items;
       from = λ is. invoked_from book events c.requires.sketch (record { caller = c.args.caller; number = 0 }) 0 is (λ k _. omega arith);
     }
 
@@ -29,7 +29,7 @@ loop-number-preserved c =
     let named = c.interval_from-interval.ensures.call in
     record {
       count = omega (arith, c.in_ok-push.ensures.len, c.loop-number.invariant.count);
-      front = subst (IsFrontOf book events caller) (sym grown) (front_more book events caller lane interval c.loop-number.invariant.front
+      prefix = subst (IsPrefixOf book events caller) (sym grown) (prefix_more book events caller lane interval c.loop-number.invariant.prefix
           (named ∙ ap made (sym c.loop-number.invariant.count)) c.interval_from-interval.ensures.told);
       from = λ (is : IsCall book (made (number + 1))). invoked_from book events c.requires.sketch (made (number + 1)) interval.end is
           (λ k at. ends_before book events c.requires.valid c.requires.sketch interval (made (number + 1)) k c.interval_from-interval.ensures.told is at
@@ -38,5 +38,5 @@ loop-number-preserved c =
 
 pub returns : goal.returns
 returns c =
-    front_whole c.args.book.now c.args.events.now c.args.caller c.loop-number.lane.items c.loop-number.invariant.front
+    prefix_whole c.args.book.now c.args.events.now c.args.caller c.loop-number.lane.items c.loop-number.invariant.prefix
     (omega (arith, c.loop-number.invariant.count, c.calls-number-end.ensures))

@@ -3,12 +3,12 @@ use Rattle.book_base.specs.declared.call.Call.{Call}
 use Rattle.book_base.specs.Book.{IsCall}
 use Rattle.sketch.specs.declared.event.Event.TheVariants.{Invoke}
 use Rattle.call_intervals.specs.Intervals.{StandsFrom}
-use Rattle.call_intervals.proofs.LaneLemmas.{IsFrontOf}
+use Rattle.call_intervals.proofs.LaneLemmas.{IsPrefixOf}
 use Rattle.call_intervals.proofs.lanes.lane.Given as goal
 
 abbrev pub invariant-loop-number : goal.invariant-loop-number
 invariant-loop-number l = record {
   count : length l.lane.items ≡ l.number;
-  front : IsFrontOf l.book l.events l.caller l.lane.items;
+  prefix : IsPrefixOf l.book l.events l.caller l.lane.items;
   from : let call : Call = record { caller = l.caller; number = l.number } in IsCall l.book call → StandsFrom l.events l.from (Invoke call);
 }

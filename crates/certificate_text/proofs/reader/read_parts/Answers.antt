@@ -14,8 +14,8 @@ returns-in_err-read_title-clause-refused c =
     let kind = c.in_ok-kind.kind in
     let book = c.in_ok-kind.book in
     let text : Unread = whole_text c.args.bytes.now in
-    let front = subst (λ (t : Unread). Goes nothing_read t (OrderDue kind book) c.read_book_lines.new.lines) c.new-lines.ensures c.in_ok-kind.ensures.found in
-    rw (p.1, p.2) (stops_later certificate_rules nothing_read (OrderDue kind book) text c.read_book_lines.new.lines c.in_err-read_title.field-0.0 front (c.in_err-read_title.ensures.refused kind book))
+    let prefix = subst (λ (t : Unread). Goes nothing_read t (OrderDue kind book) c.read_book_lines.new.lines) c.new-lines.ensures c.in_ok-kind.ensures.found in
+    rw (p.1, p.2) (stops_later certificate_rules nothing_read (OrderDue kind book) text c.read_book_lines.new.lines c.in_err-read_title.field-0.0 prefix (c.in_err-read_title.ensures.refused kind book))
 
 pub returns-in_err-order-clause-refused : goal.returns-in_err-order-clause-refused
 returns-in_err-order-clause-refused c =
@@ -23,8 +23,8 @@ returns-in_err-order-clause-refused c =
     let kind = c.in_ok-kind.kind in
     let book = c.in_ok-kind.book in
     let text : Unread = whole_text c.args.bytes.now in
-    let front = subst (λ (t : Unread). Goes nothing_read t (OrderDue kind book) c.read_book_lines.new.lines) c.new-lines.ensures c.in_ok-kind.ensures.found in
-    let titled = goes_then certificate_rules nothing_read (OrderDue kind book) (InPlaces kind book []) text c.read_book_lines.new.lines c.read_title.new.lines front (c.in_ok-read_title.ensures.found kind book) in
+    let prefix = subst (λ (t : Unread). Goes nothing_read t (OrderDue kind book) c.read_book_lines.new.lines) c.new-lines.ensures c.in_ok-kind.ensures.found in
+    let titled = goes_then certificate_rules nothing_read (OrderDue kind book) (InPlaces kind book []) text c.read_book_lines.new.lines c.read_title.new.lines prefix (c.in_ok-read_title.ensures.found kind book) in
     rw (p.1, p.2) (stops_then certificate_rules nothing_read (InPlaces kind book []) text c.read_title.new.lines c.in_err-order.field-0.0 titled (c.in_err-order.ensures.refused kind book))
 
 pub returns-in_err-no_more-clause-refused : goal.returns-in_err-no_more-clause-refused
@@ -34,8 +34,8 @@ returns-in_err-no_more-clause-refused c =
     let book = c.in_ok-kind.book in
     let order = c.in_ok-order.order.items in
     let text : Unread = whole_text c.args.bytes.now in
-    let front = subst (λ (t : Unread). Goes nothing_read t (OrderDue kind book) c.read_book_lines.new.lines) c.new-lines.ensures c.in_ok-kind.ensures.found in
-    let titled = goes_then certificate_rules nothing_read (OrderDue kind book) (InPlaces kind book []) text c.read_book_lines.new.lines c.read_title.new.lines front (c.in_ok-read_title.ensures.found kind book) in
+    let prefix = subst (λ (t : Unread). Goes nothing_read t (OrderDue kind book) c.read_book_lines.new.lines) c.new-lines.ensures c.in_ok-kind.ensures.found in
+    let titled = goes_then certificate_rules nothing_read (OrderDue kind book) (InPlaces kind book []) text c.read_book_lines.new.lines c.read_title.new.lines prefix (c.in_ok-read_title.ensures.found kind book) in
     let all = goes_then certificate_rules nothing_read (InPlaces kind book []) (AllRead kind book order) text c.read_title.new.lines c.read_places.new.lines titled (c.in_ok-order.ensures.found kind book) in
     rw (p.1, p.2) (stops_later certificate_rules nothing_read (AllRead kind book order) text c.read_places.new.lines c.in_err-no_more.field-0.0 all (c.in_err-no_more.ensures.refused kind book order))
 
@@ -45,7 +45,7 @@ returns-clause-found c =
     let book = c.in_ok-kind.book in
     let order = c.in_ok-order.order.items in
     let text : Unread = whole_text c.args.bytes.now in
-    let front = subst (λ (t : Unread). Goes nothing_read t (OrderDue kind book) c.read_book_lines.new.lines) c.new-lines.ensures c.in_ok-kind.ensures.found in
-    let titled = goes_then certificate_rules nothing_read (OrderDue kind book) (InPlaces kind book []) text c.read_book_lines.new.lines c.read_title.new.lines front (c.in_ok-read_title.ensures.found kind book) in
+    let prefix = subst (λ (t : Unread). Goes nothing_read t (OrderDue kind book) c.read_book_lines.new.lines) c.new-lines.ensures c.in_ok-kind.ensures.found in
+    let titled = goes_then certificate_rules nothing_read (OrderDue kind book) (InPlaces kind book []) text c.read_book_lines.new.lines c.read_title.new.lines prefix (c.in_ok-read_title.ensures.found kind book) in
     let all = goes_then certificate_rules nothing_read (InPlaces kind book []) (AllRead kind book order) text c.read_title.new.lines c.read_places.new.lines titled (c.in_ok-order.ensures.found kind book) in
     (c.read_places.new.lines, record { goes = all; through = c.in_ok-no_more.ensures.whole })

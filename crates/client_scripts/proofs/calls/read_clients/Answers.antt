@@ -11,7 +11,7 @@ use Rattle.client_scripts.specs.declared.script.Client.{Client}
 use Rattle.client_scripts.specs.Plans.{sizes}
 use Rattle.client_scripts.specs.ScriptRules.{Begun, ScriptDue, InBody, begin, with_operations, script_rules}
 use Rattle.client_scripts.specs.ScriptLayout.{operations_in, stops_in}
-use Rattle.client_scripts.proofs.WrittenTexts.{behind_calls}
+use Rattle.client_scripts.proofs.WrittenTexts.{after_calls}
 use Rattle.client_scripts.proofs.Clients.{operations-push, sizes-push, told_from}
 use Rattle.client_scripts.proofs.calls.read_clients.Goals as goal
 
@@ -50,7 +50,7 @@ loop-i-preserved c =
     = sym (operations-push l.clients.items client) ∙ ap (λ (cs : List Client). concat (operations_in cs)) (sym pushed) in
     let size : length ops.items ≡ get_or calls l.i 0 = c.in_ok-read_operations.ensures.count ∙ c.get.ensures in
     record {
-      goes = subst (λ (d : ScriptDue). GoesTo rules start c.args.lines.now d c.read_operations.new.lines) (behind_calls words.kind (begin calls) later _ _ joined) both;
+      goes = subst (λ (d : ScriptDue). GoesTo rules start c.args.lines.now d c.read_operations.new.lines) (after_calls words.kind (begin calls) later _ _ joined) both;
       count = ap (length {A = Client}) pushed ∙ length_push l.clients.items client ∙ ap (λ (n : ℕ). n + 1) l.invariant.count;
       sizes = ap (λ (cs : List Client). sizes (operations_in cs)) pushed ∙ sizes-push l.clients.items client ∙ ap (λ (ns : List ℕ). ns ++ length ops.items ∷ []) l.invariant.sizes
           ∙ ap (λ (n : ℕ). take l.i calls ++ n ∷ []) size ∙ sym (take_more calls l.i 0 lt);

@@ -6,7 +6,7 @@ use Rattle.text_fields.specs.Faults.{GoesTo}
 use Rattle.text_fields.proofs.Sharp.{goes_then, stops_later}
 use Rattle.book_text.specs.CallLines.{calls_from}
 use Rattle.client_scripts.specs.ScriptRules.{Begun, ScriptDue, InBody, with_operation, with_operations, script_rules}
-use Rattle.client_scripts.proofs.WrittenTexts.{behind_calls}
+use Rattle.client_scripts.proofs.WrittenTexts.{after_calls}
 use Rattle.client_scripts.proofs.DueCalls.{next_due}
 use Rattle.client_scripts.proofs.calls.read_operations.Goals as goal
 
@@ -37,6 +37,6 @@ loop-number-preserved c =
           let both = goes_then rules start _ (InBody words.kind (with_operation so_far op) due) c.args.lines.now l.lines c.read_call.new.lines here (c.in_ok-read_call.ensures.found so_far due) in
           let joined : (begun.operations ++ l.ops.items) ++ op ∷ [] ≡ begun.operations ++ c.push.new.self.items
           = append_assoc begun.operations l.ops.items (op ∷ []) ∙ ap (λ (x : List ℕ). begun.operations ++ x) (sym c.in_ok-push.ensures.items) in
-          subst (λ (d : ScriptDue). GoesTo rules start c.args.lines.now d c.read_call.new.lines) (behind_calls words.kind begun due _ _ joined) both;
+          subst (λ (d : ScriptDue). GoesTo rules start c.args.lines.now d c.read_call.new.lines) (after_calls words.kind begun due _ _ joined) both;
       count = omega (arith, ap (length {A = ℕ}) c.in_ok-push.ensures.items, length-append l.ops.items (op ∷ []), l.invariant.count);
     }

@@ -6,7 +6,7 @@ use Rattle.collect_scan.specs.Scanned.{most_words}
 use Rattle.row_gather.specs.Peeks.{HasOnlyPeeked}
 use Rattle.drv_wrapper.specs.Growth.{Grows}
 use Rattle.enforcer.specs.Judged.{record_in, cut_in}
-use Rattle.enforcer.specs.Kept.{TicksForNewBehind}
+use Rattle.enforcer.specs.Kept.{TicksForNewAfter}
 use Rattle.enforcer.specs.Enforced.{after_call, record_unjudged, TicksForWholeCall}
 use Rattle.enforcer.proofs.WholeCalls.{ok_by, err_by, ok_from, err_from, whole_call, grows_through, ticks_through, ticks_of_scans, gathered_through}
 use Rattle.enforcer.proofs.enforcing.enforce.Goals as goal
@@ -89,6 +89,6 @@ returns-clause-new_words g c =
     let after = c.judge.new.steps in
     let few = ticks_of_scans (most_words n) before c.apply-viewed.new.steps c.publish-published.new.steps scanned
     c.apply-viewed.ensures.ticks c.publish-published.ensures.ticks c.seen-seen.ensures.ticks in
-    ok_from c.judge.result (λ r. TicksForNewBehind n c.args.gathered.now r.1 c.judge.new.gathered scanned after)
+    ok_from c.judge.result (λ r. TicksForNewAfter n c.args.gathered.now r.1 c.judge.new.gathered scanned after)
     (λ r. TicksForWholeCall n c.args.gathered.now r.1 c.judge.new.gathered before after) (λ r new_words. (scanned, few.0, few.1, new_words))
     c.judge.ensures.new_words

@@ -1,15 +1,15 @@
 use Rattle.std.proofs.Common.{◌≡◌, length}
 use Rattle.frontier_check.specs.declared.walk.TheConstants.{ROOM}
-use Rattle.frontier_check.specs.Front.{IsPut}
+use Rattle.frontier_check.specs.Prefix.{IsPut}
 use Rattle.frontier_check.specs.Standing.{AreMarks}
 use Rattle.frontier_check.proofs.fresh.put_fresh.Given as goal
 
 abbrev pub invariant-loop : goal.invariant-loop
 invariant-loop g l = record {
-  put : IsPut (g.S.SeqObject.init l.object) (g.S.SeqObject.next l.object) l.book l.front;
-  room : l.front.here.room ≡ ROOM;
+  put : IsPut (g.S.SeqObject.init l.object) (g.S.SeqObject.next l.object) l.book l.prefix;
+  room : l.prefix.here.room ≡ ROOM;
   spare : l.spare.room ≡ ROOM;
   counts : length l.counts ≡ length l.book;
   turns : length l.turns ≡ length l.book;
-  marks : AreMarks (g.S.SeqObject.init l.object) (g.S.SeqObject.next l.object) l.book l.front.places.items 0 l.marks.items;
+  marks : AreMarks (g.S.SeqObject.init l.object) (g.S.SeqObject.next l.object) l.book l.prefix.places.items 0 l.marks.items;
 }

@@ -11,14 +11,14 @@ last_standing-requires g c =
     subst (λ (ms : List Mark). (k : ℕ) (m : Mark) → k < length ms → m ≡ slice_index_or ms k m → IsAsWide book m) (sym c.deref.ensures.value)
     (marks_wide (g.S.SeqObject.init object) (g.S.SeqObject.next object) book c.args.order.items c.args.marks.now.items c.requires.marks)
 
-pub front_at-requires-clause-len : goal.front_at-requires-clause-len
-front_at-requires-clause-len g c =
+pub prefix_at-requires-clause-len : goal.prefix_at-requires-clause-len
+prefix_at-requires-clause-len g c =
     let object = c.args.object.now in
     let low = subst (λ (ms : List Mark). c.in-Some.index < length ms) c.deref.ensures.value c.in-Some.ensures.within in
     (marks_fit (g.S.SeqObject.init object) (g.S.SeqObject.next object) c.args.book.now c.args.order.items c.args.marks.now.items c.requires.marks c.in-Some.index c.index.result.now low c.index.ensures).0
 
-pub front_at-requires-clause-words : goal.front_at-requires-clause-words
-front_at-requires-clause-words g c =
+pub prefix_at-requires-clause-words : goal.prefix_at-requires-clause-words
+prefix_at-requires-clause-words g c =
     let object = c.args.object.now in
     let low = subst (λ (ms : List Mark). c.in-Some.index < length ms) c.deref.ensures.value c.in-Some.ensures.within in
     (marks_fit (g.S.SeqObject.init object) (g.S.SeqObject.next object) c.args.book.now c.args.order.items c.args.marks.now.items c.requires.marks c.in-Some.index c.index.result.now low c.index.ensures).1

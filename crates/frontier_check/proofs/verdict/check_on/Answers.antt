@@ -11,4 +11,4 @@ returns-clause-stands g c =
     let book = c.args.book.now in
     let marks = c.put_fresh.new.marks.items in
     subst (λ (ps : List Place). AreMarks init next book ps 0 marks) (sym c.in_ok-extend_from_slice-in-Some.ensures.items)
-    (marks_longer init next book c.put_fresh.new.front.places.items c.deref-in-Some.result.now 0 marks (c.in_ok-put_fresh.ensures.marks c.if-not-branch-2.false))
+    (marks_longer init next book c.put_fresh.new.prefix.places.items c.deref-in-Some.result.now 0 marks (c.in_ok-put_fresh.ensures.marks c.if-not-branch-2.false))

@@ -21,8 +21,8 @@ loop-number-init c = record {
 pub pass_preceding-requires-clause-call : goal.pass_preceding-requires-clause-call
 pass_preceding-requires-clause-call c = omega (arith, c.answers-number-end.ensures, c.requires.valid.answers c.args.caller)
 
-pub hold_behind-requires-clause-bar : goal.hold_behind-requires-clause-bar
-hold_behind-requires-clause-bar c =
+pub hold_after-requires-clause-bar : goal.hold_after-requires-clause-bar
+hold_after-requires-clause-bar c =
     let after = ap (λ (l : Link). l.after) (sym c.at.ensures) ∙ c.in-Some.is in
     c.loop-number.invariant.bars c.in-Some.put (c.requires.links (call_of c.args.caller c.loop-number.number) c.in-Some.put (inr after))
 
@@ -43,9 +43,9 @@ loop-number-preserved c =
           let after = ap (λ (l : Link). l.after) (sym c.at.ensures) ∙ w.in-Some.is in
           record {
             past = later;
-            bars = λ d h. rw w.known-is (w.hold_behind.ensures.bars d (i.bars d h));
-            ranks = rw w.known-is (w.hold_behind.ensures.ranks ∙ i.ranks);
-            right = λ init next right are. rw w.known-is (w.hold_behind.ensures.right init next book (i.right init next right are)
+            bars = λ d h. rw w.known-is (w.hold_after.ensures.bars d (i.bars d h));
+            ranks = rw w.known-is (w.hold_after.ensures.ranks ∙ i.ranks);
+            right = λ init next right are. rw w.known-is (w.hold_after.ensures.right init next book (i.right init next right are)
                 (λ j some. let from = now.floor j some in are.order from.0 call (last_held past.floor j) put from.1 from.2 after)
                 (λ cut list early. elim now.limit [
                   | inl none ↦ absurd (none_early_at known.ranks list past.limit none early)

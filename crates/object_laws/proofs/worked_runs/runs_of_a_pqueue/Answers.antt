@@ -14,6 +14,6 @@ pub returns-clause-twice : goal.returns-clause-twice
 unfolding kind_next
 returns-clause-twice c = λ run. omega (arith, run.1.1.0)
 
-pub returns-clause-left_behind : goal.returns-clause-left_behind
+pub returns-clause-left_after : goal.returns-clause-left_after
 unfolding kind_next
-returns-clause-left_behind c = λ run. omega (arith, run.1.1.1.0)
+returns-clause-left_after c = λ run. omega (arith, run.1.1.1.0)

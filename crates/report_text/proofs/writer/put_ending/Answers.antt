@@ -7,14 +7,14 @@ use Rattle.book_writer.specs.Fields.{spaced}
 use Rattle.book_writer.proofs.Lines.{OnOk_then}
 use Rattle.call_lines.specs.declared.line.LineEnd.{LineEnd}
 use Rattle.reports.specs.Grammar.{ending_words}
-use Rattle.report_text.proofs.Endings.{behind_answer, verdict_written}
+use Rattle.report_text.proofs.Endings.{after_answer, verdict_written}
 use Rattle.report_text.proofs.writer.put_ending.Goals as goal
 
 pub returns-in_ok-extend_from_slice-in-Unchecked : goal.returns-in_ok-extend_from_slice-in-Unchecked
 returns-in_ok-extend_from_slice-in-Unchecked c =
     let old : List ℕ = c.args.out.now.items in
     let answer : List (List ℕ) = answer_words Second (Some c.in-Unchecked.answer) in
-    behind_answer old c.put_answer.new.out.items c.extend_from_slice-in-Unchecked.new.self.items (codes " unchecked") answer (codes "unchecked" ∷ [])
+    after_answer old c.put_answer.new.out.items c.extend_from_slice-in-Unchecked.new.self.items (codes " unchecked") answer (codes "unchecked" ∷ [])
     c.in_ok-put_answer-in-Unchecked.ensures c.in_ok-extend_from_slice-in-Unchecked.ensures.items refl
     ∙ ap (λ (end : LineEnd). old ++ spaced (ending_words end)) (sym c.in-Unchecked.is)
 

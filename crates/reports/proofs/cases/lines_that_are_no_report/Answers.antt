@@ -2,14 +2,14 @@ use Rattle.std.proofs.Common.{◌^◌, inl, inr, ◌≡◌, ◌<◌, ◌≤◌, 
 use Rattle.call_lines.specs.Cases.{call, pending, unchecked, failed, answer}
 use Rattle.reports.proofs.cases.lines_that_are_no_report.Goals as goal
 
-pub returns-clause-behind_pending : goal.returns-clause-behind_pending
-returns-clause-behind_pending c h = let some = h.delivered (call 0 0) (pending 5) refl (omega arith) in absurd cc
+pub returns-clause-after_pending : goal.returns-clause-after_pending
+returns-clause-after_pending c h = let some = h.delivered (call 0 0) (pending 5) refl (omega arith) in absurd cc
 
-pub returns-clause-behind_unchecked : goal.returns-clause-behind_unchecked
-returns-clause-behind_unchecked c h = let some = h.delivered (call 0 0) (unchecked 5 (answer 50 (1 ∷ []))) refl (omega arith) in absurd cc
+pub returns-clause-after_unchecked : goal.returns-clause-after_unchecked
+returns-clause-after_unchecked c h = let some = h.delivered (call 0 0) (unchecked 5 (answer 50 (1 ∷ []))) refl (omega arith) in absurd cc
 
-pub returns-clause-behind_error : goal.returns-clause-behind_error
-returns-clause-behind_error c h = let some = h.delivered (call 0 0) (failed 5 (answer 50 (1 ∷ [])) (1 ∷ [])) refl (omega arith) in absurd cc
+pub returns-clause-after_error : goal.returns-clause-after_error
+returns-clause-after_error c h = let some = h.delivered (call 0 0) (failed 5 (answer 50 (1 ∷ [])) (1 ∷ [])) refl (omega arith) in absurd cc
 
 pub returns-clause-own_unseen : goal.returns-clause-own_unseen
 returns-clause-own_unseen c h = let own : 0 < 0 = h.seen.own (call 0 0) (0 ∷ []) refl in absurd (omega (arith, own))

@@ -1,7 +1,7 @@
 use Rattle.std.proofs.Common.{◌≡◌, ℕ, ◌+◌, ◌<◌, List, ◌∷◌, length, slice_index, sym, ap, subst, ◌∙◌, IsTrue}
 use Rattle.world_core.specs.declared.region.Region.TheVariants.{M}
 use Rattle.world_core.specs.Local.{Local}
-use Rattle.world_core.specs.Event.{Stage, is_row_staged, may_happen, local_after}
+use Rattle.world_core.specs.Event.{Stage, is_row_staged, is_enabled, local_after}
 use Rattle.row_table.specs.Callers.{shape_of, who_of, local_with}
 use Rattle.row_staging.specs.Staging.{staged_from, with_staged}
 use Rattle.row_staging.proofs.Rows.{may_still, staged_M, row_M, row_left, reply_may, view_may, entry_may_M}
@@ -30,7 +30,7 @@ stage_from-requires-clause-due g c k low =
     let left = row_left s (who_of c.args.caller.now) l c.requires.caller.seat.local c.requires.may.phase in
     let may = view_may s (who_of c.args.caller.now) l c.args.reply c.args.view.now c.args.cut.now c.requires.may left k (subst (λ (v : List ℕ). k < length v) c.counts.ensures low) in
     may_still s (who_of c.stage.new.caller) l (local_with c.stage.new.caller) (record { place = 0; word = c.args.reply } ∷ l.staged) M (1 + k) (slice_index c.counts.result.now k) c.stage.ensures.event
-    (subst (λ (v : List ℕ). IsTrue (may_happen s (who_of c.args.caller.now) l (Stage M (1 + k) (slice_index v k)))) (sym c.counts.ensures) may)
+    (subst (λ (v : List ℕ). IsTrue (is_enabled s (who_of c.args.caller.now) l (Stage M (1 + k) (slice_index v k)))) (sym c.counts.ensures) may)
 
 pub stage_from-requires-2-clause-due : goal.stage_from-requires-2-clause-due
 stage_from-requires-2-clause-due g c k low =
@@ -41,8 +41,8 @@ stage_from-requires-2-clause-due g c k low =
     let is = after_view s.callers l _ _ c.args.reply c.counts.result.now c.stage.ensures.event c.stage_from.ensures.staged in
     let n : c.n.result ≡ s.callers = c.n.ensures.count ∙ c.requires.may.view_wide in
     may_still s (who_of c.stage_from.new.caller) l (local_with c.stage_from.new.caller) (staged_from 1 c.counts.result.now (record { place = 0; word = c.args.reply } ∷ l.staged)) M (1 + c.n.result + k) (slice_index c.counts-2.result.now k) is
-    (subst (λ (m : ℕ). IsTrue (may_happen s (who_of c.args.caller.now) l (Stage M (1 + m + k) (slice_index c.counts-2.result.now k)))) (sym n)
-    (subst (λ (v : List ℕ). IsTrue (may_happen s (who_of c.args.caller.now) l (Stage M (1 + s.callers + k) (slice_index v k)))) (sym c.counts-2.ensures) may))
+    (subst (λ (m : ℕ). IsTrue (is_enabled s (who_of c.args.caller.now) l (Stage M (1 + m + k) (slice_index c.counts-2.result.now k)))) (sym n)
+    (subst (λ (v : List ℕ). IsTrue (is_enabled s (who_of c.args.caller.now) l (Stage M (1 + s.callers + k) (slice_index v k)))) (sym c.counts-2.ensures) may))
 
 pub publish-requires-clause-staged : goal.publish-requires-clause-staged
 publish-requires-clause-staged g c =

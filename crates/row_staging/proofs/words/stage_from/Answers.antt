@@ -1,6 +1,6 @@
 use Rattle.std.proofs.Common.{ℕ, ◌+◌, List, take, slice_index, sym, ap, subst, ◌∙◌, IsTrue}
 use Rattle.world_core.specs.Local.{Local, Staged}
-use Rattle.world_core.specs.Event.{Stage, local_after, may_happen}
+use Rattle.world_core.specs.Event.{Stage, local_after, is_enabled}
 use Rattle.row_table.specs.Callers.{shape_of, who_of, local_with}
 use Rattle.row_staging.specs.Staging.{staged_from, with_staged}
 use Rattle.row_staging.proofs.Staged.{next_word}
@@ -18,8 +18,8 @@ stage-requires-clause-due g c =
     let word : ℕ = slice_index c.args.words.now c.loop-k.k in
     let due = c.requires.due c.loop-k.k c.loop-k-test.true in
     let same = stage_same s (who_of c.loop-k.caller) l staged c.args.region (c.args.first + c.loop-k.k) word in
-    subst (λ (m : Local). IsTrue (may_happen s (who_of c.loop-k.caller) m (Stage c.args.region (c.args.first + c.loop-k.k) word))) (sym c.loop-k.invariant.staged)
-    (same ∙ subst (λ (i : ℕ). IsTrue (may_happen s i l (Stage c.args.region (c.args.first + c.loop-k.k) word))) (sym c.loop-k.invariant.still.1) due)
+    subst (λ (m : Local). IsTrue (is_enabled s (who_of c.loop-k.caller) m (Stage c.args.region (c.args.first + c.loop-k.k) word))) (sym c.loop-k.invariant.staged)
+    (same ∙ subst (λ (i : ℕ). IsTrue (is_enabled s i l (Stage c.args.region (c.args.first + c.loop-k.k) word))) (sym c.loop-k.invariant.still.1) due)
 
 pub loop-k-preserved : goal.loop-k-preserved
 loop-k-preserved g c =

@@ -35,4 +35,4 @@ returns-clause-leaves_an_unknown_word c = record { text = refl; list = refl; rep
 
 pub returns-clause-is_read : goal.returns-clause-is_read
 unfolding digits entries entry_of operation_words
-returns-clause-is_read c = record { behind = (54 ∷ []) ∷ []; whole = refl; count = refl }
+returns-clause-is_read c = record { suffix = (54 ∷ []) ∷ []; whole = refl; count = refl }

@@ -12,14 +12,14 @@ loop-row-preserved c =
     let items : List Rows = c.deref-row-items.result.now in
     let row : Rows = c.row-item.result in
     let made : List ℕ → List Record → Page = λ ops rs. record { operations = ops; records = rs } in
-    let equal : page c.in_ok-front.field-0 ≡ page row
-    = c.in_ok-front.ensures
+    let equal : page c.in_ok-prefix.field-0 ≡ page row
+    = c.in_ok-prefix.ensures
     ∙ (ap (λ (ops : List ℕ). made ops (take c.len-in-loop-row.result row.records.items)) (take_all c.len.result row.operations.items (omega (arith, c.len.ensures)))
     ∙ ap (made row.operations.items) (take_all c.len-in-loop-row.result row.records.items (omega (arith, c.len-in-loop-row.ensures)))) in
-    let pushed : pages c.push.new.self.items ≡ pages c.loop-row.rows.items ++ page c.in_ok-front.field-0 ∷ []
-    = ap pages c.in_ok-push.ensures.items ∙ map-append page c.loop-row.rows.items (c.in_ok-front.field-0 ∷ []) in
+    let pushed : pages c.push.new.self.items ≡ pages c.loop-row.rows.items ++ page c.in_ok-prefix.field-0 ∷ []
+    = ap pages c.in_ok-push.ensures.items ∙ map-append page c.loop-row.rows.items (c.in_ok-prefix.field-0 ∷ []) in
     pushed
-    ∙ (ap (λ (b : List Page). b ++ page c.in_ok-front.field-0 ∷ []) c.loop-row.invariant
+    ∙ (ap (λ (b : List Page). b ++ page c.in_ok-prefix.field-0 ∷ []) c.loop-row.invariant
     ∙ (ap (λ (p : Page). pages (take c.loop-row.row-index items) ++ p ∷ []) (equal ∙ ap page c.row-item.is)
     ∙ map-take_more page items c.loop-row.row-index row c.loop-row-test.true))
 

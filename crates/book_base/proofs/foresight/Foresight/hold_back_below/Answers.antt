@@ -20,5 +20,5 @@ returns c =
     record {
       limited = is_limited;
       bars = λ d h. subst (λ (k : Known). HasBar k d) (sym is_limited) (has_bar-with_bar known c.args.call (raised (bar_of known c.args.call) _) d c.requires h);
-      right = λ init next book right hopeless. subst (λ (k : Known). IsForesight init next book k) (sym is_limited) (limited_is_right init next book known c.args.call c.args.limit c.requires right hopeless);
+      right = λ init next book right infeasible. subst (λ (k : Known). IsForesight init next book k) (sym is_limited) (limited_is_right init next book known c.args.call c.args.limit c.requires right infeasible);
     }

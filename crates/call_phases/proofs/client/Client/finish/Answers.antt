@@ -11,7 +11,7 @@ use Rattle.call_phases.specs.Stands.{phases_at}
 use Rattle.call_phases.specs.Finishing.{end_at, stance_left, IsLeftStanding, KeepsAsked}
 use Rattle.call_phases.proofs.Asked.{keeps_asked}
 use Rattle.call_phases.proofs.Left.{line_within, left_standing, left_free}
-use Rattle.call_phases.proofs.Leaving.{operation_left, noted_left, unnoted_left}
+use Rattle.call_phases.proofs.ReadOnly.{operation_left, noted_left, unnoted_left}
 use Rattle.call_phases.proofs.client.Client.finish.Goals as goal
 use Rattle.call_phases.proofs.client.Client.finish.Goals.{in-Some, in_default}
 

@@ -8,7 +8,7 @@ use Rattle.enforcer.specs.States.{caller_seen}
 use Rattle.enforcer.specs.Recorded.{is_announcing}
 use Rattle.row_gather.specs.declared.gathered.Gathered.{Gathered}
 use Rattle.row_gather.specs.Gathered.{IsGatheredBy}
-use Rattle.call_phases.proofs.Judged.{idle_is, peeks_grow, caller_is, stands_behind, fits_error, says_judged}
+use Rattle.call_phases.proofs.Judged.{idle_is, peeks_grow, caller_is, stands_after, fits_error, says_judged}
 use Rattle.call_phases.proofs.judging.JudgingEnding.end.Goals as goal
 
 pub returns-in-Ok-clause-caller : goal.returns-in-Ok-clause-caller
@@ -25,7 +25,7 @@ returns-in-Ok-clause-grows g c =
 pub returns-in-Ok-clause-stands : goal.returns-in-Ok-clause-stands
 returns-in-Ok-clause-stands g c =
     let is : local_with c.in-Ok.caller ≡ _ = c.in-Ok.ensures.peeks.local in
-    stands_behind c.in-Ok.caller c.in-Ok.end c.ended_by.result c.ended_by.ensures
+    stands_after c.in-Ok.caller c.in-Ok.end c.ended_by.result c.ended_by.ensures
     (idle_is (local_with c.in-Ok.caller) (ap (λ (l : Local). is_announcing l.phase) is ∙ c.args.seen.saw.announcing) (ap (λ (l : Local). is_unstaged l.staged) is ∙ c.args.seen.saw.unstaged))
     c.in-Ok.ensures.stance
 

@@ -2,7 +2,7 @@ use Rattle.std.proofs.Common.{arith}
 use Rattle.next_calls.proofs.Least.{may_come-from_least}
 use Rattle.frontier_check.proofs.search.Search.at_once.Goals as goal
 
-pub leaving-place-requires-clause-may : goal.leaving-place-requires-clause-may
-leaving-place-requires-clause-may g c =
+pub read_only-place-requires-clause-may : goal.read_only-place-requires-clause-may
+read_only-place-requires-clause-may g c =
     may_come-from_least c.args.self.now.book.now c.args.counts.now c.args.first c.loop-caller.caller c.args.view.now c.callers-caller-end.ensures.valid c.requires.first c.requires.view
     (omega (arith, c.from.ensures, c.get.ensures))

@@ -17,7 +17,7 @@ set_count-requires-clause-caller g c =
     let object = c.args.self.now.object.now in
     let old = c.args.walk.now in
     let w = c.requires.walk in
-    let s = standing c.args.self.now.book.now c.args.self.now.front.now (g.S.SeqObject.init object) (g.S.SeqObject.next object) old.levels.items old.counts.items old.here.words c.args.place
+    let s = standing c.args.self.now.book.now c.args.self.now.prefix.now (g.S.SeqObject.init object) (g.S.SeqObject.next object) old.levels.items old.counts.items old.here.words c.args.place
     w.begins (g.met.S.SeqObject.grows_by_one object) w.leads w.here.sound.0.may_come in
     omega (arith, s.caller, ap length c.step.ensures.counts, length-set old.counts.items c.args.place.caller (get_or old.counts.items c.args.place.caller 0 + 1))
 
@@ -26,7 +26,7 @@ copy_from-requires g c =
     let object = c.args.self.now.object.now in
     let old = c.args.walk.now in
     let w = c.requires.walk in
-    let s = standing c.args.self.now.book.now c.args.self.now.front.now (g.S.SeqObject.init object) (g.S.SeqObject.next object) old.levels.items old.counts.items old.here.words c.args.place
+    let s = standing c.args.self.now.book.now c.args.self.now.prefix.now (g.S.SeqObject.init object) (g.S.SeqObject.next object) old.levels.items old.counts.items old.here.words c.args.place
     w.begins (g.met.S.SeqObject.grows_by_one object) w.leads w.here.sound.0.may_come in
     omega (arith, s.fits, w.room, ap (λ (x : Contents). length x.words) c.step.ensures.spare, ap (λ (x : Contents). x.room) c.step.ensures.here)
 
@@ -45,14 +45,14 @@ returns-then-remembers-clause-outcome g c =
     c.set_count.ensures ∙ (ap (λ (cut : List ℕ). set cut c.args.place.caller c.args.place.number) e.counts ∙ lowered old.counts.items c.args.place.caller c.args.place.number c.requires.walk.here.sound.0.may_come.next) in
     let here : new.here ≡ old.here =
     c.copy_from.ensures ∙ (ap (λ (words : List ℕ). made words c.step.new.walk.here.room) (ap (λ (s : Contents). s.words) e.spare) ∙ ap (made old.here.words) (ap (λ (s : Contents). s.room) e.here)) in
-    walk-skip book c.args.self.now.front.now (g.S.SeqObject.init c.args.self.now.object.now) next old new c.args.place c.requires.walk there e.levels counts here e.choices e.memo
+    walk-skip book c.args.self.now.prefix.now (g.S.SeqObject.init c.args.self.now.object.now) next old new c.args.place c.requires.walk there e.levels counts here e.choices e.memo
 
 pub least_open-requires : goal.least_open-requires
 least_open-requires g c =
     let object = c.args.self.now.object.now in
     let old = c.args.walk.now in
     let w = c.requires.walk in
-    let s = standing c.args.self.now.book.now c.args.self.now.front.now (g.S.SeqObject.init object) (g.S.SeqObject.next object) old.levels.items old.counts.items old.here.words c.args.place
+    let s = standing c.args.self.now.book.now c.args.self.now.prefix.now (g.S.SeqObject.init object) (g.S.SeqObject.next object) old.levels.items old.counts.items old.here.words c.args.place
     w.begins (g.met.S.SeqObject.grows_by_one object) w.leads w.here.sound.0.may_come in
     ap length (c.deref-2.ensures.value ∙ c.step.ensures.counts) ∙ (length-set old.counts.items c.args.place.caller (get_or old.counts.items c.args.place.caller 0 + 1) ∙ s.wide)
 
@@ -61,7 +61,7 @@ choices-requires-clause-wide g c =
     let object = c.args.self.now.object.now in
     let old = c.args.walk.now in
     let w = c.requires.walk in
-    let s = standing c.args.self.now.book.now c.args.self.now.front.now (g.S.SeqObject.init object) (g.S.SeqObject.next object) old.levels.items old.counts.items old.here.words c.args.place
+    let s = standing c.args.self.now.book.now c.args.self.now.prefix.now (g.S.SeqObject.init object) (g.S.SeqObject.next object) old.levels.items old.counts.items old.here.words c.args.place
     w.begins (g.met.S.SeqObject.grows_by_one object) w.leads w.here.sound.0.may_come in
     ap length (c.deref-in-Some.ensures.value ∙ c.step.ensures.counts) ∙ (length-set old.counts.items c.args.place.caller (get_or old.counts.items c.args.place.caller 0 + 1) ∙ s.wide)
 
@@ -79,7 +79,7 @@ choices-requires-clause-reached g c =
       cut_is = c.deref-in-Some.ensures.value ∙ e.counts;
       list_is = ap (λ (s : Contents). s.words) e.here;
     } in
-    deeper-reached book c.args.self.now.front.now (g.S.SeqObject.init object) next old level c.deref-in-Some.result.now c.step.new.walk.here.words c.requires.walk to
+    deeper-reached book c.args.self.now.prefix.now (g.S.SeqObject.init object) next old level c.deref-in-Some.result.now c.step.new.walk.here.words c.requires.walk to
 
 pub choices-requires-clause-fits : goal.choices-requires-clause-fits
 choices-requires-clause-fits g c =
@@ -97,7 +97,7 @@ choices-requires-clause-fits g c =
       cut_is = c.deref-in-Some.ensures.value ∙ e.counts;
       list_is = ap (λ (s : Contents). s.words) e.here;
     } in
-    deeper-fits book c.args.self.now.front.now (g.S.SeqObject.init object) next old level c.deref-in-Some.result.now c.step.new.walk.here.words c.in-Some.first
+    deeper-fits book c.args.self.now.prefix.now (g.S.SeqObject.init object) next old level c.deref-in-Some.result.now c.step.new.walk.here.words c.in-Some.first
     (g.met.S.SeqObject.grows_by_one object) c.requires.walk to least
 
 pub returns-in_ok-push-in-None-clause-outcome : goal.returns-in_ok-push-in-None-clause-outcome
@@ -117,7 +117,7 @@ returns-in_ok-push-in-None-clause-outcome g c =
       room = ap (λ (s : Contents). s.room) e.here;
       memo = e.memo;
     } in
-    walk-found book c.args.self.now.front.now (g.S.SeqObject.init c.args.self.now.object.now) next old new level c.requires.walk deeper
+    walk-found book c.args.self.now.prefix.now (g.S.SeqObject.init c.args.self.now.object.now) next old new level c.requires.walk deeper
     (subst (λ (cut : List ℕ). HoldsAnswered book cut) c.deref-2.ensures.value c.in-None.ensures.none)
 
 pub returns-in_ok-push-in-Some-clause-outcome : goal.returns-in_ok-push-in-Some-clause-outcome
@@ -142,5 +142,5 @@ returns-in_ok-push-in-Some-clause-outcome g c =
     let here : IsOpen book next new.counts.items new.here.words (places_of new.choices.items) =
     same_open book next c.deref-in-Some.result.now new.counts.items new.here.words new.here.words (places_of c.in_ok-fresh-in-Some.fresh.items) (places_of new.choices.items)
     (sym c.deref-in-Some.ensures.value) refl (ap (λ v. places_of v.items) fresh) c.in_ok-fresh-in-Some.ensures.open in
-    walk-deeper book c.args.self.now.front.now (g.S.SeqObject.init object) next old new level (g.met.S.SeqObject.grows_by_one object) c.requires.walk deeper here
+    walk-deeper book c.args.self.now.prefix.now (g.S.SeqObject.init object) next old new level (g.met.S.SeqObject.grows_by_one object) c.requires.walk deeper here
     (omega (arith, ap (λ v. length v.items) fresh, c.in_ok-fresh-in-Some.ensures.few))

@@ -1,6 +1,6 @@
 use Rattle.std.proofs.Common.{◌≡◌, ℕ, ◌+◌, length, sym, subst, arith}
 use Rattle.std.specs.List.{slice_get}
-use Rattle.queue_pairs.specs.Fronts.{first_after, IsLeastOf}
+use Rattle.queue_pairs.specs.NextEntries.{first_after, IsLeastOf}
 use Rattle.queue_pairs.proofs.Tabling.{least-none, least-more}
 use Rattle.queue_pairs.proofs.table.Table.find_first.Goals as goal
 

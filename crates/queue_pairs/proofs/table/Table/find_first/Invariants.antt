@@ -1,6 +1,6 @@
 use Rattle.std.proofs.Common.{ℕ}
 use Rattle.std.specs.List.{slice_get}
-use Rattle.queue_pairs.specs.Fronts.{first_after, IsLeastOf}
+use Rattle.queue_pairs.specs.NextEntries.{first_after, IsLeastOf}
 use Rattle.queue_pairs.proofs.table.Table.find_first.Given as goal
 
 abbrev pub invariant-loop-k : goal.invariant-loop-k

@@ -1,6 +1,6 @@
 use Rattle.std.proofs.Common.{subst}
 use Rattle.queue_pairs.specs.declared.standing.Standing.{Standing}
-use Rattle.queue_pairs.specs.Fronts.{paired}
+use Rattle.queue_pairs.specs.NextEntries.{paired}
 use Rattle.queue_refutation.specs.Closed.{IsOneOf}
 use Rattle.queue_refutation.specs.DeadEnds.{listed}
 use Rattle.queue_refutation.proofs.Ending.{listed-there}

@@ -3,7 +3,7 @@ use Rattle.seq_objects.specs.declared.cas_register.CasRegisterOperation.{CasRegi
 use Rattle.seq_objects.specs.declared.cas_register.CasRegisterOperation.TheVariants.{Write, CompareAndSet}
 use Rattle.seq_objects.specs.Replies.{reply_done, reply_yes}
 use Rattle.seq_objects.specs.CasRegisterSteps.{cas_register_operation, cas_register_after}
-use Rattle.seq_objects.proofs.Leaving.{LeavesBy, leaves_but_with, expected_is_small, compared_and_set_leaves}
+use Rattle.seq_objects.proofs.ReadOnly.{LeavesBy, leaves_but_with, expected_is_small, compared_and_set_leaves}
 use Rattle.seq_objects.proofs.cas_register.CasRegisterSeqObject.leaves.Goals as goal
 
 pub returns-in-Some-Write : goal.returns-in-Some-Write

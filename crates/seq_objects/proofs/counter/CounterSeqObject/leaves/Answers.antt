@@ -2,7 +2,7 @@ use Rattle.std.proofs.Common.{◌≡◌, ℕ, ◌↔◌, not, List, Option, Some
 use Rattle.seq_objects.specs.declared.counter.CounterOperation.{CounterOperation}
 use Rattle.seq_objects.specs.declared.counter.CounterOperation.TheVariants.{Increment}
 use Rattle.seq_objects.specs.CounterSteps.{counter_operation, counter_after}
-use Rattle.seq_objects.proofs.Leaving.{LeavesBy, counted_leaves}
+use Rattle.seq_objects.proofs.ReadOnly.{LeavesBy, counted_leaves}
 use Rattle.seq_objects.proofs.counter.CounterSeqObject.leaves.Goals as goal
 
 only_increment : (o : CounterOperation) → o ≡ Increment

@@ -3,7 +3,7 @@ use Rattle.seq_objects.specs.declared.int_set.IntSetOperation.{IntSetOperation}
 use Rattle.seq_objects.specs.declared.int_set.IntSetOperation.TheVariants.{Add, Remove}
 use Rattle.seq_objects.specs.Replies.{reply_yes}
 use Rattle.seq_objects.specs.IntSetSteps.{set_operation, set_after}
-use Rattle.seq_objects.proofs.Leaving.{LeavesBy, added_leaves, removed_leaves}
+use Rattle.seq_objects.proofs.ReadOnly.{LeavesBy, added_leaves, removed_leaves}
 use Rattle.seq_objects.proofs.int_set.IntSetSeqObject.leaves.Goals as goal
 
 pub returns-in-Some-Add : goal.returns-in-Some-Add

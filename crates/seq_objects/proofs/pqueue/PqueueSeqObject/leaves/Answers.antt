@@ -3,7 +3,7 @@ use Rattle.seq_objects.specs.declared.pqueue.PqueueOperation.{PqueueOperation}
 use Rattle.seq_objects.specs.declared.pqueue.PqueueOperation.TheVariants.{Insert, Min}
 use Rattle.seq_objects.specs.Replies.{reply_done}
 use Rattle.seq_objects.specs.PqueueSteps.{pqueue_operation, pqueue_after}
-use Rattle.seq_objects.proofs.Leaving.{LeavesBy, leaves_but_with, first_taken_leaves}
+use Rattle.seq_objects.proofs.ReadOnly.{LeavesBy, leaves_but_with, first_taken_leaves}
 use Rattle.seq_objects.proofs.pqueue.PqueueSeqObject.leaves.Goals as goal
 
 pub returns-in-Some-Insert : goal.returns-in-Some-Insert

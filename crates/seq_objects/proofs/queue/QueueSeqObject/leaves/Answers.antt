@@ -3,7 +3,7 @@ use Rattle.seq_objects.specs.declared.queue.QueueOperation.{QueueOperation}
 use Rattle.seq_objects.specs.declared.queue.QueueOperation.TheVariants.{Enqueue, Dequeue}
 use Rattle.seq_objects.specs.Replies.{reply_done}
 use Rattle.seq_objects.specs.QueueSteps.{queue_operation, queue_after}
-use Rattle.seq_objects.proofs.Leaving.{LeavesBy, leaves_but_with, first_taken_leaves}
+use Rattle.seq_objects.proofs.ReadOnly.{LeavesBy, leaves_but_with, first_taken_leaves}
 use Rattle.seq_objects.proofs.queue.QueueSeqObject.leaves.Goals as goal
 
 pub returns-in-Some-Enqueue : goal.returns-in-Some-Enqueue

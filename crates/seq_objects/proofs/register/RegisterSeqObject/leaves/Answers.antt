@@ -3,7 +3,7 @@ use Rattle.seq_objects.specs.declared.register.RegisterOperation.{RegisterOperat
 use Rattle.seq_objects.specs.declared.register.RegisterOperation.TheVariants.{Write}
 use Rattle.seq_objects.specs.Replies.{reply_done}
 use Rattle.seq_objects.specs.RegisterSteps.{register_operation, register_after}
-use Rattle.seq_objects.proofs.Leaving.{LeavesBy, leaves_but_with}
+use Rattle.seq_objects.proofs.ReadOnly.{LeavesBy, leaves_but_with}
 use Rattle.seq_objects.proofs.register.RegisterSeqObject.leaves.Goals as goal
 
 pub returns-in-Some-Write : goal.returns-in-Some-Write

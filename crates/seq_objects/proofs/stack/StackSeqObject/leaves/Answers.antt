@@ -3,7 +3,7 @@ use Rattle.seq_objects.specs.declared.stack.StackOperation.{StackOperation}
 use Rattle.seq_objects.specs.declared.stack.StackOperation.TheVariants.{Push, Pop}
 use Rattle.seq_objects.specs.Replies.{reply_done}
 use Rattle.seq_objects.specs.StackSteps.{stack_operation, stack_after}
-use Rattle.seq_objects.proofs.Leaving.{LeavesBy, leaves_but_with, last_taken_leaves}
+use Rattle.seq_objects.proofs.ReadOnly.{LeavesBy, leaves_but_with, last_taken_leaves}
 use Rattle.seq_objects.proofs.stack.StackSeqObject.leaves.Goals as goal
 
 pub returns-in-Some-Push : goal.returns-in-Some-Push

@@ -1,0 +1,263 @@
+//! As many read-only calls as can be taken out of a book.
+ghost use Rattle.std.specs.Prelude.{ℕ, ◌<◌, length, IfOk, IfSome, IfNone, IsTrue};
+ghost use Rattle.book_base.specs.declared.call.Call.{Call};
+ghost use Rattle.book_base.specs.Book.{calls_of, IsCall};
+ghost use Rattle.seq_objects.specs.Objects.{kind_next};
+ghost use Rattle.smaller_book.specs.Numbers.{numbers_in, AreNumbersOf};
+ghost use Rattle.smaller_book.specs.ReadOnly.{IsReadOnly, LacksReadOnlyAlone, LacksReadOnlyOf};
+ghost use Rattle.smaller_book.specs.Minimal.{IsNeeded, IsSmaller};
+
+use crate::composing::smaller_still;
+use crate::judging::is_illegal;
+use crate::numbered::part;
+use crate::removal::{Smaller, has_fewer, is_read_only, push_if, without, without_one};
+use book_base::{Book, Call, MAX_CALLS, NoMemory};
+use seq_objects::Kind;
+use std::alloc::Global;
+
+/// The book without a read-only call and isn't needed for the book to have no legal order.
+pub fn without_read_only(
+    alloc: Global,
+    kind: Kind,
+    book: &Book,
+) -> Result<Option<Smaller>, NoMemory>
+    ensures smaller { IfOk result (λ found. IfSome found (λ smaller.
+        IsSmaller kind book.now (numbers_in smaller.numbers.items) smaller.book)) }
+    ensures none { IfOk result (λ found. IfNone found ((call : Call)
+        → IsReadOnly (kind_next kind) book.now call → IsNeeded kind book.now call)) }
+{
+    match without_one(alloc, kind, book, 0)? {
+        None => Ok(None),
+        Some((smaller, _caller)) => Ok(Some(smaller)),
+    }
+}
+
+/// The book without single read-only calls. Each is tried once: what a book needs, each part of it that
+/// has no legal order needs too.
+pub fn without_singles(alloc: Global, kind: Kind, book: &Book) -> Result<Option<Smaller>, NoMemory>
+    ensures { IfOk result (λ found. IfSome found (λ smaller.
+        IsSmaller kind book.now (numbers_in smaller.numbers.items) smaller.book)) }
+{
+    let mut found = None;
+    for caller in 0..book.callers() {
+        found = without_singles_of(alloc, kind, book, found, caller)?;
+    }
+    Ok(found)
+}
+
+// The book without more single calls, of this caller: the last one is tried first, so that the numbers of those that
+// are still to be tried stay.
+fn without_singles_of(
+    alloc: Global,
+    kind: Kind,
+    book: &Book,
+    found: Option<Smaller>,
+    caller: u32,
+) -> Result<Option<Smaller>, NoMemory>
+    requires caller { caller < length book.now }
+    requires found { IfSome found (λ smaller.
+        IsSmaller kind book.now (numbers_in smaller.numbers.items) smaller.book) }
+    ensures { IfOk result (λ found. IfSome found (λ smaller.
+        IsSmaller kind book.now (numbers_in smaller.numbers.items) smaller.book)) }
+{
+    let mut fewest = found;
+    let count = book.answers(caller);
+    for tried in 0..count {
+        let call = Call {
+            caller,
+            number: count - 1 - tried,
+        };
+        fewest = without_single_too(alloc, kind, book, fewest, call)?;
+    }
+    Ok(fewest)
+}
+
+// The book without this call too, where it has no legal order without it.
+fn without_single_too(
+    alloc: Global,
+    kind: Kind,
+    book: &Book,
+    found: Option<Smaller>,
+    call: Call,
+) -> Result<Option<Smaller>, NoMemory>
+    requires { IfSome found (λ smaller.
+        IsSmaller kind book.now (numbers_in smaller.numbers.items) smaller.book) }
+    ensures { IfOk result (λ found. IfSome found (λ smaller.
+        IsSmaller kind book.now (numbers_in smaller.numbers.items) smaller.book)) }
+{
+    match found {
+        None => without_single(alloc, kind, book, call),
+        Some(smaller) => match without_single(alloc, kind, &smaller.book, call)? {
+            None => Ok(Some(smaller)),
+            Some(next) => Ok(Some(smaller_still(alloc, kind, book, smaller, next)?)),
+        },
+    }
+}
+
+// The book without this call, where it is an answered one that leaves every list, and the book has no legal order
+// without it.
+fn without_single(
+    alloc: Global,
+    kind: Kind,
+    book: &Book,
+    call: Call,
+) -> Result<Option<Smaller>, NoMemory>
+    ensures { IfOk result (λ found. IfSome found (λ smaller.
+        IsSmaller kind book.now (numbers_in smaller.numbers.items) smaller.book)) }
+{
+    if call.caller >= book.callers() || call.number >= book.answers(call.caller) {
+        return Ok(None);
+    }
+    if is_read_only(kind, book, call) {
+        without(alloc, kind, book, call)
+    } else {
+        Ok(None)
+    }
+}
+
+/// The book without read-only calls, all those of a slice of numbers together: of all numbers, of
+/// their halves, their quarters, down to single ones.
+pub fn without_slices(alloc: Global, kind: Kind, book: &Book) -> Result<Option<Smaller>, NoMemory>
+    ensures { IfOk result (λ found. IfSome found (λ smaller.
+        IsSmaller kind book.now (numbers_in smaller.numbers.items) smaller.book)) }
+{
+    let mut found = None;
+    let mut size = MAX_CALLS;
+    while size > 0 {
+        found = without_slices_of(alloc, kind, book, found, size)?;
+        size /= 2;
+    }
+    Ok(found)
+}
+
+// The book without more such calls, of slices of this size one after another.
+fn without_slices_of(
+    alloc: Global,
+    kind: Kind,
+    book: &Book,
+    found: Option<Smaller>,
+    size: u64,
+) -> Result<Option<Smaller>, NoMemory>
+    requires size { 0 < size }
+    requires found { IfSome found (λ smaller.
+        IsSmaller kind book.now (numbers_in smaller.numbers.items) smaller.book) }
+    ensures { IfOk result (λ found. IfSome found (λ smaller.
+        IsSmaller kind book.now (numbers_in smaller.numbers.items) smaller.book)) }
+{
+    let mut fewest = found;
+    for slice in 0..MAX_CALLS / size {
+        fewest = without_slice_too(alloc, kind, book, fewest, size, slice)?;
+    }
+    Ok(fewest)
+}
+
+// The book without such calls of a slice too, where it has no legal order without them.
+fn without_slice_too(
+    alloc: Global,
+    kind: Kind,
+    book: &Book,
+    found: Option<Smaller>,
+    size: u64,
+    slice: u64,
+) -> Result<Option<Smaller>, NoMemory>
+    requires size { 0 < size }
+    requires found { IfSome found (λ smaller.
+        IsSmaller kind book.now (numbers_in smaller.numbers.items) smaller.book) }
+    ensures { IfOk result (λ found. IfSome found (λ smaller.
+        IsSmaller kind book.now (numbers_in smaller.numbers.items) smaller.book)) }
+{
+    match found {
+        None => without_slice(alloc, kind, book, size, slice),
+        Some(smaller) => match without_slice(alloc, kind, &smaller.book, size, slice)? {
+            None => Ok(Some(smaller)),
+            Some(next) => Ok(Some(smaller_still(alloc, kind, book, smaller, next)?)),
+        },
+    }
+}
+
+// The book without the calls of a slice that leave every list, where it has fewer calls and no legal order
+// without them.
+fn without_slice(
+    alloc: Global,
+    kind: Kind,
+    book: &Book,
+    size: u64,
+    slice: u64,
+) -> Result<Option<Smaller>, NoMemory>
+    requires { 0 < size }
+    ensures { IfOk result (λ found. IfSome found (λ smaller.
+        IsSmaller kind book.now (numbers_in smaller.numbers.items) smaller.book)) }
+{
+    let _callers = book.callers();
+    let numbers = numbers_without_slice(alloc, kind, book, size, slice)?;
+    let smaller = part(alloc, book, &numbers)?;
+    if !has_fewer(&smaller, book) {
+        return Ok(None);
+    }
+    if is_illegal(alloc, kind, &smaller)? {
+        Ok(Some(Smaller {
+            book: smaller,
+            numbers,
+        }))
+    } else {
+        Ok(None)
+    }
+}
+
+// The numbers of all calls but those of a slice that leave every list.
+fn numbers_without_slice(
+    alloc: Global,
+    kind: Kind,
+    book: &Book,
+    size: u64,
+    slice: u64,
+) -> Result<Vec<Vec<u64>>, NoMemory>
+    requires { 0 < size }
+    ensures numbers { IfOk result (λ rows. AreNumbersOf book.now (numbers_in rows.items)) }
+    ensures lacks { IfOk result (λ rows.
+        LacksReadOnlyAlone (kind_next kind) book.now (numbers_in rows.items)) }
+{
+    let mut rows = Vec::new(alloc);
+    for caller in 0..book.callers() {
+        rows.push(numbers_of_caller(alloc, kind, book, caller, size, slice)?)?;
+    }
+    Ok(rows)
+}
+
+// The numbers of a caller's calls but those of a slice that leave every list.
+fn numbers_of_caller(
+    alloc: Global,
+    kind: Kind,
+    book: &Book,
+    caller: u32,
+    size: u64,
+    slice: u64,
+) -> Result<Vec<u64>, NoMemory>
+    requires caller { caller < length book.now }
+    requires size { 0 < size }
+    ensures { IfOk result (λ numbers. LacksReadOnlyOf (kind_next kind) book.now
+        caller (calls_of book.now caller) numbers.items) }
+{
+    let mut numbers = Vec::new(alloc);
+    for number in 0..book.calls(caller) {
+        let out = is_read_only_of(kind, book, Call { caller, number }, size, slice);
+        push_if(&mut numbers, !out, number)?;
+    }
+    Ok(numbers)
+}
+
+// Whether a call is one of a slice, is answered, and leaves every list.
+fn is_read_only_of(kind: Kind, book: &Book, call: Call, size: u64, slice: u64) -> bool
+    requires call { IsCall book.now call }
+    requires size { 0 < size }
+    ensures { IsTrue result → IsReadOnly (kind_next kind) book.now call }
+{
+    let _callers = book.callers();
+    if call.number / size != slice {
+        return false;
+    }
+    if call.number >= book.answers(call.caller) {
+        return false;
+    }
+    is_read_only(kind, book, call)
+}
